@@ -1,0 +1,22 @@
+-- What the machine reads back of a signed number: the number itself, since it fits its width. Every width is covered by one law.
+-- Assumes nothing.
+use mathlib.Core.Path.{_≡_}
+use Prim.Native.Nat.{ℕ, _^_, _<_}
+use lib.IntN.{ℤ, pos}
+use lib.Signed.{mag}
+use mir.Syntax.{Width}
+use mir.Val.{SFits, toZ, ofZ, hbits}
+use mir.Facts.{toZ-ofZ}
+use Rattle.integers.specs.Parts.{Same, same}
+
+-- for omega's list, where what is read back stands in a test or a cast
+pub reads : {w : Width} {z : ℤ} → SFits w z → Same (toZ w (ofZ w z)) z
+reads f = same (toZ-ofZ f)
+
+-- of a call's result, whose range is `c .f .ok`
+pub back : (w : Width) (z : ℤ) → mag z < 2 ^ hbits w → toZ w (ofZ w z) ≡ z
+back w z h = toZ-ofZ {w = w} {z = z} (record { sfits = h })
+
+-- of an unsigned number that was cast to a signed type
+pub cast-back : (w : Width) (n : ℕ) → n < 2 ^ hbits w → toZ w n ≡ pos n
+cast-back w n h = toZ-ofZ {w = w} {z = pos n} (record { sfits = h })

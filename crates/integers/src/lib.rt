@@ -1,0 +1,78 @@
+// Signed numbers taken apart into sign and magnitude and put together again, limited, and quotients taken to the nearest whole number.
+// The laws that let `omega` read integers, for the proofs of every crate above, are in specs/.
+ghost use mathlib.Core.Path.{_≡_};
+ghost use Prim.Native.Nat.{_<_};
+ghost use lib.IntN.{pos, natAbs};
+ghost use Rattle.integers.specs.Sign.{fromSign, isNegative};
+ghost use Rattle.integers.specs.Limit.{atLeast, atMost, limited};
+ghost use Rattle.integers.specs.Rounding.{halfUp, halfEven};
+
+// Whether x lies below zero.
+pub fn negative(x: i64) -> bool
+    ensures { λ r. ⌜ r ≡ isNegative x ⌝ }
+{
+    x < 0
+}
+
+// |x|. The least i64 has one that only the unsigned type holds, so its digits are turned and one is added.
+pub fn magnitude(x: i64) -> u64
+    ensures { λ r. ⌜ r ≡ natAbs x ⌝ }
+{
+    if x < 0 {
+        (-(x + 1)) as u64 + 1
+    } else {
+        x as u64
+    }
+}
+
+// -m where minus is true, else m.
+pub fn signed(minus: bool, m: u64) -> i64
+    requires { ⌜ m < 9223372036854775808 ⌝ }
+    ensures { λ r. ⌜ r ≡ fromSign minus m ⌝ }
+{
+    if minus { 0 - m as i64 } else { m as i64 }
+}
+
+fn at_least(low: i64, value: i64) -> i64
+    ensures { λ r. ⌜ r ≡ atLeast low value ⌝ }
+{
+    if value < low { low } else { value }
+}
+
+fn at_most(high: i64, value: i64) -> i64
+    ensures { λ r. ⌜ r ≡ atMost high value ⌝ }
+{
+    if high < value { high } else { value }
+}
+
+// The value, but low where it is below low, and high where it is above high.
+pub fn limit(low: i64, high: i64, value: i64) -> i64
+    ensures { λ r. ⌜ r ≡ limited low high value ⌝ }
+{
+    at_most(high, at_least(low, value))
+}
+
+// n / d to the nearest whole number, an exact half going up. Twice the remainder might not fit, so it is compared with what it lacks of d.
+pub fn nearest_up(n: u64, d: u64) -> u64
+    requires { ⌜ 0 < d ⌝ }
+    ensures { λ r. ⌜ r ≡ halfUp n d ⌝ }
+{
+    let over = n % d;
+    if over < d - over { n / d } else { n / d + 1 }
+}
+
+// n / d to the nearest whole number, an exact half going to the even neighbour.
+pub fn nearest_even(n: u64, d: u64) -> u64
+    requires { ⌜ 0 < d ⌝ }
+    ensures { λ r. ⌜ r ≡ halfEven n d ⌝ }
+{
+    let over = n % d;
+    let quotient = n / d;
+    if over < d - over {
+        return quotient;
+    }
+    if d - over < over {
+        return quotient + 1;
+    }
+    quotient + quotient % 2
+}

@@ -1,0 +1,62 @@
+// Document 01's scaling of samples: a channel's range, the root of channel 1, and the quotients of a ratio setpoint.
+ghost use mathlib.Core.Path.{_≡_};
+ghost use Prim.Native.Nat.{_≤_};
+ghost use Rattle.integers.specs.Rounding.{halfUp};
+ghost use Rattle.integers.specs.Sign.{fromSign, isNegative};
+ghost use Rattle.scaling.specs.Scale.{scaled, Channel};
+ghost use Rattle.scaling.specs.Root.{rootOf};
+ghost use Rattle.scaling.specs.Ratio.{ratioQuotient, inverseQuotient, Ratio};
+
+// The sample scaled to low..high. The contract rules out a half that goes down and a quotient that is cut.
+pub fn scale(low: i64, high: i64, sample: u16) -> i64
+    requires { ⌜ Channel low high sample ⌝ }
+    ensures { λ r. ⌜ r ≡ scaled low high sample ⌝ }
+{
+    let span = integers::magnitude(high - low);
+    let part = (2 * (sample as u64 * span) + 10000) / 20000;
+    low + part as i64
+}
+
+// The greatest whole r with r × r ≤ 10000 × sample, by halving. The contract rules out one less and one more.
+pub fn root(sample: u16) -> u16
+    requires { ⌜ sample ≤ 10000 ⌝ }
+    ensures { λ r. ⌜ r ≡ rootOf sample ⌝ }
+{
+    let n = 10000 * (sample as u32);
+    let mut found: u32 = 0;
+    let mut beyond: u32 = 10001;
+    while found + 1 < beyond {
+        let middle = found + (beyond - found) / 2;
+        if middle * middle <= n {
+            found = middle;
+        } else {
+            beyond = middle;
+        }
+    }
+    found as u16
+}
+
+// n / d nearest, halves up, with the sign of q: halves away from zero. Only magnitudes far below the type's end are asked for.
+fn with_sign(q: i64, n: u64, d: u64) -> i64
+    requires { ⌜ (n ≤ 100000000) × (1 ≤ d) ⌝ }
+    ensures { λ r. ⌜ r ≡ fromSign (isNegative q) (halfUp n d) ⌝ }
+{
+    let size = integers::nearest_up(n, d);
+    integers::signed(integers::negative(q), size)
+}
+
+// 100 × q / s, nearest, halves away from zero. The contract rules out a half toward zero and one that goes up below zero.
+pub fn ratio(q: i64, s: u64) -> i64
+    requires { ⌜ Ratio q s ⌝ }
+    ensures { λ r. ⌜ r ≡ ratioQuotient q s ⌝ }
+{
+    with_sign(q, 100 * integers::magnitude(q), s)
+}
+
+// q × s / 100, nearest, halves away from zero: the quotient with S2.3 ON.
+pub fn inverse_ratio(q: i64, s: u64) -> i64
+    requires { ⌜ Ratio q s ⌝ }
+    ensures { λ r. ⌜ r ≡ inverseQuotient q s ⌝ }
+{
+    with_sign(q, integers::magnitude(q) * s, 100)
+}

@@ -1,0 +1,5 @@
+pub mod Fraction
+pub mod Near
+pub mod NearLaws
+pub mod Terms
+pub mod TermLaws

@@ -1,0 +1,153 @@
+-- Rounding a fraction, adding and limiting keep a stored output near its fraction, for any fraction with a positive denominator.
+-- Assumes nothing.
+use mathlib.Core.Path.{_≡_, refl}
+use mathlib.Core.Bool.{Bool, true, false, cond}
+use Prim.Native.Nat.{ℕ, _+_, _*_, _≤_, _<_}
+use native.Mathlib.Nat.{mul-le-mul-right, le-of-mul-le-mul-right, mul-pos}
+use native.Mathlib.Omega.{arith}
+use lib.IntN.{ℤ, pos, natAbs, _+ℤ_, _-ℤ_, _*ℤ_}
+use lib.Signed.{ltZ}
+use Rattle.integers.specs.Limit as Limit
+use Rattle.integers.specs.Parts.{above, below}
+use Rattle.integers.specs.Rounding.{nearestEven-off}
+use Rattle.integers.specs.Split.{Split, split-self, split-sum, split-difference, split-times, size-in, size-out, split-less, split-not-less}
+use Rattle.terms.specs.Fraction.{Fraction, Positive, whole, plus, atLeast, atMost, limited, stored, storedUnits, limitedStored}
+use Rattle.terms.specs.Near.{Near}
+
+-- ---- a distance over natural numbers: the stored output is p - q, the fraction's numerator a - b, its denominator d
+
+record Apart (p q a b d halves : ℕ) : Type 0 where
+  not-above : 2 * (p * d + b * 65536) ≤ 2 * (q * d + a * 65536) + halves * d
+  not-below : 2 * (q * d + a * 65536) ≤ 2 * (p * d + b * 65536) + halves * d
+
+module _ (x : ℤ) (f : Fraction) (halves : ℕ) {p q a b : ℕ} (xs : Split x p q) (fs : Split (f .numerator) a b) where
+  gap : Split (x *ℤ pos (f .denominator) -ℤ storedUnits (f .numerator)) (p * f .denominator + b * 65536) (q * f .denominator + a * 65536)
+  unfolding storedUnits
+  gap =
+      split-difference (x *ℤ pos (f .denominator)) (storedUnits (f .numerator)) (split-times x (f .denominator) xs)
+      (split-times (f .numerator) 65536 fs)
+
+  out-of : Near x f halves → Apart p q a b (f .denominator) halves
+  out-of h = omega (arith, size-out (x *ℤ pos (f .denominator) -ℤ storedUnits (f .numerator)) gap, h .near)
+
+  into : Apart p q a b (f .denominator) halves → Near x f halves
+  into h = record { near = size-in (x *ℤ pos (f .denominator) -ℤ storedUnits (f .numerator)) (halves * f .denominator) gap (h .not-above) (h .not-below) }
+
+-- ---- a rounded fraction is off by at most one half of 1/65,536
+
+pub stored-near : (f : Fraction) → Positive f → Near (stored f) f 1
+unfolding stored
+stored-near f h = record { near = omega (arith, nearestEven-off (storedUnits (f .numerator)) (f .denominator) h) }
+
+-- whole units are stored exactly
+pub whole-near : (units : ℤ) (halves : ℕ) → Near (storedUnits units) (whole units) halves
+unfolding storedUnits whole
+whole-near units halves =
+    into (storedUnits units) (whole units) halves (split-times units 65536 (split-self units)) (split-self units) (omega arith)
+
+-- what is near is near by any greater number
+pub near-more : (x : ℤ) (f : Fraction) (j k : ℕ) → j ≤ k → Near x f j → Near x f k
+near-more x f j k h n = record { near = omega (arith, mul-le-mul-right (f .denominator) h, n .near) }
+
+-- ---- distances add
+
+apart-add : (p q a b d j p₁ q₁ a₁ b₁ d₁ k : ℕ) → Apart p q a b d j → Apart p₁ q₁ a₁ b₁ d₁ k → Apart (p + p₁) (q + q₁) (a * d₁ + a₁ * d) (b * d₁ + b₁ * d) (d * d₁) (j + k)
+apart-add p q a b d j p₁ q₁ a₁ b₁ d₁ k h l =
+    omega (
+      arith,
+      mul-le-mul-right d₁ (h .not-above),
+      mul-le-mul-right d₁ (h .not-below),
+      mul-le-mul-right d (l .not-above),
+      mul-le-mul-right d (l .not-below),
+    )
+
+pub plus-near : (x y : ℤ) (f g : Fraction) (j k : ℕ) → Near x f j → Near y g k → Near (x +ℤ y) (plus f g) (j + k)
+unfolding plus
+plus-near x y f g j k h l =
+    into (x +ℤ y) (plus f g) (j + k) (split-sum x y (split-self x) (split-self y))
+    (split-sum (f .numerator *ℤ pos (g .denominator)) (g .numerator *ℤ pos (f .denominator)) (split-times (f .numerator) (g .denominator) (split-self (f .numerator)))
+    (split-times (g .numerator) (f .denominator) (split-self (g .numerator))))
+    (apart-add _ _ _ _ _ _ _ _ _ _ _ _ (out-of x f j (split-self x) (split-self (f .numerator)) h)
+    (out-of y g k (split-self y) (split-self (g .numerator)) l))
+
+-- ---- limiting to the same bounds does not increase a distance. A bound is u - v; turned about, the lower bound's cases are the upper bound's
+
+turn : {p q a b d halves : ℕ} → Apart p q a b d halves → Apart q p b a d halves
+turn h = record { not-above = h .not-below; not-below = h .not-above }
+
+-- the stored output comes to the bound, the fraction is past it already
+stored-moves : (p q a b d halves u v : ℕ) → Apart p q a b d halves → p + v * 65536 < u * 65536 + q → u * d + b ≤ a + v * d → Apart (u * 65536) (v * 65536) a b d halves
+stored-moves p q a b d halves u v n h l = omega (arith, mul-le-mul-right d h, n .not-below)
+
+-- the fraction comes to the bound, the stored output is past it already
+fraction-moves : (p q a b d halves u v : ℕ) → 0 < d → Apart p q a b d halves → u * 65536 + q ≤ p + v * 65536 → a + v * d < u * d + b → Apart p q u v 1 halves
+fraction-moves p q a b d halves u v some n h l =
+    let m : (2 * (p + v * 65536)) * d ≤ (2 * (q + u * 65536) + halves) * d = omega (arith, n .not-above) in
+    omega (arith, le-of-mul-le-mul-right m some)
+
+module _ (bound x : ℤ) (f : Fraction) (halves : ℕ) (some : Positive f) (near : Near x f halves) where
+  xs : Split x (above x) (below x)
+  xs = split-self x
+
+  fs : Split (f .numerator) (above (f .numerator)) (below (f .numerator))
+  fs = split-self (f .numerator)
+
+  bounds : (d : ℕ) → Split (bound *ℤ pos d) (above bound * d) (below bound * d)
+  bounds d = split-times bound d (split-self bound)
+
+  gap-now : Apart (above x) (below x) (above (f .numerator)) (below (f .numerator)) (f .denominator) halves
+  gap-now = out-of x f halves xs fs near
+
+  pub atLeast-near : Near (Limit.atLeast (storedUnits bound) x) (atLeast bound f) halves
+  unfolding Limit.atLeast atLeast whole storedUnits
+  atLeast-near = go (ltZ x (bound *ℤ pos 65536)) refl (ltZ (f .numerator) (bound *ℤ pos (f .denominator))) refl
+    where
+      go : (s : Bool) → ltZ x (bound *ℤ pos 65536) ≡ s → (t : Bool) → ltZ (f .numerator) (bound *ℤ pos (f .denominator)) ≡ t → Near (cond s (bound *ℤ pos 65536) x) (cond t (whole bound) f) halves
+      go true e true g = whole-near bound halves
+      go true e false g =
+          into (bound *ℤ pos 65536) f halves (bounds 65536) fs
+          (stored-moves _ _ _ _ _ _ (above bound) (below bound) gap-now (split-less _ _ xs (bounds 65536) e) (split-not-less _ _ fs (bounds (f .denominator)) g))
+      go false e true g =
+          into x (whole bound) halves xs (split-self bound)
+          (fraction-moves _ _ _ _ _ _ (above bound) (below bound) some gap-now (split-not-less _ _ xs (bounds 65536) e) (split-less _ _ fs (bounds (f .denominator)) g))
+      go false e false g = near
+
+  pub atMost-near : Near (Limit.atMost (storedUnits bound) x) (atMost bound f) halves
+  unfolding Limit.atMost atMost whole storedUnits
+  atMost-near = go (ltZ (bound *ℤ pos 65536) x) refl (ltZ (bound *ℤ pos (f .denominator)) (f .numerator)) refl
+    where
+      go : (s : Bool) → ltZ (bound *ℤ pos 65536) x ≡ s → (t : Bool) → ltZ (bound *ℤ pos (f .denominator)) (f .numerator) ≡ t → Near (cond s (bound *ℤ pos 65536) x) (cond t (whole bound) f) halves
+      go true e true g = whole-near bound halves
+      go true e false g =
+          into (bound *ℤ pos 65536) f halves (bounds 65536) fs
+          (turn (stored-moves _ _ _ _ _ _ (below bound) (above bound) (turn gap-now) (omega (arith, split-less _ _ (bounds 65536) xs e)) (omega (arith, split-not-less _ _ (bounds (f .denominator)) fs g))))
+      go false e true g =
+          into x (whole bound) halves xs (split-self bound)
+          (turn (fraction-moves _ _ _ _ _ _ (below bound) (above bound) some (turn gap-now) (omega (arith, split-not-less _ _ (bounds 65536) xs e)) (omega (arith, split-less _ _ (bounds (f .denominator)) fs g))))
+      go false e false g = near
+
+-- ---- denominators stay positive
+
+either-positive : (t : Bool) (units : ℤ) (f : Fraction) → Positive f → Positive (cond t (whole units) f)
+unfolding whole
+either-positive true units f h = omega arith
+either-positive false units f h = h
+
+pub atLeast-positive : (low : ℤ) (f : Fraction) → Positive f → Positive (atLeast low f)
+unfolding atLeast
+atLeast-positive low f h = either-positive (ltZ (f .numerator) (low *ℤ pos (f .denominator))) low f h
+
+pub limited-positive : (low high : ℤ) (f : Fraction) → Positive f → Positive (limited low high f)
+unfolding limited atMost
+limited-positive low high f h =
+    let g = atLeast low f in
+    either-positive (ltZ (high *ℤ pos (g .denominator)) (g .numerator)) high g (atLeast-positive low f h)
+
+pub plus-positive : (f g : Fraction) → Positive f → Positive g → Positive (plus f g)
+unfolding plus
+plus-positive f g h l = mul-pos h l
+
+pub limited-near : (low high x : ℤ) (f : Fraction) (halves : ℕ) → Positive f → Near x f halves → Near (limitedStored low high x) (limited low high f) halves
+unfolding limited limitedStored Limit.limited
+limited-near low high x f halves h n =
+    atMost-near high _ _ halves (atLeast-positive low f h) (atLeast-near low x f halves h n)
