@@ -19,7 +19,7 @@ div-result-2 : tie.Need-div-result-2
 div-result-2 c = search needs
 
 add-result : tie.Need-add-result
-add-result c = omega (arith, room (c .before .args .n) (c .before .args .d) (c .before .pre) (c .if1 .left))
+add-result c = omega (arith, room (c .before .args .n) (c .before .args .d) (c .before .pre) (omega arith))
 
 returns : tie.Need-returns
 returns c = up-below-half (c .before .args .n) (c .before .args .d) (c .before .pre) (c .if1 .taken)

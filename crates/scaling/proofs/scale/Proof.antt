@@ -40,9 +40,11 @@ module _ (c : tie.After-magnitude) where
       halfUp-quotient (c .before .args .sample * c .magnitude .result) 10000 (omega arith) ∙
       ap (λ (span : ℕ). halfUp (c .before .args .sample * span) 10000) span-is
 
-  sum-fits : SFits w64 (c .before .args .low +ℤ pos ((2 * (c .before .args .sample * c .magnitude .result) + 10000) / 20000))
-  sum-fits =
-      omega (arith, signed, small, sum (c .before .args .low) (pos ((2 * (c .before .args .sample * c .magnitude .result) + 10000) / 20000)))
+  part-most : (2 * (c .before .args .sample * c .magnitude .result) + 10000) / 20000 ≤ 40000
+  part-most = omega (arith, small)
+
+  sum-fits : (n : ℕ) → n ≤ 40000 → SFits w64 (c .before .args .low +ℤ pos n)
+  sum-fits n h = omega (arith, signed, sum (c .before .args .low) (pos n))
 
 mul-part : tie.Need-mul-part
 mul-part c = omega (arith, small c)
@@ -57,12 +59,15 @@ cast-result : tie.Need-cast-result
 cast-result c = omega (arith, small c)
 
 add-result : tie.Need-add-result
-add-result c = simp (toZ-ofZ (c .before .fits .low), cast-back w64 _ (cast-result c .sfits)) (sum-fits c)
+add-result c =
+    simp (toZ-ofZ (c .before .fits .low), cast-back w64 _ (cast-result c .sfits)) (sum-fits c _ (omega (arith, small c)))
 
 returns : tie.Need-returns
 unfolding scaled
 returns c =
-    simp (toZ-ofZ (c .before .fits .low), cast-back w64 _ (cast-result c .sfits), toZ-ofZ (sum-fits c)) (rw (part-is c))
+    let low = c .before .args .low in
+    simp (toZ-ofZ (c .before .fits .low), cast-back w64 _ (cast-result c .sfits))
+    (toZ-ofZ (sum-fits c _ (part-most c)) ∙ ap (λ (part : ℕ). low +ℤ pos part) (part-is c))
 
 pub scale-spec : {M : Type 1} → statement M
 scale-spec =
