@@ -47,10 +47,18 @@ NEAREST_TIES = (
 )
 NO_NUMBERS = (
     "+5", "--5", "-", "12x", "x12", "5-", "1-2", "1.0", "1e3", "0x5", "1_0", "1,0",
-    "1234567890", "-1234567890", "0000000005",        # more than nine digits
+    "1234567890", "-1234567890", "0" * 18 + "5",      # out of range; nineteen digits
     "4294967301", "18446744073709551621", "9" * 40)   # 2^32 + 5, 2^64 + 5
 NO_CALLS = ("", " ", "   ", "square 5", "Root 5", "ROOT 5", "roots 5", "roo 5",
-            "root5", "root,5", "5 root", "5", "-", "error")
+            "root5", "root,5", "root\t5", "5 root", "5", "-", "error",
+            "root" + " " * 251 + "5", "root 5" + " " * 5000)  # 256 bytes and more
+# One to eighteen digits, blanks anywhere between words, lines up to 255 bytes.
+OTHER_FORMS = (
+    ("  root 5", "223"), ("root 5  ", "223"), ("root" + " " * 250 + "5", "223"),
+    ("root " + "0" * 17 + "5", "223"), ("scale -0 1 5000", "1"), ("scale -00 01 05000", "1"))
+# Whole inputs: none, a last line without a newline, and empty lines.
+WHOLE_INPUTS = ((b"", b""), (b"root 5", b"223\n"), (b"\n", b"error\n"), (b"roo\nt 5", b"error\nerror\n"),
+                (b"root 5\nroot 4\n\nroot 1", b"223\n200\nerror\n100\n"), (b"\0", b"error\n"))
 
 
 # Calls, as words and arguments ---------------------------------------------
@@ -68,11 +76,12 @@ def corner_calls():
 
 
 def draw(generator, low, high):
-    """A number in range: anywhere, small, or near an end."""
-    anywhere = generator.randint(low, high)
-    small = generator.randint(-1, 1) * generator.randint(0, 2 ** generator.randint(0, 10))
-    near_end = generator.choice([low + abs(small), high - abs(small)])
-    return max(low, min(high, generator.choice([anywhere, small, near_end])))
+    """A number in range: anywhere, near zero, or near an end."""
+    middle = generator.choice([None, max(low, min(high, 0)), low, high])
+    if middle is None:
+        return generator.randint(low, high)
+    distance = 2 ** generator.randint(0, 10)
+    return generator.randint(max(low, middle - distance), min(high, middle + distance))
 
 
 def random_arguments(generator, word):
@@ -82,10 +91,23 @@ def random_arguments(generator, word):
             return arguments
 
 
+def unlimited_arguments(generator, word):
+    """Arguments of a term that is neither zero nor beyond the limit."""
+    while True:
+        settings = random_arguments(generator, word)[:-1]
+        one = calls.quotient_of_one(word, settings)
+        if one > 0 and calls.reach(word, one) >= 1:
+            moving = generator.randint(1, calls.reach(word, one))
+            return (*settings, generator.choice([moving, -moving]))
+
+
 def random_calls(generator):
+    """Random legal calls; of the terms, every second one isn't limited."""
     for word in RANGES:
-        for _ in range(RANDOM_CALLS_A_WORD):
-            yield word, random_arguments(generator, word)
+        for count in range(RANDOM_CALLS_A_WORD):
+            unlimited = word in calls.TERMS and count % 2 == 1
+            chosen = unlimited_arguments if unlimited else random_arguments
+            yield word, chosen(generator, word)
 
 
 # Lines to be answered error ------------------------------------------------
@@ -147,7 +169,7 @@ def all_comparisons(generator):
     for kind, found in calls.hard_calls(generator):
         asked += found
         kinds[kind] = len(found)
-    comparisons = [*BY_HAND, *((line_of(*call), expected_answer(*call)) for call in asked)]
+    comparisons = [*BY_HAND, *OTHER_FORMS, *((line_of(*call), expected_answer(*call)) for call in asked)]
     comparisons += [(line_of(*call, blanks), expected_answer(*call))
                     for call in generator.sample(asked, 200) for blanks in ("  ", "     ")]
     comparisons += [(line, "error") for line in out_of_range_lines(generator)]
@@ -156,21 +178,37 @@ def all_comparisons(generator):
     return comparisons, kinds
 
 
-def run(program, lines):
-    """The program's answer lines, and whether it ended with status 0."""
-    asked = "".join(line + "\n" for line in lines).encode("ascii")
+def run(program, asked):
+    """What the program writes, and whether it ended with status 0."""
     try:
         ended = subprocess.run([program], input=asked, stdout=subprocess.PIPE,
                                timeout=PROGRAM_SECONDS)
     except (OSError, subprocess.TimeoutExpired) as reason:
         print("The program didn't run to its end:", reason)
-        return [], False
+        return b"", False
     if ended.returncode != 0:
         print("The program ended with status", ended.returncode)
-    answers = ended.stdout.decode("ascii", "backslashreplace").split("\n")
+    return ended.stdout, ended.returncode == 0
+
+
+def run_lines(program, lines):
+    """The program's answer lines, and whether it ended with status 0."""
+    written, ended_well = run(program, "".join(line + "\n" for line in lines).encode("ascii"))
+    answers = written.decode("ascii", "backslashreplace").split("\n")
     if answers[-1] == "":
         answers.pop()
-    return answers, ended.returncode == 0
+    return answers, ended_well
+
+
+def wrong_whole_inputs(program):
+    """How many of the whole inputs are answered wrongly."""
+    wrong = 0
+    for asked, expected in WHOLE_INPUTS:
+        written, ended_well = run(program, asked)
+        if written != expected or not ended_well:
+            wrong += 1
+            print(f"input {asked!r}: answer {written!r}, expected {expected!r}")
+    return wrong
 
 
 def differences(comparisons, answers):
@@ -202,14 +240,15 @@ def main():
     check_reckoner()
     comparisons, kinds = all_comparisons(random.Random(given.seed))
     print_counts(given.seed, comparisons, kinds)
-    answers, ended_well = run(given.program, [line for line, _ in comparisons])
+    answers, ended_well = run_lines(given.program, [line for line, _ in comparisons])
     print(len(comparisons), "calls,", len(answers), "answers")
     different = list(differences(comparisons, answers))
     for line, answer, expected in different[:DIFFERENCES_SHOWN]:
         print(f"call {line!r}: answer {answer!r}, expected {expected!r}")
     too_few = sum(count < calls.LEAST_OF_A_KIND for count in kinds.values())
-    passed = max(len(comparisons), len(answers)) - len(different)
-    failed = len(different) + too_few + (not ended_well)
+    wrong_inputs = wrong_whole_inputs(given.program)
+    passed = max(len(comparisons), len(answers)) - len(different) + len(WHOLE_INPUTS) - wrong_inputs
+    failed = len(different) + too_few + wrong_inputs + (not ended_well)
     print(f"{passed} passed, {failed} failed")
     good = failed == 0 and len(answers) == len(comparisons) and passed >= LEAST_PASSED
     sys.exit(0 if good else 1)

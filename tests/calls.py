@@ -152,7 +152,7 @@ def settings_of(generator, word, switches, for_tie):
         return (generator.randint(1, 9999),)
     draw = smooth if word == "integral" else smooth_multiple
     pair = (smooth_multiple(generator, 9999), draw(generator, 19998))
-    if for_tie and (word != "integral" or generator.random() < 0.5):
+    if for_tie and (word != "integral" or generator.choice([True, False])):
         pair = generator.choice(TIE_PAIRS)
     if word == "proportional":
         return pair

@@ -87,14 +87,14 @@ def integral(xp, span, ti, minutes, error):
     return Fraction(10_000_000 * error * above, xp * span * below * ti)
 
 
-def derivative(xp, span, td, minutes, inverse, bend):
-    """-10,000,000 x D x 25 x TD / (9 x XP x W); bend is D, span is W.
+def derivative(xp, span, td, minutes, inverse, difference):
+    """-10,000,000 x D x 25 x TD / (9 x XP x W); difference is D, span is W.
 
     With S2.8 ON (minutes) 500 and 3 stand for 25 and 9; plus sign with
     S2.4 ON (inverse).
     """
     above, below = (500, 3) if minutes else (25, 9)
-    size = Fraction(10_000_000 * bend * above * td, below * xp * span)
+    size = Fraction(10_000_000 * difference * above * td, below * xp * span)
     return size if inverse else -size
 
 

@@ -72,6 +72,10 @@ fn signed_in(value: i64, most: u64) -> Signed
     Signed { ok: true, value }
 }
 
+fn taken(ok: bool, count: usize, values: [i64; 6]) -> Arguments {
+    Arguments { ok, count, values }
+}
+
 fn read_arguments(line: &[u8], start: usize) -> Arguments
     requires { ⌜ start ≤ length (now line) ⌝ }
 {
@@ -83,11 +87,7 @@ fn read_arguments(line: &[u8], start: usize) -> Arguments
         let from = w.from;
         let to = w.to;
         if from == to {
-            return Arguments {
-                ok: true,
-                count,
-                values,
-            };
+            return taken(true, count, values);
         }
         let reading = text::number(&line[from..to]);
         match reading {
@@ -95,22 +95,14 @@ fn read_arguments(line: &[u8], start: usize) -> Arguments
                 values[count] = value;
             }
             Reading::Malformed => {
-                return Arguments {
-                    ok: false,
-                    count,
-                    values,
-                };
+                return taken(false, count, values);
             }
         }
         at = to;
         count += 1;
     }
     let behind = text::word(line, at);
-    Arguments {
-        ok: behind.from == behind.to,
-        count,
-        values,
-    }
+    taken(behind.from == behind.to, count, values)
 }
 
 // Whether the call has so many arguments, all of them numbers.

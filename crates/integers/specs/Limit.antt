@@ -29,10 +29,6 @@ pub atLeast-low : (low x : ℤ) → low ≤ℤ atLeast low x
 unfolding atLeast
 atLeast-low low x = by-test (λ r. low ≤ℤ r) x low low x (λ e. omega (arith, signed)) (λ e. omega (arith, signed))
 
-pub atLeast-high : (low high x : ℤ) → low ≤ℤ high → x ≤ℤ high → atLeast low x ≤ℤ high
-unfolding atLeast
-atLeast-high low high x h k = by-test (λ r. r ≤ℤ high) x low low x (λ e. h) (λ e. k)
-
 pub limited-low : (low high x : ℤ) → low ≤ℤ high → low ≤ℤ limited low high x
 unfolding limited atMost
 limited-low low high x h = by-test (λ r. low ≤ℤ r) high (atLeast low x) high (atLeast low x) (λ e. h) (λ e. atLeast-low low x)

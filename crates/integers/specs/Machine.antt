@@ -1,9 +1,10 @@
 -- What the machine reads back of a signed number: the number itself, since it fits its width. Every width is covered by one law.
 -- Assumes nothing.
 use mathlib.Core.Path.{_≡_}
+use mathlib.Core.Bool.{true, false, cond}
 use Prim.Native.Nat.{ℕ, _^_, _<_}
 use lib.IntN.{ℤ, pos}
-use lib.Signed.{mag}
+use lib.Signed.{mag, ltZ}
 use mir.Syntax.{Width}
 use mir.Val.{SFits, toZ, ofZ, hbits}
 use mir.Facts.{toZ-ofZ}
@@ -20,3 +21,12 @@ back w z h = toZ-ofZ {w = w} {z = z} (record { sfits = h })
 -- of an unsigned number that was cast to a signed type
 pub cast-back : (w : Width) (n : ℕ) → n < 2 ^ hbits w → toZ w n ≡ pos n
 cast-back w n h = toZ-ofZ {w = w} {z = pos n} (record { sfits = h })
+
+-- ---- `if a < b { x } else { y }` of signed numbers, as each arm leaves it
+
+module _ {w : Width} {a b : ℤ} (x y : ℤ) (fa : SFits w a) (fb : SFits w b) where
+  pub choice-taken : SFits w x → ltZ (toZ w (ofZ w a)) (toZ w (ofZ w b)) ≡ true → toZ w (ofZ w x) ≡ cond (ltZ a b) x y
+  choice-taken fx e = simp (toZ-ofZ fx, simp (toZ-ofZ fa, toZ-ofZ fb) at e)
+
+  pub choice-left : SFits w y → ltZ (toZ w (ofZ w a)) (toZ w (ofZ w b)) ≡ false → toZ w (ofZ w y) ≡ cond (ltZ a b) x y
+  choice-left fy e = simp (toZ-ofZ fy, simp (toZ-ofZ fa, toZ-ofZ fb) at e)

@@ -14,7 +14,7 @@ pub fn negative(x: i64) -> bool
     x < 0
 }
 
-// |x|. The least i64 has one that only the unsigned type holds, so its digits are turned and one is added.
+// |x|. That of the least i64 fits only the unsigned type: so x + 1 is negated, and the 1 is added there.
 pub fn magnitude(x: i64) -> u64
     ensures { λ r. ⌜ r ≡ natAbs x ⌝ }
 {

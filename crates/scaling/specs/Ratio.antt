@@ -17,9 +17,9 @@ inverseQuotient q s = nearestAway (q *ℤ pos s) 100
 
 -- q is a scaled channel 2, s lies within ratio limits of 1..9999
 pub record Ratio (q : ℤ) (s : ℕ) : Type 0 where
-  pub scaled : natAbs q ≤ 9999
-  pub some : 1 ≤ s
-  pub most : s ≤ 9999
+  pub q-most : natAbs q ≤ 9999
+  pub s-some : 1 ≤ s
+  pub s-most : s ≤ 9999
 
 -- ---- the same by sign and magnitude
 
@@ -41,10 +41,10 @@ pub ratio-size : (q : ℤ) (s : ℕ) → Ratio q s → natAbs (ratioQuotient q s
 unfolding ratioQuotient
 ratio-size q s h =
     rw (away-size, natAbs-product)
-    (omega (arith, halfUp-most (100 * natAbs q) s (h .some)))
+    (omega (arith, halfUp-most (100 * natAbs q) s (h .s-some)))
 
 pub inverse-size : (q : ℤ) (s : ℕ) → Ratio q s → natAbs (inverseQuotient q s) ≤ 1000000
 unfolding inverseQuotient
 inverse-size q s h =
     rw (away-size, natAbs-product)
-    (omega (arith, halfUp-nearest (natAbs q * s) 100 (omega arith), bounded 9999 9999 (h .scaled) (h .most)))
+    (omega (arith, halfUp-nearest (natAbs q * s) 100 (omega arith), bounded 9999 9999 (h .q-most) (h .s-most)))

@@ -27,7 +27,7 @@ returns : tie.Need-returns
 returns c =
     let s = c .before .before in
     back w64 _ (c .with-sign .ok) ∙ c .with-sign .ensures ∙
-    simp (toZ-ofZ (s .fits .q), size-is (c .before)) (ratio-parts (s .args .q) (s .args .s) (s .pre .some))
+    simp (toZ-ofZ (s .fits .q), size-is (c .before)) (ratio-parts (s .args .q) (s .args .s) (s .pre .s-some))
 
 pub ratio-spec : {M : Type 1} → statement M
 ratio-spec = tie.close (tie.spec magnitude-requires mul-with-sign with-sign-requires returns)

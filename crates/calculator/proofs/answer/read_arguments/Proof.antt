@@ -18,6 +18,9 @@ loop-holds c = search needs
 word-requires : tie.Need-word-requires Inv-loop μ-loop
 word-requires c κs = search needs
 
+taken-requires : tie.Need-taken-requires Inv-loop μ-loop
+taken-requires c κs = search needs
+
 returns : tie.Need-returns Inv-loop μ-loop
 returns c = search needs
 
@@ -45,6 +48,9 @@ array-set-from-values c = search needs
 enum-told : tie.Need-enum-told Inv-loop μ-loop
 enum-told c = search needs
 
+taken-requires-2 : tie.Need-taken-requires-2 Inv-loop μ-loop
+taken-requires-2 c κs = search needs
+
 returns-2 : tie.Need-returns-2 Inv-loop μ-loop
 returns-2 c = search needs
 
@@ -60,6 +66,9 @@ loop-again c = search needs
 word-requires-2 : tie.Need-word-requires-2 Inv-loop μ-loop
 word-requires-2 c κs = search needs
 
+taken-requires-3 : tie.Need-taken-requires-3 Inv-loop μ-loop
+taken-requires-3 c κs = search needs
+
 returns-3 : tie.Need-returns-3 Inv-loop μ-loop
 returns-3 c = search needs
 
@@ -71,6 +80,7 @@ read-arguments-spec =
     μ-loop
     loop-holds
     word-requires
+    taken-requires
     returns
     sub-number
     part-number-start
@@ -80,9 +90,11 @@ read-arguments-spec =
     mul-values
     array-set-from-values
     enum-told
+    taken-requires-2
     returns-2
     add-count
     loop-less
     loop-again
     word-requires-2
+    taken-requires-3
     returns-3)

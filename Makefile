@@ -1,0 +1,9 @@
+# Two commands: `make run` proves, builds and shows the arithmetic at work; `make test` is the gate.
+.PHONY: run test
+
+run:
+	rt check
+	sh demo/show
+
+test:
+	python3 tests/gate.py
