@@ -19,6 +19,7 @@ TALLY = re.compile(r"(\d+) passed, (\d+) failed")
 STEPS = (
     ("proofs", ["rt", "ci"]),
     ("layout", [*PYTHON, "tests/layout.py"]),
+    ("names in the documents", [*PYTHON, "tests/docs.py"]),
     ("the gate's own tests", [*PYTHON, "tests/gate_test.py"]),
     ("arithmetic against the reckoner", [*PYTHON, "tests/arithmetic.py", "target/bin/calculator"]),
 )
