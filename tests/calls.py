@@ -9,9 +9,9 @@ import reckoner
 
 READING, SAMPLE, RATIO = (-9999, 9999), (0, 10000), (1, 9999)
 XP, SPAN, TIME, SWITCH = (1, 9999), (1, 19998), (0, 9999), (0, 1)
-ERROR, CHANGE, ANY = (-19998, 19998), (-39996, 39996), (-999999999, 999999999)
+DEVIATION, CHANGE, ANY = (-19998, 19998), (-39996, 39996), (-999999999, 999999999)
 
-# "Terms": SPAN is W, TIME is TI or TD, ERROR is c, CHANGE is c - c1 or D; the
+# "Terms": SPAN is W, TIME is TI or TD, DEVIATION is c, CHANGE is c - c1 or D; the
 # switches are S2.8 (minutes), then S2.4 (inverse).
 RANGES = {
     "scale": (READING, READING, SAMPLE),
@@ -20,7 +20,7 @@ RANGES = {
     "inverse": (READING, RATIO),
     "limit": (ANY, ANY, ANY),
     "proportional": (XP, SPAN, CHANGE),
-    "integral": (XP, SPAN, TIME, SWITCH, ERROR),
+    "integral": (XP, SPAN, TIME, SWITCH, DEVIATION),
     "derivative": (XP, SPAN, TIME, SWITCH, SWITCH, CHANGE),
 }
 TERMS = {"proportional": reckoner.proportional, "integral": reckoner.integral,

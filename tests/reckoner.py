@@ -76,26 +76,26 @@ def proportional(xp, span, change):
     return Fraction(10_000_000 * change, xp * span)
 
 
-def integral(xp, span, ti, minutes, error):
-    """10,000,000 x c x 9 / (XP x W x 25 x TI); error is c, span is W.
+def integral(xp, span, ti, minutes, c):
+    """10,000,000 x c x 9 / (XP x W x 25 x TI); span is W.
 
     With S2.8 ON (minutes) 3 and 500 stand for 9 and 25; 0 if TI is 0.
     """
     if ti == 0:
         return Fraction(0)
     above, below = (3, 500) if minutes else (9, 25)
-    return Fraction(10_000_000 * error * above, xp * span * below * ti)
+    return Fraction(10_000_000 * c * above, xp * span * below * ti)
 
 
-def derivative(xp, span, td, minutes, inverse, difference):
-    """-10,000,000 x D x 25 x TD / (9 x XP x W); difference is D, span is W.
+def derivative(xp, span, td, minutes, inverted, d):
+    """-10,000,000 x D x 25 x TD / (9 x XP x W); d is D, span is W.
 
     With S2.8 ON (minutes) 500 and 3 stand for 25 and 9; plus sign with
-    S2.4 ON (inverse).
+    S2.4 ON (inverted).
     """
     above, below = (500, 3) if minutes else (25, 9)
-    size = Fraction(10_000_000 * difference * above * td, below * xp * span)
-    return size if inverse else -size
+    size = Fraction(10_000_000 * d * above * td, below * xp * span)
+    return size if inverted else -size
 
 
 def stored_term(exact):

@@ -2,7 +2,7 @@
 ghost use Prim.Native.Nat.{_≤_};
 ghost use lib.IntN.{natAbs};
 ghost use lib.ListN.{length};
-ghost use Rattle.terms.specs.Terms.{Tuned};
+ghost use Rattle.terms.specs.Terms.{TuningRange};
 use terms::Tuning;
 use text::Reading;
 
@@ -166,15 +166,15 @@ struct Setting {
     tuning: Tuning,
 }
 
-fn tuning_in(xp: i64, span: i64, ti: i64, td: i64, minutes: i64, inverse: i64) -> Setting
-    ensures { λ r. ⌜ Tuned (r .tuning) ⌝ }
+fn tuning_in(xp: i64, span: i64, ti: i64, td: i64, minutes: i64, inverted: i64) -> Setting
+    ensures { λ r. ⌜ TuningRange (r .tuning) ⌝ }
 {
     let x = natural_in(xp, 1, 9999);
     let w = natural_in(span, 1, 19998);
     let i = natural_in(ti, 0, 9999);
     let d = natural_in(td, 0, 9999);
     let m = natural_in(minutes, 0, 1);
-    let v = natural_in(inverse, 0, 1);
+    let v = natural_in(inverted, 0, 1);
     Setting {
         ok: x.ok & w.ok & i.ok & d.ok & m.ok & v.ok,
         tuning: Tuning {
@@ -183,7 +183,7 @@ fn tuning_in(xp: i64, span: i64, ti: i64, td: i64, minutes: i64, inverse: i64) -
             ti: i.value,
             td: d.value,
             minutes: m.value == 1,
-            inverse: v.value == 1,
+            inverted: v.value == 1,
         },
     }
 }
@@ -199,24 +199,24 @@ fn proportional(values: [i64; 6]) -> Answer {
     Answer::NoCall
 }
 
-// integral XP W TI MINUTES ERROR
+// integral XP W TI MINUTES C
 fn integral(values: [i64; 6]) -> Answer {
     let s = tuning_in(values[0], values[1], values[2], 0, values[3], 0);
-    let error = signed_in(values[4], 19998);
-    if s.ok & error.ok {
+    let c = signed_in(values[4], 19998);
+    if s.ok & c.ok {
         let t = s.tuning;
-        return Answer::Number(terms::integral(t, error.value));
+        return Answer::Number(terms::integral(t, c.value));
     }
     Answer::NoCall
 }
 
-// derivative XP W TD MINUTES INVERSE DIFFERENCE
+// derivative XP W TD MINUTES INVERTED D
 fn derivative(values: [i64; 6]) -> Answer {
     let s = tuning_in(values[0], values[1], 0, values[2], values[3], values[4]);
-    let difference = signed_in(values[5], 39996);
-    if s.ok & difference.ok {
+    let d = signed_in(values[5], 39996);
+    if s.ok & d.ok {
         let t = s.tuning;
-        return Answer::Number(terms::derivative(t, difference.value));
+        return Answer::Number(terms::derivative(t, d.value));
     }
     Answer::NoCall
 }

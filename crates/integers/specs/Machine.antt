@@ -1,5 +1,4 @@
 -- What the machine reads back of a signed number: the number itself, since it fits its width. Every width is covered by one law.
--- Assumes nothing.
 use mathlib.Core.Path.{_≡_}
 use mathlib.Core.Bool.{true, false, cond}
 use Prim.Native.Nat.{ℕ, _^_, _<_}

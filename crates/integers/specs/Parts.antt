@@ -1,6 +1,5 @@
 -- An integer read as two natural numbers, one of which is 0: how far it lies above zero, and how far below. `omega` reads natural numbers only;
 -- with the rules of `signed` in its list it also reads and proves orders, equations and tests of integers.
--- Assumes nothing.
 use mathlib.Core.Path.{_≡_, refl, sym, ap, subst}
 use mathlib.Core.Bool.{Bool, true, false, not}
 use Prim.Native.Nat.{ℕ, suc, _+_, _*_, _≤_, _<_, min}

@@ -1,10 +1,9 @@
 -- A quotient taken to the nearest whole number, by what the division leaves over.
--- Assumes nothing.
 use mathlib.Core.Path.{_≡_, refl, sym, ap, _∙_}
 use mathlib.Core.Bool.{Bool, true, false, cond}
 use Prim.Native.Nat.{ℕ, zero, suc, _+_, _-_, _*_, _/_, _%_, _≤_, _<_, zero-le}
 use native.Mathlib.Nat.{div-add-mod', mod-lt, mul-le-mul-left, mul-le-mul-right, zero-div, zero-mod, div-eq-of-lt-le, div-le-self, mul-mod-left, mul-div-cancel}
-use native.Mathlib.Omega.{arith}
+use native.Mathlib.Omega.{arith, by-contra}
 use lib.Dec.{ltb}
 use lib.IntN.{ℤ, pos, negsuc, negℤ, natAbs, _-ℤ_, _*ℤ_}
 use borrow.Author.Tests.{ltb-true, ltb-false, lt-ltb, le-ltb}
@@ -20,7 +19,7 @@ halfUp n d = cond (ltb (2 * (n % d)) d) (n / d) (n / d + 1)
 unfoldable pub halfEven : ℕ → ℕ → ℕ
 halfEven n d = cond (ltb (2 * (n % d)) d) (n / d) (cond (ltb d (2 * (n % d))) (n / d + 1) (n / d + (n / d) % 2))
 
--- z / d by its magnitude, the sign apart: below zero a half goes as it goes above
+-- z / d by its magnitude, the sign apart: what lies below zero mirrors what lies above
 abbrev pub nearestBy : (ℕ → ℕ → ℕ) → ℤ → ℕ → ℤ
 nearestBy rounding z d = fromSign (isNegative z) (rounding (natAbs z) d)
 
@@ -40,8 +39,8 @@ pub record Nearest (n d r : ℕ) : Type 0 where
   pub not-below : 2 * n ≤ 2 * (r * d) + d
 
 module _ (n d : ℕ) (some : 0 < d) where
-  whole : n / d * d + n % d ≡ n
-  whole = div-add-mod' n d
+  division : n / d * d + n % d ≡ n
+  division = div-add-mod' n d
 
   left-over : n % d < d
   left-over = mod-lt n some
@@ -54,8 +53,8 @@ module _ (n d : ℕ) (some : 0 < d) where
   halfUp-nearest = go (ltb (2 * (n % d)) d) refl
     where
       go : (s : Bool) → ltb (2 * (n % d)) d ≡ s → Nearest n d (cond s (n / d) (n / d + 1))
-      go true e = omega (arith, ltb-true, whole)
-      go false e = omega (arith, ltb-false, whole, left-over)
+      go true e = omega (arith, ltb-true, division)
+      go false e = omega (arith, ltb-false, division, left-over)
 
   -- and at a half it is the greater neighbour
   pub halfUp-up : 2 * n < 2 * (halfUp n d * d) + d
@@ -63,8 +62,8 @@ module _ (n d : ℕ) (some : 0 < d) where
   halfUp-up = go (ltb (2 * (n % d)) d) refl
     where
       go : (s : Bool) → ltb (2 * (n % d)) d ≡ s → 2 * n < 2 * (cond s (n / d) (n / d + 1) * d) + d
-      go true e = omega (arith, ltb-true, whole)
-      go false e = omega (arith, ltb-false, whole, left-over)
+      go true e = omega (arith, ltb-true, division)
+      go false e = omega (arith, ltb-false, division, left-over)
 
   pub halfUp-most : halfUp n d ≤ n + 1
   unfolding halfUp
@@ -84,9 +83,9 @@ module _ (n d : ℕ) (some : 0 < d) where
   halfEven-nearest = go (ltb (2 * (n % d)) d) refl (ltb d (2 * (n % d))) refl
     where
       go : (s : Bool) → ltb (2 * (n % d)) d ≡ s → (t : Bool) → ltb d (2 * (n % d)) ≡ t → Nearest n d (cond s (n / d) (cond t (n / d + 1) (n / d + n / d % 2)))
-      go true e t f = omega (arith, ltb-true, whole)
-      go false e true f = omega (arith, ltb-true, ltb-false, whole, left-over)
-      go false e false f = omega (arith, ltb-false, whole, odd-part)
+      go true e t f = omega (arith, ltb-true, division)
+      go false e true f = omega (arith, ltb-true, ltb-false, division, left-over)
+      go false e false f = omega (arith, ltb-false, division, odd-part)
 
   pub halfEven-most : halfEven n d ≤ n + 1
   unfolding halfEven
@@ -107,6 +106,24 @@ module _ (n d : ℕ) (some : 0 < d) where
       go false e true f = absurd (omega (arith, ltb-true))
       go false e false f = omega arith
 
+  -- an exact half has two neighbours, n / d and n / d + 1; both are off by one half, and no other number is nearest
+  pub half-lower : 2 * (n % d) ≡ d → Nearest n d (n / d)
+  half-lower h = omega (arith, division)
+
+  pub half-upper : 2 * (n % d) ≡ d → Nearest n d (n / d + 1)
+  half-upper h = omega (arith, division)
+
+  pub nearest-least : (r : ℕ) → Nearest n d r → n / d ≤ r
+  nearest-least r h = by-contra (n / d) r (λ l. absurd (omega (arith, division, left-over, h, some, mul-le-mul-right d l)))
+
+  pub nearest-most : (r : ℕ) → Nearest n d r → r ≤ n / d + 1
+  nearest-most r h = by-contra r (n / d + 1) (λ l. absurd (omega (arith, division, left-over, h, some, mul-le-mul-right d l)))
+
+  -- but at an exact half there is one nearest
+  pub nearest-one : (r s : ℕ) → Nearest n d r → Nearest n d s → (2 * (n % d) ≡ d → ⊥) → r ≤ s
+  nearest-one r s h k never =
+      by-contra r s (λ l. absurd (never (omega (arith, division, left-over, nearest-least s k, nearest-most r h, h, k, mul-le-mul-right d l, mul-le-mul-right d (nearest-least s k), mul-le-mul-right d (nearest-most r h)))))
+
   -- ---- the tests as the code makes them: the remainder against what it lacks of d
 
   pub over-fits : n % d ≤ d
@@ -114,7 +131,7 @@ module _ (n d : ℕ) (some : 0 < d) where
 
   -- past a half d is at least 2, so the quotient leaves room for one more
   pub room : d - n % d ≤ n % d → n / d + 1 ≤ n
-  room h = omega (arith, whole, left-over, mul-le-mul-left {m = 2} {n = d} (n / d) (omega (arith, left-over)))
+  room h = omega (arith, division, left-over, mul-le-mul-left {m = 2} {n = d} (n / d) (omega (arith, left-over)))
 
   pub up-below-half : n % d < d - n % d → n / d ≡ halfUp n d
   unfolding halfUp
@@ -132,9 +149,15 @@ module _ (n d : ℕ) (some : 0 < d) where
   unfolding halfEven
   even-above-half h = simp (le-ltb (2 * (n % d)) d (omega (arith, left-over)), lt-ltb d (2 * (n % d)) (omega (arith, left-over)))
 
-  pub even-at-half : d - n % d ≤ n % d → n % d ≤ d - n % d → n / d + n / d % 2 ≡ halfEven n d
+  at-half : d - n % d ≤ n % d → n % d ≤ d - n % d → n / d + n / d % 2 ≡ halfEven n d
   unfolding halfEven
-  even-at-half h k = simp (le-ltb (2 * (n % d)) d (omega (arith, left-over)), le-ltb d (2 * (n % d)) (omega (arith, left-over)))
+  at-half h k = simp (le-ltb (2 * (n % d)) d (omega (arith, left-over)), le-ltb d (2 * (n % d)) (omega (arith, left-over)))
+
+  pub even-at-half : d - n % d ≤ n % d → n % d ≤ d - n % d → n / d % 2 ≡ 0 → n / d ≡ halfEven n d
+  even-at-half h k even = omega (arith, at-half h k)
+
+  pub odd-at-half : d - n % d ≤ n % d → n % d ≤ d - n % d → (n / d % 2 ≡ 0 → ⊥) → n / d + 1 ≡ halfEven n d
+  odd-at-half h k odd = omega (arith, at-half h k)
 
 -- a whole quotient is itself
 pub halfEven-whole : (k d : ℕ) → 0 < d → halfEven (k * d) d ≡ k

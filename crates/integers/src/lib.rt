@@ -74,5 +74,9 @@ pub fn nearest_even(n: u64, d: u64) -> u64
     if d - over < over {
         return quotient + 1;
     }
-    quotient + quotient % 2
+    if quotient % 2 == 0 {
+        quotient
+    } else {
+        quotient + 1
+    }
 }

@@ -16,7 +16,7 @@ unfoldable pub inverseQuotient : ℤ → ℕ → ℤ
 inverseQuotient q s = nearestAway (q *ℤ pos s) 100
 
 -- q is a scaled channel 2, s lies within ratio limits of 1..9999
-pub record Ratio (q : ℤ) (s : ℕ) : Type 0 where
+pub record RatioRange (q : ℤ) (s : ℕ) : Type 0 where
   pub q-most : natAbs q ≤ 9999
   pub s-some : 1 ≤ s
   pub s-most : s ≤ 9999
@@ -37,13 +37,13 @@ away-size : (z : ℤ) (d : ℕ) → natAbs (nearestAway z d) ≡ halfUp (natAbs 
 unfolding nearestAway
 away-size z d = natAbs-fromSign (isNegative z) (halfUp (natAbs z) d)
 
-pub ratio-size : (q : ℤ) (s : ℕ) → Ratio q s → natAbs (ratioQuotient q s) ≤ 1000000
+pub ratio-size : (q : ℤ) (s : ℕ) → RatioRange q s → natAbs (ratioQuotient q s) ≤ 1000000
 unfolding ratioQuotient
 ratio-size q s h =
     rw (away-size, natAbs-product)
     (omega (arith, halfUp-most (100 * natAbs q) s (h .s-some)))
 
-pub inverse-size : (q : ℤ) (s : ℕ) → Ratio q s → natAbs (inverseQuotient q s) ≤ 1000000
+pub inverse-size : (q : ℤ) (s : ℕ) → RatioRange q s → natAbs (inverseQuotient q s) ≤ 1000000
 unfolding inverseQuotient
 inverse-size q s h =
     rw (away-size, natAbs-product)

@@ -22,7 +22,7 @@ pub record Greatest (n r : ℕ) : Type 0 where
   pub fits : r * r ≤ n
   pub greatest : (k : ℕ) → k * k ≤ n → k ≤ r
 
--- a number is past its root only if its square is past
+-- squares keep order
 pub squares : (a b : ℕ) → a ≤ b → a * a ≤ b * b
 squares a b h = mul-le-mul h h
 

@@ -13,14 +13,14 @@ unfoldable pub scaled : ℤ → ℤ → ℕ → ℤ
 scaled low high sample = low +ℤ pos (halfUp (sample * natAbs (high -ℤ low)) 10000)
 
 -- the ranges of the parameter table (1H to 3L: -9999..9999, L < H) and of a sample (0..10000)
-pub record Channel (low high : ℤ) (sample : ℕ) : Type 0 where
+pub record ChannelRange (low high : ℤ) (sample : ℕ) : Type 0 where
   pub least : negℤ (pos 9999) ≤ℤ low
   pub order : low <ℤ high
   pub most : high ≤ℤ pos 9999
   pub sampled : sample ≤ 10000
 
 -- no sample is scaled to more than the whole span
-pub share-most : {low high : ℤ} {sample : ℕ} → Channel low high sample → halfUp (sample * natAbs (high -ℤ low)) 10000 ≤ natAbs (high -ℤ low)
+pub share-most : {low high : ℤ} {sample : ℕ} → ChannelRange low high sample → halfUp (sample * natAbs (high -ℤ low)) 10000 ≤ natAbs (high -ℤ low)
 share-most {low} {high} {sample} c =
     let span = natAbs (high -ℤ low) in
     omega (arith, halfUp-nearest (sample * span) 10000 (omega arith), mul-le-mul-right span (c .sampled))
@@ -30,7 +30,7 @@ pub record Within (low high x : ℤ) : Type 0 where
   pub not-below : low ≤ℤ x
   pub not-above : x ≤ℤ high
 
-pub scaled-within : {low high : ℤ} {sample : ℕ} → Channel low high sample → Within low high (scaled low high sample)
+pub scaled-within : {low high : ℤ} {sample : ℕ} → ChannelRange low high sample → Within low high (scaled low high sample)
 unfolding scaled
 scaled-within {low} {high} {sample} c =
     let part = halfUp (sample * natAbs (high -ℤ low)) 10000 in

@@ -3,13 +3,13 @@ ghost use mathlib.Core.Path.{_≡_};
 ghost use Prim.Native.Nat.{_≤_};
 ghost use Rattle.integers.specs.Rounding.{halfUp};
 ghost use Rattle.integers.specs.Sign.{fromSign, isNegative};
-ghost use Rattle.scaling.specs.Scale.{scaled, Channel};
+ghost use Rattle.scaling.specs.Scale.{scaled, ChannelRange};
 ghost use Rattle.scaling.specs.Root.{rootOf};
-ghost use Rattle.scaling.specs.Ratio.{ratioQuotient, inverseQuotient, Ratio};
+ghost use Rattle.scaling.specs.Ratio.{ratioQuotient, inverseQuotient, RatioRange};
 
 // The sample scaled to low..high. The contract rules out a half that goes down and a quotient that is cut.
 pub fn scale(low: i64, high: i64, sample: u16) -> i64
-    requires { ⌜ Channel low high sample ⌝ }
+    requires { ⌜ ChannelRange low high sample ⌝ }
     ensures { λ r. ⌜ r ≡ scaled low high sample ⌝ }
 {
     let span = integers::magnitude(high - low);
@@ -47,7 +47,7 @@ fn with_sign(q: i64, n: u64, d: u64) -> i64
 
 // 100 × q / s, nearest, halves away from zero. The contract rules out a half toward zero and one that goes up below zero.
 pub fn ratio(q: i64, s: u64) -> i64
-    requires { ⌜ Ratio q s ⌝ }
+    requires { ⌜ RatioRange q s ⌝ }
     ensures { λ r. ⌜ r ≡ ratioQuotient q s ⌝ }
 {
     with_sign(q, 100 * integers::magnitude(q), s)
@@ -55,7 +55,7 @@ pub fn ratio(q: i64, s: u64) -> i64
 
 // q × s / 100, nearest, halves away from zero: the quotient with S2.3 ON.
 pub fn inverse_ratio(q: i64, s: u64) -> i64
-    requires { ⌜ Ratio q s ⌝ }
+    requires { ⌜ RatioRange q s ⌝ }
     ensures { λ r. ⌜ r ≡ inverseQuotient q s ⌝ }
 {
     with_sign(q, integers::magnitude(q) * s, 100)

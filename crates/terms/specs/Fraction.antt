@@ -1,5 +1,4 @@
 -- Fractions of two whole numbers, in units of the output, and the stored whole number of 1/65,536 units beside them.
--- Assumes nothing.
 use mathlib.Core.Bool.{cond}
 use Prim.Native.Nat.{ℕ, _*_, _<_}
 use lib.IntN.{ℤ, pos, _+ℤ_, _*ℤ_}

@@ -1,5 +1,4 @@
 -- The stored term by sign and magnitude, as 64 bits can reckon it; what its arguments' ranges come to; and that it is near its exact term.
--- Assumes nothing.
 use mathlib.Core.Path.{_≡_, refl, sym, ap, _∙_, subst}
 use mathlib.Core.Bool.{Bool, true, false, not, cond}
 use Prim.Native.Nat.{ℕ, _+_, _*_, _≤_, _<_, min}
@@ -17,7 +16,7 @@ use Rattle.integers.specs.Sign.{fromSign, isNegative, fromSign-times, natAbs-fr
 use Rattle.terms.specs.Fraction.{Fraction, Positive, whole, atLeast, atMost, limited, stored, storedUnits}
 use Rattle.terms.specs.Near.{Near}
 use Rattle.terms.specs.NearLaws.{stored-near, limited-positive}
-use Rattle.terms.specs.Terms.{limitedTerm, storedTerm, proportionalTerm, integralTerm, derivativeTerm, scanNumerator, scanDenominator, Tuned}
+use Rattle.terms.specs.Terms.{limitedTerm, storedTerm, proportionalTerm, integralTerm, derivativeTerm, scanNumerator, scanDenominator, TuningRange}
 use Rattle.terms.specs.declared.Tuning.{Tuning}
 
 abbrev pub over : ℤ → ℕ → Fraction
@@ -107,7 +106,7 @@ term-size f some =
 
 -- ---- what the arguments' ranges come to
 
-module _ (t : Tuning) (tuned : Tuned t) where
+module _ (t : Tuning) (tuned : TuningRange t) where
   pub band-some : 1 ≤ t .xp * t .span
   band-some = one-le-mul (tuned .xp-some) (tuned .span-some)
 
@@ -134,42 +133,42 @@ pub proportional-parts : (t : Tuning) (change : ℤ) → over (fromSign (isNegat
 unfolding proportionalTerm
 proportional-parts t change = rw times-is
 
-pub integral-none : (t : Tuning) (error : ℤ) → t .ti ≡ 0 → pos 0 ≡ storedTerm (integralTerm t error)
+pub integral-none : (t : Tuning) (c : ℤ) → t .ti ≡ 0 → pos 0 ≡ storedTerm (integralTerm t c)
 unfolding integralTerm storedTerm limitedTerm limited atMost atLeast whole stored storedUnits nearestEven halfEven
-integral-none t error none = simp none
+integral-none t c none = simp none
 
-pub integral-parts : (t : Tuning) (error : ℤ) → (t .ti ≡ 0 → ⊥) → over (fromSign (isNegative error) (10000000 * natAbs error * scanNumerator t)) (t .xp * t .span * scanDenominator t * t .ti) ≡ integralTerm t error
+pub integral-parts : (t : Tuning) (c : ℤ) → (t .ti ≡ 0 → ⊥) → over (fromSign (isNegative c) (10000000 * natAbs c * scanNumerator t)) (t .xp * t .span * scanDenominator t * t .ti) ≡ integralTerm t c
 unfolding integralTerm
-integral-parts t error some = simp (ne-eqb (t .ti) 0 some) (rw (times-is, fromSign-times))
+integral-parts t c some = simp (ne-eqb (t .ti) 0 some) (rw (times-is, fromSign-times))
 
 -- whether a term is below zero whose sign is turned unless it is kept
 abbrev pub turned : Bool → Bool → Bool
 turned keep minus = cond keep minus (not minus)
 
-turn : (keep minus : Bool) (m : ℕ) → fromSign (turned keep minus) m ≡ cond keep (fromSign minus m) (negℤ (fromSign minus m))
-turn true minus m = refl
-turn false minus m = sym (negate-fromSign minus m)
+turned-sign : (keep minus : Bool) (m : ℕ) → fromSign (turned keep minus) m ≡ cond keep (fromSign minus m) (negℤ (fromSign minus m))
+turned-sign true minus m = refl
+turned-sign false minus m = sym (negate-fromSign minus m)
 
-pub derivative-parts : (t : Tuning) (difference : ℤ) → over (fromSign (turned (t .inverse) (isNegative difference)) (10000000 * natAbs difference * scanDenominator t * t .td)) (scanNumerator t * (t .xp * t .span)) ≡ derivativeTerm t difference
+pub derivative-parts : (t : Tuning) (d : ℤ) → over (fromSign (turned (t .inverted) (isNegative d)) (10000000 * natAbs d * scanDenominator t * t .td)) (scanNumerator t * (t .xp * t .span)) ≡ derivativeTerm t d
 unfolding derivativeTerm
-derivative-parts t difference = rw (turn, times-is, fromSign-times, fromSign-times)
+derivative-parts t d = rw (turned-sign, times-is, fromSign-times, fromSign-times)
 
 -- ---- every exact term has a positive denominator, so `term-near` speaks of it
 
-module _ (t : Tuning) (tuned : Tuned t) where
+module _ (t : Tuning) (tuned : TuningRange t) where
   pub proportional-positive : (change : ℤ) → Positive (proportionalTerm t change)
   unfolding proportionalTerm
   proportional-positive change = band-some t tuned
 
-  pub integral-positive : (error : ℤ) → Positive (integralTerm t error)
+  pub integral-positive : (c : ℤ) → Positive (integralTerm t c)
   unfolding integralTerm whole
-  integral-positive error = go (eqb (t .ti) 0) refl
+  integral-positive c = go (eqb (t .ti) 0) refl
     where
-      go : (none : Bool) → eqb (t .ti) 0 ≡ none → Positive (cond none (whole (pos 0)) (over (pos 10000000 *ℤ error *ℤ pos (scanNumerator t)) (t .xp * t .span * scanDenominator t * t .ti)))
+      go : (none : Bool) → eqb (t .ti) 0 ≡ none → Positive (cond none (whole (pos 0)) (over (pos 10000000 *ℤ c *ℤ pos (scanNumerator t)) (t .xp * t .span * scanDenominator t * t .ti)))
       go true e = omega arith
       go false e =
           one-le-mul (one-le-mul (band-some t tuned) (scan-denominator-range t tuned .0)) (omega (arith, eqb-false (t .ti) 0 e))
 
-  pub derivative-positive : (difference : ℤ) → Positive (derivativeTerm t difference)
+  pub derivative-positive : (d : ℤ) → Positive (derivativeTerm t d)
   unfolding derivativeTerm
-  derivative-positive difference = one-le-mul (scan-numerator-range t tuned .0) (band-some t tuned)
+  derivative-positive d = one-le-mul (scan-numerator-range t tuned .0) (band-some t tuned)

@@ -1,4 +1,4 @@
--- Document 01, section Terms: the three exact terms, in units, and what is stored of each.
+-- Document 01, section Terms: the three exact terms, in units, and what is stored of each. `Tuning` is the struct of src/lib.rt.
 use mathlib.Core.Bool.{Bool, cond}
 use Prim.Native.Nat.{ℕ, _*_, _≤_}
 use lib.Dec.{eqb}
@@ -19,18 +19,18 @@ scanDenominator t = cond (t .minutes) 500 25
 
 -- "Integral: 10,000,000 × c × 9 / (XP × W × 25 × TI), with S2.8 ON 3 and 500 for 9 and 25; 0 if TI is 0."
 unfoldable pub integralTerm : Tuning → ℤ → Fraction
-integralTerm t error =
+integralTerm t c =
     cond (eqb (t .ti) 0) (whole (pos 0))
     record {
-      numerator = pos 10000000 *ℤ error *ℤ pos (scanNumerator t);
+      numerator = pos 10000000 *ℤ c *ℤ pos (scanNumerator t);
       denominator = t .xp * t .span * scanDenominator t * t .ti;
     }
 
 -- "Derivative: -10,000,000 × D × 25 × TD / (9 × XP × W), with S2.8 ON 500 and 3 for 25 and 9; plus sign with S2.4 ON."
 unfoldable pub derivativeTerm : Tuning → ℤ → Fraction
-derivativeTerm t difference =
-    let product = pos 10000000 *ℤ difference *ℤ pos (scanDenominator t) *ℤ pos (t .td) in
-    record { numerator = cond (t .inverse) product (negℤ product); denominator = scanNumerator t * (t .xp * t .span) }
+derivativeTerm t d =
+    let product = pos 10000000 *ℤ d *ℤ pos (scanDenominator t) *ℤ pos (t .td) in
+    record { numerator = cond (t .inverted) product (negℤ product); denominator = scanNumerator t * (t .xp * t .span) }
 
 -- "Each exact term is limited to ±10,000"
 unfoldable pub limitedTerm : Fraction → Fraction
@@ -42,7 +42,7 @@ unfoldable pub storedTerm : Fraction → ℤ
 storedTerm term = stored (limitedTerm term)
 
 -- the ranges of the parameter table for XP, TI and TD, and of W = 1H - 1L
-pub record Tuned (t : Tuning) : Type 0 where
+pub record TuningRange (t : Tuning) : Type 0 where
   pub xp-some : 1 ≤ t .xp
   pub xp-most : t .xp ≤ 9999
   pub span-some : 1 ≤ t .span

@@ -3,22 +3,22 @@ ghost use mathlib.Core.Path.{_≡_};
 ghost use Prim.Native.Nat.{_≤_, _*_};
 ghost use lib.IntN.{natAbs};
 ghost use Rattle.integers.specs.Sign.{fromSign};
-ghost use Rattle.terms.specs.Terms.{storedTerm, proportionalTerm, integralTerm, derivativeTerm, scanNumerator, scanDenominator, Tuned};
+ghost use Rattle.terms.specs.Terms.{storedTerm, proportionalTerm, integralTerm, derivativeTerm, scanNumerator, scanDenominator, TuningRange};
 ghost use Rattle.terms.specs.TermLaws.{over, turned, Storable};
 
-// What the terms are reckoned with: XP; W, which is 1H - 1L; TI; TD; S2.8 ON; S2.4 ON.
+// What the terms are reckoned with: XP; W = 1H - 1L, which is above zero; TI; TD; S2.8 ON, minutes; S2.4 ON, inverse output.
 pub struct Tuning {
     pub xp: u64,
     pub span: u64,
     pub ti: u64,
     pub td: u64,
     pub minutes: bool,
-    pub inverse: bool,
+    pub inverted: bool,
 }
 
 // The stored term of the fraction numerator / denominator, or of its negative. The fraction is limited by its whole part first, since
 // 65,536 times an unlimited numerator need not fit 64 bits.
-fn stored(minus: bool, numerator: u64, denominator: u64) -> i64
+fn stored_term(minus: bool, numerator: u64, denominator: u64) -> i64
     requires { ⌜ Storable numerator denominator ⌝ }
     ensures { λ r. ⌜ r ≡ storedTerm (over (fromSign minus numerator) denominator) ⌝ }
 {
@@ -31,7 +31,7 @@ fn stored(minus: bool, numerator: u64, denominator: u64) -> i64
 
 // XP × W
 fn band(t: Tuning) -> u64
-    requires { ⌜ Tuned t ⌝ }
+    requires { ⌜ TuningRange t ⌝ }
     ensures { λ r. ⌜ r ≡ t .xp * t .span ⌝ }
 {
     t.xp * t.span
@@ -58,35 +58,36 @@ fn turn(keep: bool, minus: bool) -> bool
     if keep { minus } else { !minus }
 }
 
-// The proportional term of a change c - c1.
+// The proportional term of a change c - c1. PV and SP lie in -9999..9999, so c in -19998..19998 and the change in -39996..39996.
+// The contract rules out a term of the wrong sign, one that is cut, and one whose limit is off.
 pub fn proportional(t: Tuning, change: i64) -> i64
-    requires { ⌜ Tuned t × (natAbs change ≤ 39996) ⌝ }
+    requires { ⌜ TuningRange t × (natAbs change ≤ 39996) ⌝ }
     ensures { λ r. ⌜ r ≡ storedTerm (proportionalTerm t change) ⌝ }
 {
     let numerator = 10000000 * integers::magnitude(change);
-    stored(integers::negative(change), numerator, band(t))
+    stored_term(integers::negative(change), numerator, band(t))
 }
 
-// The integral term of an error c.
-pub fn integral(t: Tuning, error: i64) -> i64
-    requires { ⌜ Tuned t × (natAbs error ≤ 19998) ⌝ }
-    ensures { λ r. ⌜ r ≡ storedTerm (integralTerm t error) ⌝ }
+// The integral term of c, which is SP - PV, or PV - SP with S2.4 ON: the other way round than ER.
+pub fn integral(t: Tuning, c: i64) -> i64
+    requires { ⌜ TuningRange t × (natAbs c ≤ 19998) ⌝ }
+    ensures { λ r. ⌜ r ≡ storedTerm (integralTerm t c) ⌝ }
 {
     if t.ti == 0 {
         return 0;
     }
-    let numerator = 10000000 * integers::magnitude(error) * scan_numerator(t);
+    let numerator = 10000000 * integers::magnitude(c) * scan_numerator(t);
     let denominator = band(t) * scan_denominator(t) * t.ti;
-    stored(integers::negative(error), numerator, denominator)
+    stored_term(integers::negative(c), numerator, denominator)
 }
 
-// The derivative term of a second difference D, PV - 2 × previous PV + the one before. Its sign is turned unless S2.4 is ON.
-pub fn derivative(t: Tuning, difference: i64) -> i64
-    requires { ⌜ Tuned t × (natAbs difference ≤ 39996) ⌝ }
-    ensures { λ r. ⌜ r ≡ storedTerm (derivativeTerm t difference) ⌝ }
+// The derivative term of D, which is PV - 2 × previous PV + the one before and so lies in -39996..39996. Its sign is turned unless S2.4 is ON.
+pub fn derivative(t: Tuning, d: i64) -> i64
+    requires { ⌜ TuningRange t × (natAbs d ≤ 39996) ⌝ }
+    ensures { λ r. ⌜ r ≡ storedTerm (derivativeTerm t d) ⌝ }
 {
-    let numerator = 10000000 * integers::magnitude(difference) * scan_denominator(t) * t.td;
+    let numerator = 10000000 * integers::magnitude(d) * scan_denominator(t) * t.td;
     let denominator = scan_numerator(t) * band(t);
-    let minus = turn(t.inverse, integers::negative(difference));
-    stored(minus, numerator, denominator)
+    let minus = turn(t.inverted, integers::negative(d));
+    stored_term(minus, numerator, denominator)
 }

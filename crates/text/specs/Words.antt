@@ -9,11 +9,11 @@ use lib.ListN.{length, drop, getD, length-drop}
 use lib.Seq.{drop-cons}
 use Rattle.text.specs.declared.Span.{Span}
 
--- whether a byte is a blank, or is none where none is looked for
+-- whether a byte is a blank, or where those are looked for that aren't blanks, isn't one
 unfoldable pub fitsBlank : Bool → ℕ → Bool
 fitsBlank blank b = cond (eqb b 32) blank (not blank)
 
--- how many bytes at the front are blanks, or are none
+-- how many bytes at the front are blanks, or aren't blanks
 unfoldable pub leading : Bool → List ℕ → ℕ
 leading blank [] = 0
 leading blank (b ∷ bs) = cond (fitsBlank blank b) (suc (leading blank bs)) 0

@@ -23,7 +23,7 @@ fn fits_blank(blank: bool, b: u8) -> bool
     if b == b' ' { blank } else { !blank }
 }
 
-// The end of the blanks that stand at a place, or of the bytes that are none.
+// The end of the blanks that stand at a place, or of the bytes that aren't blanks.
 fn run_end(line: &[u8], at: usize, blank: bool) -> usize
     requires { ⌜ at ≤ length (now line) ⌝ }
     ensures { λ r. ⌜ r ≡ at + leading blank (drop at (now (line .entry))) ⌝ }

@@ -1,6 +1,6 @@
 -- Document 01's figures worked by hand hold of the rules: each side of each equation computes to the same number.
--- Assumes nothing.
 use mathlib.Core.Path.{refl}
+use lib.Dec.{lit<}
 use Rattle.integers.specs.Rounding.{halfUp, halfEven, nearestAway, nearestEven}
 use Rattle.scaling.specs.Ratio.{ratioQuotient, inverseQuotient}
 use Rattle.scaling.specs.Scale.{scaled}
@@ -14,4 +14,12 @@ a and b = (a, b)
 
 pub worked : AllHold figures
 unfolding figures proportionalTerm integralTerm derivativeTerm limitedTerm storedTerm whole atLeast atMost limited stored storedUnits nearestEven nearestAway halfEven halfUp scaled ratioQuotient inverseQuotient
-worked = refl and refl and refl and refl and refl and refl and refl and refl and refl and refl and refl and refl and tt
+worked =
+    (lit< tt, lit< tt, refl) and refl and
+    (lit< tt, lit< tt, refl) and refl and
+    refl and
+    (lit< tt, lit< tt, refl) and refl and
+    refl and refl and
+    refl and refl and
+    refl and
+    tt

@@ -6,7 +6,7 @@ use Prim.Native.Nat.{ℕ}
 use lib.IntN.{ℤ, pos, negℤ, _*ℤ_}
 use Rattle.scaling.specs.Ratio.{ratioQuotient, inverseQuotient}
 use Rattle.scaling.specs.Scale.{scaled}
-use Rattle.terms.specs.Fraction.{Fraction, whole}
+use Rattle.terms.specs.Fraction.{Fraction, Positive, whole}
 use Rattle.terms.specs.Terms.{proportionalTerm, integralTerm, derivativeTerm, limitedTerm, storedTerm}
 use Rattle.terms.specs.declared.Tuning.{Tuning}
 
@@ -17,11 +17,11 @@ AllHold (figure ∷ figures) = figure × AllHold figures
 
 -- two fractions of one value
 abbrev pub Equal : Fraction → Fraction → Type 0
-Equal f g = f .numerator *ℤ pos (g .denominator) ≡ g .numerator *ℤ pos (f .denominator)
+Equal f g = Positive f × Positive g × (f .numerator *ℤ pos (g .denominator) ≡ g .numerator *ℤ pos (f .denominator))
 
 -- "With XP 1000, W 1000, S2.8 and S2.4 OFF", and TI and TD as each figure has them
 abbrev pub example : ℕ → ℕ → Tuning
-example ti td = record { xp = 1000; span = 1000; ti = ti; td = td; minutes = false; inverse = false }
+example ti td = record { xp = 1000; span = 1000; ti = ti; td = td; minutes = false; inverted = false }
 
 unfoldable pub figures : List (Type 0)
 figures =

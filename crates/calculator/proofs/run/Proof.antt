@@ -1,5 +1,4 @@
 -- `calculator::run` is safe and ends.
--- Assumes nothing.
 use mathlib.Core.Path.{_≡_}
 use lib.ListN.{length}
 use borrow.Author.Needs.{needs}

@@ -1,5 +1,4 @@
 -- `integers::at_least` meets its contract.
--- Assumes nothing.
 use Rattle.integers.specs.Limit.{atLeast}
 use Rattle.integers.specs.Machine.{choice-taken, choice-left}
 use Rattle.integers.proofs.at_least.Statement.{statement}

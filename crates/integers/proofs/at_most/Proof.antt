@@ -1,5 +1,4 @@
 -- `integers::at_most` meets its contract.
--- Assumes nothing.
 use Rattle.integers.specs.Limit.{atMost}
 use Rattle.integers.specs.Machine.{choice-taken, choice-left}
 use Rattle.integers.proofs.at_most.Statement.{statement}

@@ -1,8 +1,7 @@
 -- `integers::nearest_even` meets its contract.
--- Assumes nothing.
 use native.Mathlib.Omega.{arith}
 use borrow.Author.Needs.{needs}
-use Rattle.integers.specs.Rounding.{over-fits, room, even-below-half, even-above-half, even-at-half}
+use Rattle.integers.specs.Rounding.{over-fits, room, even-below-half, even-above-half, even-at-half, odd-at-half}
 use Rattle.integers.proofs.nearest_even.Statement.{statement}
 use Rattle.integers.proofs.nearest_even.Tie as tie
 
@@ -27,17 +26,24 @@ add-result c =
     omega (arith, room (s .args .n) (s .args .d) (s .pre) (c .before .if1 .left))
 
 returns-2 : tie.Need-returns-2
-returns-2 c = let s = c .before .before in even-above-half (s .args .n) (s .args .d) (s .pre) (c .if2 .taken)
+returns-2 c =
+    let s = c .before .before in
+    even-above-half (s .args .n) (s .args .d) (s .pre) (c .if2 .taken)
 
 add-result-2 : tie.Need-add-result-2
 add-result-2 c =
-    let s = c .before .before in
-    omega (arith, room (s .args .n) (s .args .d) (s .pre) (c .before .if1 .left))
+    let s = c .before .before .before in
+    omega (arith, room (s .args .n) (s .args .d) (s .pre) (c .before .before .if1 .left))
 
 returns-3 : tie.Need-returns-3
 returns-3 c =
-    let s = c .before .before in
-    even-at-half (s .args .n) (s .args .d) (s .pre) (c .before .if1 .left) (c .if2 .left)
+    let s = c .before .before .before in
+    even-at-half (s .args .n) (s .args .d) (s .pre) (c .before .before .if1 .left) (c .before .if2 .left) (c .if3 .taken)
+
+returns-4 : tie.Need-returns-4
+returns-4 c =
+    let s = c .before .before .before in
+    odd-at-half (s .args .n) (s .args .d) (s .pre) (c .before .before .if1 .left) (c .before .if2 .left) (c .if3 .left)
 
 pub nearest-even-spec : {M : Type 1} → statement M
 nearest-even-spec =
@@ -51,4 +57,5 @@ nearest-even-spec =
     add-result
     returns-2
     add-result-2
-    returns-3)
+    returns-3
+    returns-4)

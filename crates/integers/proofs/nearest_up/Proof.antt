@@ -1,5 +1,4 @@
 -- `integers::nearest_up` meets its contract.
--- Assumes nothing.
 use native.Mathlib.Omega.{arith}
 use borrow.Author.Needs.{needs}
 use Rattle.integers.specs.Rounding.{over-fits, room, up-below-half, up-from-half}

@@ -1,5 +1,4 @@
 -- `integers::signed` meets its contract.
--- Assumes nothing.
 use native.Mathlib.Omega.{arith}
 use lib.IntN.{pos, _-ℤ_, +ℤ-idl}
 use mir.Facts.{toZ-ofZ}

@@ -1,5 +1,4 @@
 -- `scaling::root` meets its contract. The root is at least `found` and below `beyond`, and each turn halves what lies between.
--- Assumes nothing.
 use Prim.Native.Nat.{_+_, _-_, _*_, _/_, _≤_, _<_}
 use native.Mathlib.Omega.{arith}
 use Rattle.scaling.specs.Root.{squares, root-from, root-is, root-same}

@@ -1,5 +1,4 @@
 -- `terms::band` meets its contract.
--- Assumes nothing.
 use native.Mathlib.Omega.{arith}
 use borrow.Author.Needs.{needs}
 use Rattle.terms.specs.TermLaws.{band-most}

@@ -1,5 +1,4 @@
 -- `terms::derivative` meets its contract.
--- Assumes nothing.
 use mathlib.Core.Path.{_≡_, ap, _∙_}
 use Prim.Native.Nat.{_*_, _≤_}
 use native.Mathlib.Nat.{one-le-mul}
@@ -18,8 +17,8 @@ use Rattle.terms.proofs.derivative.Tie as tie
 magnitude-requires : tie.Need-magnitude-requires
 magnitude-requires c κs = search needs
 
-size-is : (c : tie.After-magnitude) → c .magnitude .result ≡ natAbs (c .before .args .difference)
-size-is c = simp (toZ-ofZ, c .before .fits .difference) at (c .magnitude .ensures)
+size-is : (c : tie.After-magnitude) → c .magnitude .result ≡ natAbs (c .before .args .d)
+size-is c = simp (toZ-ofZ, c .before .fits .d) at (c .magnitude .ensures)
 
 mul-numerator : tie.Need-mul-numerator
 mul-numerator c = omega (arith, size-is c)
@@ -71,17 +70,17 @@ negative-requires c κs = search needs
 turn-requires : tie.Need-turn-requires
 turn-requires c κs = search needs
 
-stored-requires : tie.Need-stored-requires
-stored-requires c κs =
+stored-term-requires : tie.Need-stored-term-requires
+stored-term-requires c κs =
     record { some = denominator-some (c .before .before); small = omega (arith, denominator-most (c .before .before)) }
 
 returns : tie.Need-returns
 returns c =
     let d = c .before .before .before in
     let s = d .before .before .before .before .before in
-    back w64 _ (c .stored .ok) ∙ c .stored .ensures ∙
-    simp (c .before .turn .ensures, c .before .before .negative .ensures, d .band .ensures, d .before .scan-numerator .ensures, d .before .before .before .scan-denominator .ensures, size-is (d .before .before .before .before), toZ-ofZ (s .fits .difference))
-    (ap storedTerm (derivative-parts (s .args .t) (s .args .difference)))
+    back w64 _ (c .stored-term .ok) ∙ c .stored-term .ensures ∙
+    simp (c .before .turn .ensures, c .before .before .negative .ensures, d .band .ensures, d .before .scan-numerator .ensures, d .before .before .before .scan-denominator .ensures, size-is (d .before .before .before .before), toZ-ofZ (s .fits .d))
+    (ap storedTerm (derivative-parts (s .args .t) (s .args .d)))
 
 pub derivative-spec : {M : Type 1} → statement M
 derivative-spec =
@@ -97,5 +96,5 @@ derivative-spec =
     mul-denominator
     negative-requires
     turn-requires
-    stored-requires
+    stored-term-requires
     returns)

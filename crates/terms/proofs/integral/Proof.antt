@@ -1,5 +1,4 @@
 -- `terms::integral` meets its contract.
--- Assumes nothing.
 use mathlib.Core.Path.{_≡_, ap, _∙_}
 use Prim.Native.Nat.{_*_, _≤_}
 use native.Mathlib.Nat.{one-le-mul}
@@ -16,13 +15,13 @@ use Rattle.terms.proofs.integral.Statement.{statement}
 use Rattle.terms.proofs.integral.Tie as tie
 
 returns : tie.Need-returns
-returns c = integral-none (c .before .before .args .t) (c .before .before .args .error) (c .if1 .taken)
+returns c = integral-none (c .before .before .args .t) (c .before .before .args .c) (c .if1 .taken)
 
 magnitude-requires : tie.Need-magnitude-requires
 magnitude-requires c κs = search needs
 
-size-is : (c : tie.After-magnitude) → c .magnitude .result ≡ natAbs (c .before .before .before .args .error)
-size-is c = simp (toZ-ofZ, c .before .before .before .fits .error) at (c .magnitude .ensures)
+size-is : (c : tie.After-magnitude) → c .magnitude .result ≡ natAbs (c .before .before .before .args .c)
+size-is c = simp (toZ-ofZ, c .before .before .before .fits .c) at (c .magnitude .ensures)
 
 mul-numerator : tie.Need-mul-numerator
 mul-numerator c = omega (arith, size-is c)
@@ -65,8 +64,8 @@ mul-denominator-2 c = omega (arith, denominator-most (c .before))
 negative-requires : tie.Need-negative-requires
 negative-requires c κs = search needs
 
-stored-requires : tie.Need-stored-requires
-stored-requires c κs =
+stored-term-requires : tie.Need-stored-term-requires
+stored-term-requires c κs =
     let s = c .before .before .before .before .before .before .before .before in
     let ti-some : 1 ≤ s .args .t .ti = omega arith in
     let under-some : 1 ≤ c .before .before .scan-denominator .result = omega (arith, c .before .before .scan-denominator .ensures, scan-denominator-range (s .args .t) (s .pre .0)) in
@@ -77,9 +76,9 @@ returns-2 : tie.Need-returns-2
 returns-2 c =
     let d = c .before in
     let s = d .before .before .before .before .before .before .before .before in
-    back w64 _ (c .stored .ok) ∙ c .stored .ensures ∙
-    simp (d .negative .ensures, d .before .before .scan-denominator .ensures, d .before .before .before .band .ensures, d .before .before .before .before .scan-numerator .ensures, size-is (d .before .before .before .before .before), toZ-ofZ (s .fits .error))
-    (ap storedTerm (integral-parts (s .args .t) (s .args .error) (d .before .before .before .before .before .before .if1 .left)))
+    back w64 _ (c .stored-term .ok) ∙ c .stored-term .ensures ∙
+    simp (d .negative .ensures, d .before .before .scan-denominator .ensures, d .before .before .before .band .ensures, d .before .before .before .before .scan-numerator .ensures, size-is (d .before .before .before .before .before), toZ-ofZ (s .fits .c))
+    (ap storedTerm (integral-parts (s .args .t) (s .args .c) (d .before .before .before .before .before .before .if1 .left)))
 
 pub integral-spec : {M : Type 1} → statement M
 integral-spec =
@@ -95,5 +94,5 @@ integral-spec =
     mul-denominator
     mul-denominator-2
     negative-requires
-    stored-requires
+    stored-term-requires
     returns-2)

@@ -1,5 +1,4 @@
 -- `terms::proportional` meets its contract.
--- Assumes nothing.
 use mathlib.Core.Path.{_≡_, ap, _∙_}
 use native.Mathlib.Omega.{arith}
 use lib.IntN.{natAbs}
@@ -27,15 +26,15 @@ negative-requires c κs = search needs
 band-requires : tie.Need-band-requires
 band-requires c κs = search needs
 
-stored-requires : tie.Need-stored-requires
-stored-requires c κs =
+stored-term-requires : tie.Need-stored-term-requires
+stored-term-requires c κs =
     let s = c .before .before .before in
     omega (arith, size-is (c .before .before), c .band .ensures, band-some (s .args .t) (s .pre .0))
 
 returns : tie.Need-returns
 returns c =
     let s = c .before .before .before .before in
-    back w64 _ (c .stored .ok) ∙ c .stored .ensures ∙
+    back w64 _ (c .stored-term .ok) ∙ c .stored-term .ensures ∙
     simp (c .before .band .ensures, c .before .before .negative .ensures, size-is (c .before .before .before), toZ-ofZ (s .fits .change))
     (ap storedTerm (proportional-parts (s .args .t) (s .args .change)))
 
@@ -47,5 +46,5 @@ proportional-spec =
     mul-numerator
     negative-requires
     band-requires
-    stored-requires
+    stored-term-requires
     returns)

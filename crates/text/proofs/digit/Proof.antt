@@ -1,5 +1,4 @@
 -- `text::digit` meets its contract.
--- Assumes nothing.
 use native.Mathlib.Omega.{arith}
 use borrow.Author.Needs.{needs}
 use Rattle.text.specs.Numbers.{digit-range}

@@ -1,5 +1,4 @@
 -- `text::digits` meets its contract. Every byte passed is a digit, so what is left, read on from their value, is what the whole reads.
--- Assumes nothing.
 use mathlib.Core.Path.{_≡_, sym, ap, _∙_}
 use mathlib.Core.Bool.{true, false}
 use Prim.Native.Nat.{_+_, _-_, _*_, _^_, _≤_, _<_}

@@ -1,5 +1,4 @@
 -- `text::fits_blank` meets its contract.
--- Assumes nothing.
 use borrow.Author.Tests.{eq-eqb, ne-eqb}
 use Rattle.text.specs.Words.{fitsBlank}
 use Rattle.text.proofs.fits_blank.Statement.{statement}

@@ -1,5 +1,4 @@
 -- `text::is_digit` meets its contract.
--- Assumes nothing.
 use borrow.Author.Tests.{lt-ltb, le-ltb}
 use Rattle.text.specs.Numbers.{isDigit}
 use Rattle.text.proofs.is_digit.Statement.{statement}

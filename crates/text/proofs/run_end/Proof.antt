@@ -1,5 +1,4 @@
 -- `text::run_end` meets its contract. Every byte passed fits, so the run's end seen from here is the run's end seen from its start.
--- Assumes nothing.
 use mathlib.Core.Path.{_≡_, sym, _∙_}
 use mathlib.Core.Bool.{true, false}
 use Prim.Native.Nat.{_+_, _-_, _≤_}

@@ -1,5 +1,4 @@
 -- `text::word` meets its contract.
--- Assumes nothing.
 use mathlib.Core.Path.{_≡_, sym}
 use mathlib.Core.Bool.{true, false}
 use Prim.Native.Nat.{_≤_}

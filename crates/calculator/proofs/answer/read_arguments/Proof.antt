@@ -1,5 +1,4 @@
 -- `calculator::answer::read_arguments` is safe and ends: each turn takes one argument of at most six.
--- Assumes nothing.
 use Prim.Native.Nat.{_-_, _≤_}
 use lib.ListN.{length}
 use borrow.Author.Needs.{needs}

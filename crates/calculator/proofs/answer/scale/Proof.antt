@@ -1,5 +1,4 @@
 -- `calculator::answer::scale` is safe and meets what `scaling::scale` requires.
--- Assumes nothing.
 use native.Mathlib.Omega.{arith}
 use mir.Syntax.{w64}
 use mir.Val.{SFits}

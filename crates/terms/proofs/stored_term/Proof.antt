@@ -1,5 +1,4 @@
--- `terms::stored` meets its contract.
--- Assumes nothing.
+-- `terms::stored_term` meets its contract.
 use mathlib.Core.Path.{_≡_, ap, _∙_}
 use Prim.Native.Nat.{_*_, _≤_, _<_}
 use native.Mathlib.Nat.{le-div-iff-mul-le, div-lt-iff-lt-mul}
@@ -10,8 +9,8 @@ use Rattle.integers.specs.Machine.{back}
 use Rattle.integers.specs.Rounding.{halfEven-most}
 use Rattle.integers.specs.Sign.{fromSign}
 use Rattle.terms.specs.TermLaws.{term-limited, term-within}
-use Rattle.terms.proofs.stored.Statement.{statement}
-use Rattle.terms.proofs.stored.Tie as tie
+use Rattle.terms.proofs.stored_term.Statement.{statement}
+use Rattle.terms.proofs.stored_term.Tie as tie
 
 div-if1 : tie.Need-div-if1
 div-if1 c = search needs
@@ -47,8 +46,8 @@ returns-2 c =
     back w64 _ (c .signed2 .ok) ∙ c .signed2 .ensures ∙ ap (fromSign (s .args .minus)) (c .before .nearest-even .ensures) ∙
     term-within (s .args .numerator) (s .args .denominator) (s .args .minus) (s .pre .some) (omega (arith, within (c .before .before)))
 
-pub stored-spec : {M : Type 1} → statement M
-stored-spec =
+pub stored-term-spec : {M : Type 1} → statement M
+stored-term-spec =
     tie.close
     (tie.spec
     div-if1
