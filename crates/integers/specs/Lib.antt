@@ -4,4 +4,5 @@ pub mod Machine
 pub mod Sign
 pub mod Limit
 pub mod Rounding
+pub mod RoundingLaws
 pub mod Split

@@ -4,7 +4,7 @@ use mathlib.Core.Bool.{Bool, true, false, cond}
 use native.Mathlib.Omega.{arith}
 use lib.IntN.{ℤ}
 use lib.Signed.{ltZ, _≤ℤ_}
-use Rattle.integers.specs.Parts.{signed}
+use Rattle.integers.specs.Parts.{integers}
 
 unfoldable pub atLeast : ℤ → ℤ → ℤ
 atLeast low x = cond (ltZ x low) low x
@@ -26,7 +26,7 @@ by-test P a b x y f g = go (ltZ a b) refl
 
 pub atLeast-low : (low x : ℤ) → low ≤ℤ atLeast low x
 unfolding atLeast
-atLeast-low low x = by-test (λ r. low ≤ℤ r) x low low x (λ e. omega (arith, signed)) (λ e. omega (arith, signed))
+atLeast-low low x = by-test (λ r. low ≤ℤ r) x low low x (λ e. omega (arith, integers)) (λ e. omega (arith, integers))
 
 pub limited-low : (low high x : ℤ) → low ≤ℤ high → low ≤ℤ limited low high x
 unfolding limited atMost
@@ -35,11 +35,11 @@ limited-low low high x h = by-test (λ r. low ≤ℤ r) high (atLeast low x) hig
 pub limited-high : (low high x : ℤ) → limited low high x ≤ℤ high
 unfolding limited atMost
 limited-high low high x =
-    by-test (λ r. r ≤ℤ high) high (atLeast low x) high (atLeast low x) (λ e. omega (arith, signed)) (λ e. omega (arith, signed))
+    by-test (λ r. r ≤ℤ high) high (atLeast low x) high (atLeast low x) (λ e. omega (arith, integers)) (λ e. omega (arith, integers))
 
 -- a value within its limits is kept
 pub limited-same : (low high x : ℤ) → low ≤ℤ x → x ≤ℤ high → limited low high x ≡ x
 unfolding limited atMost atLeast
 limited-same low high x h k =
-    by-test (λ r. cond (ltZ high r) high r ≡ x) x low low x (λ e. absurd (omega (arith, signed)))
-    (λ e. by-test (λ r. r ≡ x) high x high x (λ f. omega (arith, signed)) (λ f. refl))
+    by-test (λ r. cond (ltZ high r) high r ≡ x) x low low x (λ e. absurd (omega (arith, integers)))
+    (λ e. by-test (λ r. r ≡ x) high x high x (λ f. omega (arith, integers)) (λ f. refl))

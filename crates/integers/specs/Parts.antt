@@ -1,12 +1,12 @@
 -- An integer read as two natural numbers, one of which is 0: how far it lies above zero, and how far below. `omega` reads natural numbers only;
--- with the rules of `signed` in its list it also reads and proves orders, equations and tests of integers.
+-- with the rules of `integers` in its list it also reads and proves orders, equations and tests of integers.
 use mathlib.Core.Path.{_≡_, refl, sym, ap, subst}
 use mathlib.Core.Bool.{Bool, true, false, not}
 use Prim.Native.Nat.{ℕ, suc, _+_, _*_, _≤_, _<_, min}
 use native.Mathlib.Omega.{arith}
 use lib.Dec.{T, leb→le, le→leb, ltb→lt, lt→ltb, nleb→lt}
 use lib.IntN.{ℤ, pos, negsuc, natAbs}
-use lib.Signed.{mag, nonNeg, ltZ, leZ, _≤ℤ_, _<ℤ_, clashℤ}
+use lib.Signed.{mag, nonNeg, ltZ, leZ, _≤ℤ_, _<ℤ_}
 use lib.Signed as Signed
 
 abbrev pub above : ℤ → ℕ
@@ -148,4 +148,4 @@ false-ltZ a b h = is-false (ltZ a b) (λ e. omega (arith, ltZ-true a b e))
 pub false-leZ : (a b : ℤ) → above b + below a < above a + below b → leZ a b ≡ false
 false-leZ a b h = is-false (leZ a b) (λ e. omega (arith, leZ-true a b e))
 
-pub ruleset signed = (from-nonnegative, from-at-least, from-at-most, from-at-least-minus, from-≤, from-<, from-≡, ltZ-true, ltZ-false, leZ-true, leZ-false, to-≤, to-<, to-≡, to-nonnegative, true-ltZ, false-ltZ, true-leZ, false-leZ)
+pub ruleset integers = (from-nonnegative, from-at-least, from-at-most, from-at-least-minus, from-≤, from-<, from-≡, ltZ-true, ltZ-false, leZ-true, leZ-false, to-≤, to-<, to-≡, to-nonnegative, true-ltZ, false-ltZ, true-leZ, false-leZ)

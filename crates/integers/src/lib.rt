@@ -2,12 +2,12 @@
 // The laws that let `omega` read integers, for the proofs of every crate above, are in specs/.
 ghost use mathlib.Core.Path.{_≡_};
 ghost use Prim.Native.Nat.{_<_};
-ghost use lib.IntN.{pos, natAbs};
+ghost use lib.IntN.{natAbs};
 ghost use Rattle.integers.specs.Sign.{fromSign, isNegative};
 ghost use Rattle.integers.specs.Limit.{atLeast, atMost, limited};
 ghost use Rattle.integers.specs.Rounding.{halfUp, halfEven};
 
-// Whether x lies below zero.
+// Whether x lies below zero. The contract rules out taking zero for negative.
 pub fn negative(x: i64) -> bool
     ensures { λ r. ⌜ r ≡ isNegative x ⌝ }
 {
@@ -15,6 +15,7 @@ pub fn negative(x: i64) -> bool
 }
 
 // |x|. That of the least i64 fits only the unsigned type: so x + 1 is negated, and the 1 is added there.
+// The contract rules out a magnitude that is wrong at the type's end.
 pub fn magnitude(x: i64) -> u64
     ensures { λ r. ⌜ r ≡ natAbs x ⌝ }
 {
@@ -25,7 +26,7 @@ pub fn magnitude(x: i64) -> u64
     }
 }
 
-// -m where minus is true, else m.
+// -m where minus is true, else m. The contract rules out a sign that is lost.
 pub fn signed(minus: bool, m: u64) -> i64
     requires { ⌜ m < 9223372036854775808 ⌝ }
     ensures { λ r. ⌜ r ≡ fromSign minus m ⌝ }
@@ -45,7 +46,7 @@ fn at_most(high: i64, value: i64) -> i64
     if high < value { high } else { value }
 }
 
-// The value, but low where it is below low, and high where it is above high.
+// The value, but low where it is below low, and high where it is above high. The contract rules out a limit that is off by one.
 pub fn limit(low: i64, high: i64, value: i64) -> i64
     ensures { λ r. ⌜ r ≡ limited low high value ⌝ }
 {
@@ -53,6 +54,7 @@ pub fn limit(low: i64, high: i64, value: i64) -> i64
 }
 
 // n / d to the nearest whole number, an exact half going up. Twice the remainder might not fit, so it is compared with what it lacks of d.
+// The contract rules out a quotient that is cut and a half that goes down.
 pub fn nearest_up(n: u64, d: u64) -> u64
     requires { ⌜ 0 < d ⌝ }
     ensures { λ r. ⌜ r ≡ halfUp n d ⌝ }
@@ -61,7 +63,8 @@ pub fn nearest_up(n: u64, d: u64) -> u64
     if over < d - over { n / d } else { n / d + 1 }
 }
 
-// n / d to the nearest whole number, an exact half going to the even neighbour.
+// n / d to the nearest whole number, an exact half going to the even neighbour. The contract rules out a quotient that is cut and a half that goes
+// up or down whatever its neighbours are.
 pub fn nearest_even(n: u64, d: u64) -> u64
     requires { ⌜ 0 < d ⌝ }
     ensures { λ r. ⌜ r ≡ halfEven n d ⌝ }

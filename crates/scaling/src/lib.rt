@@ -53,7 +53,7 @@ pub fn ratio(q: i64, s: u64) -> i64
     with_sign(q, 100 * integers::magnitude(q), s)
 }
 
-// q × s / 100, nearest, halves away from zero: the quotient with S2.3 ON.
+// q × s / 100, nearest, halves away from zero: the quotient with S2.3 ON. The contract rules out what that of `ratio` does.
 pub fn inverse_ratio(q: i64, s: u64) -> i64
     requires { ⌜ RatioRange q s ⌝ }
     ensures { λ r. ⌜ r ≡ inverseQuotient q s ⌝ }

@@ -8,7 +8,8 @@ use lib.IntN.{ℤ, pos, natAbs, _+ℤ_, _-ℤ_, _*ℤ_}
 use lib.Signed.{ltZ}
 use Rattle.integers.specs.Limit as Limit
 use Rattle.integers.specs.Parts.{above, below}
-use Rattle.integers.specs.Rounding.{half-lower, half-upper, nearestBy-off, nearestEven-off}
+use Rattle.integers.specs.Rounding.{half-lower, half-upper}
+use Rattle.integers.specs.RoundingLaws.{nearestBy-off, nearestEven-off}
 use Rattle.integers.specs.Sign.{fromSign, isNegative}
 use Rattle.integers.specs.Split.{Split, split-self, split-sum, split-difference, split-times, size-in, size-out, split-less, split-not-less}
 use Rattle.terms.specs.Fraction.{Fraction, Positive, whole, plus, atLeast, atMost, limited, stored, storedUnits, limitedStored}

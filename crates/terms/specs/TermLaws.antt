@@ -5,13 +5,14 @@ use Prim.Native.Nat.{ℕ, _+_, _*_, _≤_, _<_, min}
 use mathlib.Core.Logic.{⊎-elim}
 use native.Mathlib.Nat.{eq-or-lt-of-le, le-of-mul-le-mul-right, one-le-mul}
 use native.Mathlib.Omega.{arith}
-use lib.IntN.{ℤ, pos, negsuc, negℤ, natAbs, _*ℤ_}
+use lib.IntN.{ℤ, pos, negℤ, natAbs, _*ℤ_}
 use lib.Signed.{ltZ}
 use lib.Dec.{eqb, leb}
 use borrow.Author.Tests.{ne-eqb, eqb-false, leb-true, leb-false}
 use Rattle.integers.specs.Operations.{negation, bounded}
-use Rattle.integers.specs.Parts.{signed}
-use Rattle.integers.specs.Rounding.{halfEven, halfEven-nearest, halfEven-whole, halfEven-zero, nearestEven, nearestBy, nearestBy-fromSign}
+use Rattle.integers.specs.Parts.{integers}
+use Rattle.integers.specs.Rounding.{halfEven, halfEven-nearest, nearestEven}
+use Rattle.integers.specs.RoundingLaws.{halfEven-whole, halfEven-zero, nearestBy-fromSign}
 use Rattle.integers.specs.Sign.{fromSign, isNegative, fromSign-times, natAbs-fromSign, sign-and-size, negate-fromSign, times-is}
 use Rattle.terms.specs.Fraction.{Fraction, Positive, whole, atLeast, atMost, limited, stored, storedUnits}
 use Rattle.terms.specs.Near.{Near}
@@ -31,12 +32,12 @@ pub record Storable (n d : ℕ) : Type 0 where
 
 module _ (n d : ℕ) where
   above-lower : (minus : Bool) → n ≤ 10000 * d → ltZ (fromSign minus n) (negℤ (pos 10000) *ℤ pos d) ≡ false
-  above-lower true h = omega (arith, signed, negation (pos n), negation (pos (10000 * d)))
-  above-lower false h = omega (arith, signed, negation (pos (10000 * d)))
+  above-lower true h = omega (arith, integers, negation (pos n), negation (pos (10000 * d)))
+  above-lower false h = omega (arith, integers, negation (pos (10000 * d)))
 
   below-upper : (minus : Bool) → n ≤ 10000 * d → ltZ (pos 10000 *ℤ pos d) (fromSign minus n) ≡ false
-  below-upper true h = omega (arith, signed, negation (pos n))
-  below-upper false h = omega (arith, signed)
+  below-upper true h = omega (arith, integers, negation (pos n))
+  below-upper false h = omega (arith, integers)
 
   within : (minus : Bool) → n ≤ 10000 * d → limitedTerm (over (fromSign minus n) d) ≡ over (fromSign minus n) d
   unfolding limitedTerm limited atMost atLeast
@@ -45,11 +46,11 @@ module _ (n d : ℕ) where
   beyond : (minus : Bool) → 10000 * d < n → limitedTerm (over (fromSign minus n) d) ≡ whole (fromSign minus 10000)
   unfolding limitedTerm limited atMost atLeast whole
   beyond true h =
-      let low : ltZ (negℤ (pos n)) (negℤ (pos 10000) *ℤ pos d) ≡ true = omega (arith, signed, negation (pos n), negation (pos (10000 * d))) in
+      let low : ltZ (negℤ (pos n)) (negℤ (pos 10000) *ℤ pos d) ≡ true = omega (arith, integers, negation (pos n), negation (pos (10000 * d))) in
       simp low
   beyond false h =
-      let kept : ltZ (pos n) (negℤ (pos 10000) *ℤ pos d) ≡ false = omega (arith, signed, negation (pos (10000 * d))) in
-      let high : ltZ (pos 10000 *ℤ pos d) (pos n) ≡ true = omega (arith, signed) in
+      let kept : ltZ (pos n) (negℤ (pos 10000) *ℤ pos d) ≡ false = omega (arith, integers, negation (pos (10000 * d))) in
+      let high : ltZ (pos 10000 *ℤ pos d) (pos n) ≡ true = omega (arith, integers) in
       simp (kept, high)
 
   stored-parts : (minus : Bool) → 0 < d → fromSign minus (halfEven (n * 65536) d) ≡ stored (over (fromSign minus n) d)

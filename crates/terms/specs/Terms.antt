@@ -1,8 +1,8 @@
 -- Document 01, section Terms: the three exact terms, in units, and what is stored of each. `Tuning` is the struct of src/lib.rt.
-use mathlib.Core.Bool.{Bool, cond}
+use mathlib.Core.Bool.{cond}
 use Prim.Native.Nat.{ℕ, _*_, _≤_}
 use lib.Dec.{eqb}
-use lib.IntN.{ℤ, pos, negℤ, natAbs, _*ℤ_}
+use lib.IntN.{ℤ, pos, negℤ, _*ℤ_}
 use Rattle.terms.specs.Fraction.{Fraction, whole, limited, stored}
 use Rattle.terms.specs.declared.Tuning.{Tuning}
 

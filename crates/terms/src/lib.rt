@@ -68,7 +68,8 @@ pub fn proportional(t: Tuning, change: i64) -> i64
     stored_term(integers::negative(change), numerator, band(t))
 }
 
-// The integral term of c, which is SP - PV, or PV - SP with S2.4 ON: the other way round than ER.
+// The integral term of c, which is SP - PV, or PV - SP with S2.4 ON. With S2.4 OFF that is the other way round than ER.
+// The contract rules out seconds for minutes, a division by TI 0, and what that of `proportional` does.
 pub fn integral(t: Tuning, c: i64) -> i64
     requires { ⌜ TuningRange t × (natAbs c ≤ 19998) ⌝ }
     ensures { λ r. ⌜ r ≡ storedTerm (integralTerm t c) ⌝ }
@@ -82,6 +83,7 @@ pub fn integral(t: Tuning, c: i64) -> i64
 }
 
 // The derivative term of D, which is PV - 2 × previous PV + the one before and so lies in -39996..39996. Its sign is turned unless S2.4 is ON.
+// The contract rules out that sign kept, seconds for minutes, and what that of `proportional` does.
 pub fn derivative(t: Tuning, d: i64) -> i64
     requires { ⌜ TuningRange t × (natAbs d ≤ 39996) ⌝ }
     ensures { λ r. ⌜ r ≡ storedTerm (derivativeTerm t d) ⌝ }

@@ -1,7 +1,7 @@
 -- `integers::magnitude` meets its contract.
 use mathlib.Core.Path.{_≡_}
 use mathlib.Core.Bool.{true}
-use Prim.Native.Nat.{ℕ, suc, _+_, _≤_}
+use Prim.Native.Nat.{suc, _+_, _≤_}
 use native.Mathlib.Omega.{arith}
 use lib.IntN.{ℤ, pos, natAbs, _+ℤ_, _-ℤ_}
 use lib.Signed.{mag, ltZ}
@@ -11,7 +11,7 @@ use mir.Val.{SFits}
 use borrow.Author.Needs.{needs}
 use Rattle.integers.specs.Machine.{reads}
 use Rattle.integers.specs.Operations.{sum, difference, known}
-use Rattle.integers.specs.Parts.{below, signed, apart}
+use Rattle.integers.specs.Parts.{below, integers, apart}
 use Rattle.integers.proofs.magnitude.Statement.{statement}
 use Rattle.integers.proofs.magnitude.Tie as tie
 
@@ -25,7 +25,7 @@ record Turned (x : ℤ) : Type 0 where
 
 turned : (x : ℤ) → ltZ x (pos 0) ≡ true → Turned x
 turned x e =
-    omega (arith, signed, sum x (pos 1), difference (pos 0) (x +ℤ pos 1), known x, apart x, apart (x +ℤ pos 1), apart (pos 0 -ℤ (x +ℤ pos 1)))
+    omega (arith, integers, sum x (pos 1), difference (pos 0) (x +ℤ pos 1), known x, apart x, apart (x +ℤ pos 1), apart (pos 0 -ℤ (x +ℤ pos 1)))
 
 module _ (c : tie.Then1) where
   taken : Turned (c .before .args .x)
@@ -45,14 +45,14 @@ sub-result c = simp (toZ-ofZ, c .before .fits .x, next-fits c) (turned-fits c)
 
 cast-result : tie.Need-cast-result
 cast-result c =
-    simp (toZ-ofZ, c .before .fits .x, next-fits c, turned-fits c) (omega (arith, signed, taken c, c .before .fits .x))
+    simp (toZ-ofZ, c .before .fits .x, next-fits c, turned-fits c) (omega (arith, integers, taken c, c .before .fits .x))
 
 add-result-2 : tie.Need-add-result-2
 add-result-2 c =
     simp (toZ-ofZ, c .before .fits .x, next-fits c, turned-fits c) (omega (arith, taken c, c .before .fits .x))
 
 cast-result-2 : tie.Need-cast-result-2
-cast-result-2 c = omega (arith, signed, reads (c .before .fits .x), known (c .before .args .x))
+cast-result-2 c = omega (arith, integers, reads (c .before .fits .x), known (c .before .args .x))
 
 returns : tie.Need-returns
 returns c = simp (toZ-ofZ, c .before .fits .x, next-fits c, turned-fits c) (taken c .size)

@@ -1,7 +1,7 @@
 -- `integers::nearest_even` meets its contract.
 use native.Mathlib.Omega.{arith}
 use borrow.Author.Needs.{needs}
-use Rattle.integers.specs.Rounding.{over-fits, room, even-below-half, even-above-half, even-at-half, odd-at-half}
+use Rattle.integers.specs.RoundingLaws.{over-fits, room, even-below-half, even-above-half, even-at-half, odd-at-half}
 use Rattle.integers.proofs.nearest_even.Statement.{statement}
 use Rattle.integers.proofs.nearest_even.Tie as tie
 

@@ -1,7 +1,7 @@
 -- `integers::nearest_up` meets its contract.
 use native.Mathlib.Omega.{arith}
 use borrow.Author.Needs.{needs}
-use Rattle.integers.specs.Rounding.{over-fits, room, up-below-half, up-from-half}
+use Rattle.integers.specs.RoundingLaws.{over-fits, room, up-below-half, up-from-half}
 use Rattle.integers.proofs.nearest_up.Statement.{statement}
 use Rattle.integers.proofs.nearest_up.Tie as tie
 

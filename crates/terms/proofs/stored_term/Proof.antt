@@ -1,12 +1,12 @@
 -- `terms::stored_term` meets its contract.
-use mathlib.Core.Path.{_≡_, ap, _∙_}
-use Prim.Native.Nat.{_*_, _≤_, _<_}
+use mathlib.Core.Path.{ap, _∙_}
+use Prim.Native.Nat.{_*_, _<_}
 use native.Mathlib.Nat.{le-div-iff-mul-le, div-lt-iff-lt-mul}
 use native.Mathlib.Omega.{arith}
 use mir.Syntax.{w64}
 use borrow.Author.Needs.{needs}
 use Rattle.integers.specs.Machine.{back}
-use Rattle.integers.specs.Rounding.{halfEven-most}
+use Rattle.integers.specs.RoundingLaws.{halfEven-most}
 use Rattle.integers.specs.Sign.{fromSign}
 use Rattle.terms.specs.TermLaws.{term-limited, term-within}
 use Rattle.terms.proofs.stored_term.Statement.{statement}

@@ -1,20 +1,18 @@
 -- `text::digits` meets its contract. Every byte passed is a digit, so what is left, read on from their value, is what the whole reads.
 use mathlib.Core.Path.{_≡_, sym, ap, _∙_}
-use mathlib.Core.Bool.{true, false}
-use Prim.Native.Nat.{_+_, _-_, _*_, _^_, _≤_, _<_}
+use mathlib.Core.Bool.{true}
+use Prim.Native.Nat.{_-_, _^_, _≤_, _<_}
 use native.Mathlib.Numerals.{add-one}
 use native.Mathlib.Omega.{arith}
 use lib.ListN.{length, drop, getD}
 use mir.Syntax.{w64}
 use borrow.Author.Needs.{needs}
-use borrow.Author.Tests.{not-true, not-false, lt-ltb, le-ltb, le-leb, lt-leb}
+use borrow.Author.Tests.{not-true, not-false, lt-ltb, le-leb, lt-leb}
 use Rattle.integers.specs.Machine.{back}
 use Rattle.text.specs.declared.Reading.the-variants.{Number}
 use Rattle.text.specs.Numbers.{isDigit, readOn, digitsOf, digit-range, read-more, read-fails, read-ends, digits-more, digits-fit}
 use Rattle.text.proofs.digits.Statement.{statement}
 use Rattle.text.proofs.digits.Tie as tie
-use Rattle.text.proofs.digits.Reads as reads
-use Rattle.text.proofs.digits.Lts as lts
 
 abbrev Inv-loop : tie.InvT-loop
 Inv-loop minus s value₀ i₀ value i = (i ≤ length s) × (value < 10 ^ i) × (digitsOf minus s ≡ readOn minus value (drop i s))

@@ -1,17 +1,13 @@
 -- `text::run_end` meets its contract. Every byte passed fits, so the run's end seen from here is the run's end seen from its start.
 use mathlib.Core.Path.{_≡_, sym, _∙_}
-use mathlib.Core.Bool.{true, false}
 use Prim.Native.Nat.{_+_, _-_, _≤_}
 use native.Mathlib.Numerals.{add-one}
-use native.Mathlib.Omega.{arith}
 use lib.ListN.{length, drop}
 use borrow.Author.Needs.{needs}
 use borrow.Author.Tests.{not-true, not-false}
 use Rattle.text.specs.Words.{leading, leading-more, leading-ends, leading-none}
 use Rattle.text.proofs.run_end.Statement.{statement}
 use Rattle.text.proofs.run_end.Tie as tie
-use Rattle.text.proofs.run_end.Reads as reads
-use Rattle.text.proofs.run_end.Lts as lts
 
 abbrev Inv-loop : tie.InvT-loop
 Inv-loop line at blank i₀ i = (i ≤ length line) × (i + leading blank (drop i line) ≡ at + leading blank (drop at line))

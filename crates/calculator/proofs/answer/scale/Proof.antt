@@ -4,7 +4,7 @@ use mir.Syntax.{w64}
 use mir.Val.{SFits}
 use Rattle.integers.specs.Machine.{reads}
 use Rattle.integers.specs.Operations.{number}
-use Rattle.integers.specs.Parts.{signed}
+use Rattle.integers.specs.Parts.{integers}
 use borrow.Author.Needs.{needs}
 use Rattle.calculator.proofs.answer.scale.Statement.{statement}
 use Rattle.calculator.proofs.answer.scale.Tie as tie
@@ -37,7 +37,7 @@ scale-requires c κs =
     let high = d .before .before .signed-in2 .result .value in
     let low-fits : SFits w64 low = omega (arith, d .before .before .before .before .signed-in .ensures, number low) in
     let high-fits : SFits w64 high = omega (arith, d .before .before .signed-in2 .ensures, number high) in
-    omega (arith, signed, d .before .before .before .before .signed-in .ensures, d .before .before .signed-in2 .ensures, d .natural-in .ensures, reads low-fits, reads high-fits, number low, number high)
+    omega (arith, integers, d .before .before .before .before .signed-in .ensures, d .before .before .signed-in2 .ensures, d .natural-in .ensures, reads low-fits, reads high-fits, number low, number high)
 
 returns : tie.Need-returns
 returns c = search needs
