@@ -10,6 +10,8 @@ import pathlib
 import re
 import sys
 
+import tally
+
 ROOT = pathlib.Path(__file__).resolve().parent.parent
 DOCUMENTS = ("README.md", "docs/ARCHITECTURE.md", "docs/DECISIONS.md", "docs/TRACE.md")
 TEXTS = ("crates/**/*.rt", "crates/**/*.antt", "crates/*/std*", "crates/*/must-fail/*", "tests/*.py", "demo/*", "crates.txt", "Makefile")
@@ -52,9 +54,7 @@ def main():
     for document in DOCUMENTS:
         more, count = unknown_names(document, names)
         found, looked = found + more, looked + count
-    print("\n".join(found) or "every name is there")
-    print(f"{looked - len(found)} passed, {len(found)} failed")
-    return 0 if not found else 1
+    return tally.report(found, looked, "every name is there")
 
 
 if __name__ == "__main__":

@@ -12,6 +12,8 @@ import subprocess
 import sys
 import time
 
+import tally
+
 HERE = pathlib.Path(__file__).resolve().parent
 PYTHON = [sys.executable, "-B"]
 TALLY = re.compile(r"(\d+) passed, (\d+) failed")
@@ -42,10 +44,10 @@ def run_step(command, folder):
 
 def judge(last, status):
     """Counts of passed and failed: a step with no tally, an empty one or a bad exit status has failed at least once."""
-    tally = TALLY.fullmatch(last)
-    if tally is None:
+    counts = TALLY.fullmatch(last)
+    if counts is None:
         return 0, 1, "no tally on its last line"
-    passed, failed = map(int, tally.groups())
+    passed, failed = map(int, counts.groups())
     if failed == 0 and status != 0:
         return passed, 1, f"exit status {status}"
     if failed == 0 and passed == 0:
@@ -67,9 +69,7 @@ def gate(steps, folder):
 
 
 def main():
-    passed, failed = gate(STEPS, HERE.parent)
-    print(f"{passed} passed, {failed} failed")
-    return 0 if failed == 0 else 1
+    return tally.close(*gate(STEPS, HERE.parent))
 
 
 if __name__ == "__main__":

@@ -13,6 +13,7 @@ import sys
 import tempfile
 
 import gate
+import tally
 
 
 def outcome(script):
@@ -64,8 +65,7 @@ def main():
         right = holds()
         passed, failed = passed + right, failed + (not right)
         print(("ok    " if right else "WRONG ") + name)
-    print(f"{passed} passed, {failed} failed")
-    return 0 if failed == 0 else 1
+    return tally.close(passed, failed)
 
 
 if __name__ == "__main__":

@@ -14,6 +14,8 @@ import re
 import subprocess
 import sys
 
+import tally
+
 ROOT = pathlib.Path(__file__).resolve().parent.parent
 MOST_FILE_LINES, MOST_FUNCTION_LINES, MOST_DEPTH, MOST_LOOPS = 299, 39, 3, 1
 OUTSIDE = re.compile(r"(?<![\w.])/(?:work|opt|root|home|tmp)/")
@@ -91,9 +93,7 @@ def main():
     for name in tracked():
         more, count = faults(name)
         found, looked = found + more, looked + count
-    print("\n".join(found) or "nothing out of order")
-    print(f"{looked - len(found)} passed, {len(found)} failed")
-    return 0 if not found else 1
+    return tally.report(found, looked, "nothing out of order")
 
 
 if __name__ == "__main__":
