@@ -1,3 +1,4 @@
+pub mod Choice
 pub mod Parts
 pub mod Operations
 pub mod Machine

@@ -1,6 +1,5 @@
 -- What omega is told of a negation, a sum, a difference and a product of integers. Each entry is linear, and so costs no case split.
 use mathlib.Core.Path.{_≡_, refl}
-use mathlib.Core.Bool.{Bool, true, false, cond}
 use Prim.Native.Nat.{ℕ, zero, suc, _+_, _-_, _*_, _≤_}
 use native.Mathlib.Nat.{mul-le-mul}
 use native.Mathlib.Omega.{arith}
@@ -8,6 +7,7 @@ use lib.Dec.{ltb}
 use lib.IntN.{ℤ, pos, negsuc, negℤ, natAbs, subℕ, _+ℤ_, _-ℤ_, _*ℤ_}
 use lib.Signed.{mag}
 use borrow.Author.Tests.{ltb-true, ltb-false}
+use Rattle.integers.specs.Choice.{by-cases}
 use Rattle.integers.specs.Parts.{above, below}
 
 -- of any integer: its size, which bounds what a width must hold
@@ -45,18 +45,12 @@ negation (negsuc n) = omega arith
 -- ---- sum and difference
 
 above-sub : (a b : ℕ) → above (subℕ a b) ≡ a - b
-above-sub a b = go (ltb a b) refl
-  where
-    go : (t : Bool) → ltb a b ≡ t → above (cond t (negsuc (b - suc a)) (pos (a - b))) ≡ a - b
-    go true e = omega (arith, ltb-true a b e)
-    go false e = refl
+above-sub a b =
+    by-cases (λ z. above z ≡ a - b) (ltb a b) (negsuc (b - suc a)) (pos (a - b)) (λ e. omega (arith, ltb-true a b e)) (λ e. refl)
 
 below-sub : (a b : ℕ) → below (subℕ a b) ≡ b - a
-below-sub a b = go (ltb a b) refl
-  where
-    go : (t : Bool) → ltb a b ≡ t → below (cond t (negsuc (b - suc a)) (pos (a - b))) ≡ b - a
-    go true e = omega (arith, ltb-true a b e)
-    go false e = omega (arith, ltb-false a b e)
+below-sub a b =
+    by-cases (λ z. below z ≡ b - a) (ltb a b) (negsuc (b - suc a)) (pos (a - b)) (λ e. omega (arith, ltb-true a b e)) (λ e. omega (arith, ltb-false a b e))
 
 pub record Sum (s a b : ℤ) : Type 0 where
   pub self : Number s

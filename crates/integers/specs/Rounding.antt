@@ -1,12 +1,13 @@
 -- A quotient taken to the nearest whole number, by what the division leaves over.
-use mathlib.Core.Path.{_≡_, refl}
-use mathlib.Core.Bool.{Bool, true, false, cond}
+use mathlib.Core.Path.{_≡_}
+use mathlib.Core.Bool.{cond}
 use Prim.Native.Nat.{ℕ, _+_, _-_, _*_, _/_, _%_, _≤_, _<_}
 use native.Mathlib.Nat.{div-add-mod', le-antisymm, mod-lt, mul-le-mul-right}
 use native.Mathlib.Omega.{arith, by-contra}
 use lib.Dec.{ltb}
 use lib.IntN.{ℤ, natAbs}
 use borrow.Author.Tests.{ltb-true, ltb-false}
+use Rattle.integers.specs.Choice.{by-cases}
 use Rattle.integers.specs.Sign.{fromSign, isNegative}
 
 -- n / d nearest, an exact half going up
@@ -48,39 +49,31 @@ module _ (n d : ℕ) (some : 0 < d) where
 
   pub halfUp-nearest : Nearest n d (halfUp n d)
   unfolding halfUp
-  halfUp-nearest = go (ltb (2 * (n % d)) d) refl
-    where
-      go : (s : Bool) → ltb (2 * (n % d)) d ≡ s → Nearest n d (cond s (n / d) (n / d + 1))
-      go true e = omega (arith, ltb-true, division)
-      go false e = omega (arith, ltb-false, division, left-over)
+  halfUp-nearest =
+      by-cases (Nearest n d) (ltb (2 * (n % d)) d) (n / d) (n / d + 1) (λ e. omega (arith, ltb-true, division)) (λ e. omega (arith, ltb-false, division, left-over))
 
   -- and at a half it is the greater neighbour
   pub halfUp-up : 2 * n < 2 * (halfUp n d * d) + d
   unfolding halfUp
-  halfUp-up = go (ltb (2 * (n % d)) d) refl
-    where
-      go : (s : Bool) → ltb (2 * (n % d)) d ≡ s → 2 * n < 2 * (cond s (n / d) (n / d + 1) * d) + d
-      go true e = omega (arith, ltb-true, division)
-      go false e = omega (arith, ltb-false, division, left-over)
+  halfUp-up =
+      by-cases (λ r. 2 * n < 2 * (r * d) + d) (ltb (2 * (n % d)) d) (n / d) (n / d + 1) (λ e. omega (arith, ltb-true, division)) (λ e. omega (arith, ltb-false, division, left-over))
+
+  -- what holds below a half, above it and at it
+  pub halfEven-by : (P : ℕ → Type 0) → (2 * (n % d) < d → P (n / d)) → (d < 2 * (n % d) → P (n / d + 1)) → (2 * (n % d) ≡ d → P (n / d + n / d % 2)) → P (halfEven n d)
+  unfolding halfEven
+  halfEven-by P low high half =
+      by-cases P (ltb (2 * (n % d)) d) (n / d) (cond (ltb d (2 * (n % d))) (n / d + 1) (n / d + n / d % 2)) (λ e. low (ltb-true (2 * (n % d)) d e))
+      (λ e. by-cases P (ltb d (2 * (n % d))) (n / d + 1) (n / d + n / d % 2) (λ f. high (ltb-true d (2 * (n % d)) f))
+      (λ f. half (omega (arith, ltb-false (2 * (n % d)) d e, ltb-false d (2 * (n % d)) f))))
 
   pub halfEven-nearest : Nearest n d (halfEven n d)
-  unfolding halfEven
-  halfEven-nearest = go (ltb (2 * (n % d)) d) refl (ltb d (2 * (n % d))) refl
-    where
-      go : (s : Bool) → ltb (2 * (n % d)) d ≡ s → (t : Bool) → ltb d (2 * (n % d)) ≡ t → Nearest n d (cond s (n / d) (cond t (n / d + 1) (n / d + n / d % 2)))
-      go true e t f = omega (arith, ltb-true, division)
-      go false e true f = omega (arith, ltb-true, ltb-false, division, left-over)
-      go false e false f = omega (arith, ltb-false, division, odd-part)
+  halfEven-nearest =
+      halfEven-by (Nearest n d) (λ l. omega (arith, division)) (λ h. omega (arith, division, left-over)) (λ e. omega (arith, division, odd-part))
 
   -- and at a half it is the even neighbour
   pub halfEven-even : 2 * (n % d) ≡ d → halfEven n d % 2 ≡ 0
-  unfolding halfEven
-  halfEven-even h = go (ltb (2 * (n % d)) d) refl (ltb d (2 * (n % d))) refl
-    where
-      go : (s : Bool) → ltb (2 * (n % d)) d ≡ s → (t : Bool) → ltb d (2 * (n % d)) ≡ t → cond s (n / d) (cond t (n / d + 1) (n / d + n / d % 2)) % 2 ≡ 0
-      go true e t f = absurd (omega (arith, ltb-true))
-      go false e true f = absurd (omega (arith, ltb-true))
-      go false e false f = omega arith
+  halfEven-even e =
+      halfEven-by (λ r. r % 2 ≡ 0) (λ l. absurd (omega arith)) (λ h. absurd (omega arith)) (λ _. omega arith)
 
   -- an exact half has two neighbours, n / d and n / d + 1; both are off by one half, and no other number is nearest
   pub half-lower : 2 * (n % d) ≡ d → Nearest n d (n / d)

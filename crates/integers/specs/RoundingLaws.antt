@@ -1,15 +1,16 @@
 -- Laws of the roundings, for proofs: sizes, the tests as code makes them, and signs carried through.
 use mathlib.Core.Path.{_≡_, refl, sym, ap, _∙_}
-use mathlib.Core.Bool.{Bool, true, false, cond}
+use mathlib.Core.Bool.{Bool, true, false}
 use Prim.Native.Nat.{ℕ, zero, suc, _+_, _-_, _*_, _/_, _%_, _≤_, _<_, zero-le}
 use native.Mathlib.Nat.{mul-le-mul-left, zero-div, zero-mod, div-eq-of-lt-le, div-le-self, mul-mod-left, mul-div-cancel}
 use native.Mathlib.Omega.{arith}
 use lib.Dec.{ltb}
 use lib.IntN.{ℤ, pos, negsuc, negℤ, natAbs, _-ℤ_, _*ℤ_}
 use borrow.Author.Tests.{lt-ltb, le-ltb}
+use Rattle.integers.specs.Choice.{by-cases}
 use Rattle.integers.specs.Operations.{difference, negation}
 use Rattle.integers.specs.Parts.{apart}
-use Rattle.integers.specs.Rounding.{halfUp, halfEven, nearestBy, nearestAway, nearestEven, Nearest, division, left-over, halfUp-nearest, halfUp-up, halfEven-nearest}
+use Rattle.integers.specs.Rounding.{halfUp, halfEven, nearestBy, nearestAway, nearestEven, Nearest, division, left-over, halfUp-nearest, halfUp-up, halfEven-by, halfEven-nearest}
 use Rattle.integers.specs.Sign.{fromSign, fromSign-times}
 
 module _ (n d : ℕ) (some : 0 < d) where
@@ -17,11 +18,8 @@ module _ (n d : ℕ) (some : 0 < d) where
 
   pub halfUp-most : halfUp n d ≤ n + 1
   unfolding halfUp
-  halfUp-most = go (ltb (2 * (n % d)) d)
-    where
-      go : (s : Bool) → cond s (n / d) (n / d + 1) ≤ n + 1
-      go true = omega (arith, div-le-self n d)
-      go false = omega (arith, div-le-self n d)
+  halfUp-most =
+      by-cases (λ r. r ≤ n + 1) (ltb (2 * (n % d)) d) (n / d) (n / d + 1) (λ e. omega (arith, div-le-self n d)) (λ e. omega (arith, div-le-self n d))
 
   -- the same by one quotient
   pub halfUp-quotient : (2 * n + d) / (2 * d) ≡ halfUp n d
@@ -29,13 +27,8 @@ module _ (n d : ℕ) (some : 0 < d) where
       div-eq-of-lt-le (2 * d) {m = 2 * n + d} (omega (arith, halfUp-nearest n d some)) (omega (arith, halfUp-up n d some))
 
   pub halfEven-most : halfEven n d ≤ n + 1
-  unfolding halfEven
-  halfEven-most = go (ltb (2 * (n % d)) d) (ltb d (2 * (n % d)))
-    where
-      go : (s t : Bool) → cond s (n / d) (cond t (n / d + 1) (n / d + n / d % 2)) ≤ n + 1
-      go true t = omega (arith, div-le-self n d)
-      go false true = omega (arith, div-le-self n d)
-      go false false = omega (arith, div-le-self n d)
+  halfEven-most =
+      halfEven-by n d some (λ r. r ≤ n + 1) (λ l. omega (arith, div-le-self n d)) (λ h. omega (arith, div-le-self n d)) (λ e. omega (arith, div-le-self n d))
 
   -- ---- the tests as the code makes them: the remainder against what it lacks of d
 

@@ -6,6 +6,7 @@ use native.Mathlib.Nat.{mul-le-mul-right, le-of-mul-le-mul-right, mul-pos}
 use native.Mathlib.Omega.{arith}
 use lib.IntN.{ℤ, pos, natAbs, _+ℤ_, _-ℤ_, _*ℤ_}
 use lib.Signed.{ltZ}
+use Rattle.integers.specs.Choice.{by-cases}
 use Rattle.integers.specs.Limit as Limit
 use Rattle.integers.specs.Parts.{above, below}
 use Rattle.integers.specs.Rounding.{half-lower, half-upper}
@@ -143,20 +144,16 @@ module _ (bound x : ℤ) (f : Fraction) (halves : ℕ) (near : Near x f halves) 
 
 -- ---- denominators stay positive
 
-either-positive : (t : Bool) (units : ℤ) (f : Fraction) → Positive f → Positive (cond t (whole units) f)
-unfolding whole
-either-positive true units f h = omega arith
-either-positive false units f h = h
-
 pub atLeast-positive : (low : ℤ) (f : Fraction) → Positive f → Positive (atLeast low f)
-unfolding atLeast
-atLeast-positive low f h = either-positive (ltZ (f .numerator) (low *ℤ pos (f .denominator))) low f h
+unfolding atLeast whole
+atLeast-positive low f h =
+    by-cases Positive (ltZ (f .numerator) (low *ℤ pos (f .denominator))) (whole low) f (λ e. omega arith) (λ e. h)
 
 pub limited-positive : (low high : ℤ) (f : Fraction) → Positive f → Positive (limited low high f)
-unfolding limited atMost
+unfolding limited atMost whole
 limited-positive low high f h =
     let g = atLeast low f in
-    either-positive (ltZ (high *ℤ pos (g .denominator)) (g .numerator)) high g (atLeast-positive low f h)
+    by-cases Positive (ltZ (high *ℤ pos (g .denominator)) (g .numerator)) (whole high) g (λ e. omega arith) (λ e. atLeast-positive low f h)
 
 pub limited-near : (low high x : ℤ) (f : Fraction) (halves : ℕ) → Near x f halves → Near (limitedStored low high x) (limited low high f) halves
 unfolding limited limitedStored Limit.limited

@@ -9,6 +9,7 @@ use lib.IntN.{ℤ, pos, negℤ, natAbs, _*ℤ_}
 use lib.Signed.{ltZ}
 use lib.Dec.{eqb, leb}
 use borrow.Author.Tests.{ne-eqb, eqb-false, leb-true, leb-false}
+use Rattle.integers.specs.Choice.{by-cases}
 use Rattle.integers.specs.Operations.{negation, bounded}
 use Rattle.integers.specs.Parts.{integers}
 use Rattle.integers.specs.Rounding.{halfEven, halfEven-nearest, nearestEven}
@@ -115,18 +116,10 @@ module _ (t : Tuning) (tuned : TuningRange t) where
   band-most = bounded 9999 19998 (tuned .xp-most) (tuned .span-most)
 
   pub scan-numerator-range : (1 ≤ scanNumerator t) × (scanNumerator t ≤ 9)
-  scan-numerator-range = go (t .minutes)
-    where
-      go : (b : Bool) → (1 ≤ cond b 3 9) × (cond b 3 9 ≤ 9)
-      go true = omega arith
-      go false = omega arith
+  scan-numerator-range = by-cases (λ k. (1 ≤ k) × (k ≤ 9)) (t .minutes) 3 9 (λ e. omega arith) (λ e. omega arith)
 
   pub scan-denominator-range : (1 ≤ scanDenominator t) × (scanDenominator t ≤ 500)
-  scan-denominator-range = go (t .minutes)
-    where
-      go : (b : Bool) → (1 ≤ cond b 500 25) × (cond b 500 25 ≤ 500)
-      go true = omega arith
-      go false = omega arith
+  scan-denominator-range = by-cases (λ k. (1 ≤ k) × (k ≤ 500)) (t .minutes) 500 25 (λ e. omega arith) (λ e. omega arith)
 
 -- ---- the exact terms by sign and magnitude
 
@@ -163,12 +156,9 @@ module _ (t : Tuning) (tuned : TuningRange t) where
 
   pub integral-positive : (c : ℤ) → Positive (integralTerm t c)
   unfolding integralTerm whole
-  integral-positive c = go (eqb (t .ti) 0) refl
-    where
-      go : (none : Bool) → eqb (t .ti) 0 ≡ none → Positive (cond none (whole (pos 0)) (over (pos 10000000 *ℤ c *ℤ pos (scanNumerator t)) (t .xp * t .span * scanDenominator t * t .ti)))
-      go true e = omega arith
-      go false e =
-          one-le-mul (one-le-mul (band-some t tuned) (scan-denominator-range t tuned .0)) (omega (arith, eqb-false (t .ti) 0 e))
+  integral-positive c =
+      by-cases Positive (eqb (t .ti) 0) (whole (pos 0)) (over (pos 10000000 *ℤ c *ℤ pos (scanNumerator t)) (t .xp * t .span * scanDenominator t * t .ti)) (λ e. omega arith)
+      (λ e. one-le-mul (one-le-mul (band-some t tuned) (scan-denominator-range t tuned .0)) (omega (arith, eqb-false (t .ti) 0 e)))
 
   pub derivative-positive : (d : ℤ) → Positive (derivativeTerm t d)
   unfolding derivativeTerm

@@ -7,6 +7,7 @@ use native.Mathlib.Omega.{arith}
 use lib.Dec.{eqb}
 use lib.ListN.{length, drop, getD, length-drop}
 use lib.Seq.{drop-cons}
+use Rattle.integers.specs.Choice.{by-cases}
 use Rattle.text.specs.declared.Span.{Span}
 
 -- whether a byte is a blank, or where those are looked for that aren't blanks, isn't one
@@ -29,11 +30,8 @@ wordAt line at =
 pub leading-most : (blank : Bool) (bs : List ℕ) → leading blank bs ≤ length bs
 unfolding leading
 leading-most blank [] = omega arith
-leading-most blank (b ∷ bs) = go (fitsBlank blank b) (leading-most blank bs)
-  where
-    go : (t : Bool) → leading blank bs ≤ length bs → cond t (suc (leading blank bs)) 0 ≤ suc (length bs)
-    go true h = omega arith
-    go false h = omega arith
+leading-most blank (b ∷ bs) =
+    by-cases (λ n. n ≤ suc (length bs)) (fitsBlank blank b) (suc (leading blank bs)) 0 (λ e. omega (arith, leading-most blank bs)) (λ e. omega arith)
 
 module _ (blank : Bool) (s : List ℕ) (i : ℕ) (inside : i < length s) where
   pub leading-more : fitsBlank blank (getD s i 0) ≡ true → i + leading blank (drop i s) ≡ suc i + leading blank (drop (suc i) s)
