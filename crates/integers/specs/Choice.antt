@@ -1,6 +1,10 @@
--- What holds in each case of a test holds of what the test chooses.
+-- A choice by a test; and what holds in each case of a test holds of what the test chooses.
 use mathlib.Core.Path.{_≡_, refl}
 use mathlib.Core.Bool.{Bool, true, false, cond}
+
+infix 10 if_then_else_
+abbrev pub if_then_else_ : {A : Type 0} → Bool → A → A → A
+if t then x else y = cond t x y
 
 pub by-cases : {A : Type 0} (P : A → Type 0) (t : Bool) (x y : A) → (t ≡ true → P x) → (t ≡ false → P y) → P (cond t x y)
 by-cases P true x y f g = f refl

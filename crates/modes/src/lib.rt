@@ -1,0 +1,167 @@
+// What decides the mode, and the mode: causes, the request, the priority order.
+ghost use mathlib.Core.Path.{_≡_};
+ghost use mathlib.Core.Bool.{true};
+ghost use Prim.Native.Nat.{_≤_};
+ghost use Rattle.signals.specs.declared.Input.{Input};
+ghost use Rattle.modes.specs.Modes.{isOpenCause, isCause, counted, opensAfter, requestBy, requestAfter, conditionsAfter, modeBy, inPriority, modeOf, isAutomatic, goesToMinimum};
+use signals::Buttons;
+use signals::Input;
+
+pub enum Request {
+    Manual,
+    Auto,
+    Remote,
+}
+
+pub enum Mode {
+    Hold,
+    Track,
+    Forced,
+    Manual,
+    Auto,
+    Remote,
+    Ratio,
+    Fallback,
+}
+
+// The part of the state that, with S2.1, decides the mode: the request, the memory fault, the count of consecutive open scans (up to 85), and the
+// last scan's pin byte.
+pub struct Conditions {
+    pub request: Request,
+    pub fault: bool,
+    pub opens: u8,
+    pub pins: u8,
+}
+
+// The contract rules out a cause at the 84th open scan, and none at the 85th.
+pub fn is_open_cause(opens: u8) -> bool
+    ensures { λ r. ⌜ r ≡ isOpenCause opens ⌝ }
+{
+    85 <= opens
+}
+
+// The contract rules out one cause that hides the other.
+pub fn is_cause(fault: bool, opens: u8) -> bool
+    ensures { λ r. ⌜ r ≡ isCause fault opens ⌝ }
+{
+    fault | is_open_cause(opens)
+}
+
+// One more open scan; the count stops at 85, so it never runs out of its type.
+fn counted(opens: u8) -> u8
+    ensures { λ r. ⌜ r ≡ counted opens ⌝ }
+{
+    if opens < 85 { opens + 1 } else { 85 }
+}
+
+fn opens_after(isopen: bool, opens: u8) -> u8
+    ensures { λ r. ⌜ r ≡ opensAfter counted isopen opens ⌝ }
+{
+    if isopen { counted(opens) } else { 0 }
+}
+
+fn request_by(b: Buttons, q: Request) -> Request
+    ensures { λ r. ⌜ r ≡ requestBy b q ⌝ }
+{
+    if b.m {
+        return Request::Manual;
+    }
+    if b.a {
+        return Request::Auto;
+    }
+    if b.r {
+        return Request::Remote;
+    }
+    q
+}
+
+// The contract rules out a button that leaves Forced Manual.
+fn request_after(cause: bool, b: Buttons, q: Request) -> Request
+    ensures { λ r. ⌜ r ≡ requestAfter cause b q ⌝ }
+{
+    let asked = request_by(b, q);
+    if cause { Request::Manual } else { asked }
+}
+
+fn mode_by(q: Request, remotepin: bool, ratioswitch: bool) -> Mode
+    ensures { λ r. ⌜ r ≡ modeBy q remotepin ratioswitch ⌝ }
+{
+    match q {
+        Request::Manual => Mode::Manual,
+        Request::Auto => Mode::Auto,
+        Request::Remote => {
+            if remotepin {
+                if ratioswitch { Mode::Ratio } else { Mode::Remote }
+            } else {
+                Mode::Fallback
+            }
+        }
+    }
+}
+
+fn in_priority(holdpin: bool, trackpin: bool, cause: bool, requested: Mode) -> Mode
+    ensures { λ r. ⌜ r ≡ inPriority holdpin trackpin cause requested ⌝ }
+{
+    if holdpin {
+        if trackpin {
+            Mode::Track
+        } else {
+            if cause { Mode::Forced } else { requested }
+        }
+    } else {
+        Mode::Hold
+    }
+}
+
+// The contract rules out a mode that is not in the list of the automatic ones, and one of them left out.
+pub fn is_automatic(mode: Mode) -> bool
+    ensures { λ r. ⌜ r ≡ isAutomatic mode ⌝ }
+{
+    match mode {
+        Mode::Hold => false,
+        Mode::Track => false,
+        Mode::Forced => false,
+        Mode::Manual => false,
+        Mode::Auto => true,
+        Mode::Remote => true,
+        Mode::Ratio => true,
+        Mode::Fallback => true,
+    }
+}
+
+impl Conditions {
+    // What an accepted scan leaves. The contract rules out a count that goes on through a scan that isn't open, and a request kept under a cause.
+    pub fn after(self, input: Input) -> Conditions
+        ensures { λ r. ⌜ r ≡ conditionsAfter counted self input ⌝ }
+    {
+        let opens = opens_after(signals::is_open(input), self.opens);
+        let cause = is_cause(self.fault, opens);
+        let q = self.request;
+        let request = request_after(cause, signals::buttons_of(input.buttons), q);
+        Conditions {
+            request,
+            fault: self.fault,
+            opens,
+            pins: input.pins,
+        }
+    }
+
+    // The mode. The contract rules out another order, and a mode for ever.
+    pub fn mode(self, ratioswitch: bool) -> Mode
+        ensures { λ r. ⌜ r ≡ modeOf self ratioswitch ⌝ }
+    {
+        let p = signals::pins_of(self.pins);
+        let cause = is_cause(self.fault, self.opens);
+        let q = self.request;
+        let requested = mode_by(q, p.remote, ratioswitch);
+        in_priority(p.hold, p.track, cause, requested)
+    }
+
+    // Whether a scan of this input, made now, sets the output to minimum if its mode is Manual or Forced Manual.
+    pub fn goes_to_minimum(self, input: Input, ratioswitch: bool, powerfail: bool) -> bool
+        ensures { λ r. ⌜ r ≡ goesToMinimum self input ratioswitch powerfail ⌝ }
+    {
+        let mode = self.mode(ratioswitch);
+        signals::is_open(input) & (self.opens == 84) & is_automatic(mode) & powerfail
+    }
+}

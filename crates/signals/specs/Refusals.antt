@@ -1,0 +1,37 @@
+-- Document 01, "By whose hand a call is declined": the numbers, and the tests of a scan.
+use mathlib.Core.Bool.{Bool, true, false, _||_}
+use mathlib.Core.List.{List, [], _∷_}
+use mathlib.Core.Option.{Option, some, none}
+use Prim.Native.Nat.{ℕ}
+use lib.Dec.{ltb}
+use Rattle.integers.specs.Choice.{if_then_else_}
+use Rattle.signals.specs.Bits.{bit}
+use Rattle.signals.specs.declared.Input.{Input}
+use Rattle.signals.specs.declared.Refusal.{Refusal}
+use Rattle.signals.specs.declared.Refusal.the-variants.{Sample, ButtonBits, SensorBits}
+use Rattle.signals.specs.declared.Verdict.{Verdict}
+use Rattle.signals.specs.declared.Verdict.the-variants.{Accepted, Refused}
+
+-- the paper's number of each refusal
+abbrev pub numberOf : Refusal → ℕ
+numberOf Sample = 1
+numberOf ButtonBits = 2
+numberOf SensorBits = 3
+
+-- and of a verdict: none where the call is accepted
+abbrev pub numberIn : Verdict → Option ℕ
+numberIn Accepted = none
+numberIn (Refused refusal) = some (numberOf refusal)
+
+-- "Within a group the lowest number wins.": of tests listed by their numbers, the number of the first that holds
+unfoldable pub declinedBy : List (Bool × ℕ) → Option ℕ
+declinedBy [] = none
+declinedBy (t ∷ ts) = if t .0 then some (t .1) else declinedBy ts
+
+-- "Plant: 1 a sample above 10000; 2 button bits 5 or 4 set; 3 sensor bits above 1 set."
+unfoldable pub scanTests : Input → List (Bool × ℕ)
+scanTests i =
+    (ltb 10000 (i .sample1) || ltb 10000 (i .sample2) || ltb 10000 (i .sample3), 1)
+    ∷ (bit (i .buttons) 5 || bit (i .buttons) 4, 2)
+    ∷ (ltb 3 (i .sensors), 3)
+    ∷ []

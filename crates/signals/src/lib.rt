@@ -1,0 +1,168 @@
+// What a scan is given, and what the bits of its bytes and of the switch word say; the refusals, and those of a scan.
+ghost use mathlib.Core.Path.{_≡_};
+ghost use Prim.Native.Nat.{_<_};
+ghost use Rattle.signals.specs.Bits.{bit};
+ghost use Rattle.signals.specs.Refusals.{numberOf, numberIn, declinedBy, scanTests};
+ghost use Rattle.signals.specs.Signals.{switchesOf, pinsOf, buttonsOf, pushOf, isOpen, batteryLow};
+
+// The pin byte, the samples of channels 1 to 3, the button byte and the sensor byte of one scan.
+pub struct Input {
+    pub pins: u8,
+    pub sample1: u16,
+    pub sample2: u16,
+    pub sample3: u16,
+    pub buttons: u8,
+    pub sensors: u8,
+}
+
+// The used switches, true for ON: S2.1, S2.2, S2.3, S2.4, S2.5, S2.6, S2.8, S1.1.
+pub struct Switches {
+    pub ratio: bool,
+    pub inversion: bool,
+    pub inverseratio: bool,
+    pub inverseoutput: bool,
+    pub powerfail: bool,
+    pub tracking: bool,
+    pub minutes: bool,
+    pub balanceoff: bool,
+}
+
+// The pins that decide the mode, true for 15 V.
+pub struct Pins {
+    pub hold: bool,
+    pub track: bool,
+    pub remote: bool,
+}
+
+// The buttons, true while pressed.
+pub struct Buttons {
+    pub lower: bool,
+    pub raise: bool,
+    pub sp: bool,
+    pub r: bool,
+    pub a: bool,
+    pub m: bool,
+}
+
+// What Raise and Lower ask for together.
+pub enum Push {
+    Raise,
+    Lower,
+    Neither,
+}
+
+// Why a call is declined.
+pub enum Refusal {
+    Sample,
+    ButtonBits,
+    SensorBits,
+}
+
+pub enum Verdict {
+    Accepted,
+    Refused(Refusal),
+}
+
+// Bit `number` of a word. The contract rules out a neighbouring bit.
+pub fn bit(word: u16, number: u16) -> bool
+    requires { ⌜ number < 16 ⌝ }
+    ensures { λ r. ⌜ r ≡ bit word number ⌝ }
+{
+    (word >> number) % 2 == 1
+}
+
+// The contract rules out switches that are exchanged or taken from another bit.
+pub fn switches_of(sw: u16) -> Switches
+    ensures { λ r. ⌜ r ≡ switchesOf sw ⌝ }
+{
+    Switches {
+        ratio: bit(sw, 15),
+        inversion: bit(sw, 14),
+        inverseratio: bit(sw, 13),
+        inverseoutput: bit(sw, 12),
+        powerfail: bit(sw, 11),
+        tracking: bit(sw, 10),
+        minutes: bit(sw, 8),
+        balanceoff: bit(sw, 7),
+    }
+}
+
+pub fn pins_of(byte: u8) -> Pins
+    ensures { λ r. ⌜ r ≡ pinsOf byte ⌝ }
+{
+    let word = byte as u16;
+    Pins {
+        hold: bit(word, 7),
+        track: bit(word, 6),
+        remote: bit(word, 5),
+    }
+}
+
+pub fn buttons_of(byte: u8) -> Buttons
+    ensures { λ r. ⌜ r ≡ buttonsOf byte ⌝ }
+{
+    let word = byte as u16;
+    Buttons {
+        lower: bit(word, 7),
+        raise: bit(word, 6),
+        sp: bit(word, 3),
+        r: bit(word, 2),
+        a: bit(word, 1),
+        m: bit(word, 0),
+    }
+}
+
+pub fn push_of(b: Buttons) -> Push
+    ensures { λ r. ⌜ r ≡ pushOf b ⌝ }
+{
+    if b.raise {
+        if b.lower { Push::Neither } else { Push::Raise }
+    } else {
+        if b.lower { Push::Lower } else { Push::Neither }
+    }
+}
+
+pub fn is_open(input: Input) -> bool
+    ensures { λ r. ⌜ r ≡ isOpen input ⌝ }
+{
+    bit(input.sensors as u16, 0)
+}
+
+pub fn battery_low(input: Input) -> bool
+    ensures { λ r. ⌜ r ≡ batteryLow input ⌝ }
+{
+    bit(input.sensors as u16, 1)
+}
+
+impl Refusal {
+    // The paper's number.
+    pub fn number(self) -> u8
+        ensures { λ r. ⌜ r ≡ numberOf self ⌝ }
+    {
+        match self {
+            Refusal::Sample => 1,
+            Refusal::ButtonBits => 2,
+            Refusal::SensorBits => 3,
+        }
+    }
+}
+
+// Whether a scan's input is acceptable, or the lowest refusal that applies. The contract rules out a refusal for a cause that is not listed, one
+// that is forgotten, and a higher number where a lower one applies.
+pub fn scan_verdict(input: Input) -> Verdict
+    ensures { λ r. ⌜ numberIn r ≡ declinedBy (scanTests input) ⌝ }
+{
+    let sample = (10000 < input.sample1) | (10000 < input.sample2) | (10000 < input.sample3);
+    let buttons = bit(input.buttons as u16, 5) | bit(input.buttons as u16, 4);
+    let sensors = 3 < input.sensors;
+    if sample {
+        return Verdict::Refused(Refusal::Sample);
+    }
+    if buttons {
+        return Verdict::Refused(Refusal::ButtonBits);
+    }
+    if sensors {
+        return Verdict::Refused(Refusal::SensorBits);
+    }
+    Verdict::Accepted
+}
