@@ -1,0 +1,166 @@
+-- The defaults are legal, a setpoint and a ratio within their limits keep parameters legal, and what legal parameters satisfy.
+use mathlib.Core.Path.{_≡_, refl, sym, ap, _∙_, subst}
+use mathlib.Core.Bool.{Bool, true, false, cond, _&&_}
+use mathlib.Core.Logic.{_⊎_, ⊎-elim, inl, inr}
+use Prim.Native.Nat.{ℕ, _+_, _-_, _%_, _≤_, _<_}
+use native.Mathlib.Omega.{arith}
+use lib.Dec.{eqb, ltb}
+use lib.IntN.{ℤ, pos, negℤ}
+use lib.ListN.{length, getD, set, length-set}
+use lib.Seq.{getD-set-same, getD-set-other}
+use lib.Signed.{leZ, ltZ, _≤ℤ_, _<ℤ_}
+use borrow.Author.Tests.{eqb-true, eqb-false, ltb-true, ltb-false}
+use Rattle.integers.specs.Choice.{if_then_else_, by-cases}
+use Rattle.integers.specs.Parts.{integers}
+use Rattle.parameters.specs.Legal.{Legal, keeps, isWithin, inOrder}
+use Rattle.parameters.specs.Range.{Each, each-in, each-of}
+use Rattle.parameters.specs.Table.{value, withValue, ruleOf, defaults}
+use Rattle.parameters.specs.Table as t
+use Rattle.parameters.specs.declared.Parameters.{Parameters}
+use Rattle.parameters.specs.declared.Rule.{Rule}
+use Rattle.parameters.specs.declared.Rule.the-variants.{Unknown, ReadOnly, Word, Free, Pair, Between}
+
+-- a fresh controller's parameters
+abbrev pub fresh : Parameters
+fresh = record { values = defaults }
+
+pub defaults-legal : Legal fresh
+unfolding value ruleOf
+defaults-legal =
+    record {
+      size = refl;
+      rules = λ n a b.
+        each-in (λ (m : ℕ). keeps (ruleOf m) (value fresh) m ≡ true) 23 1 n
+        (refl, (refl, (refl, (refl, (refl, (refl, (refl, (refl, (refl, (refl, (refl, (refl, (refl, (refl, (refl, (refl, (refl, (refl, (refl, (refl, (refl, (refl, (refl, tt)))))))))))))))))))))))
+        a (omega arith);
+    }
+
+-- ---- one value changed
+
+abbrev pub changed : (ℕ → ℤ) → ℕ → ℤ → ℕ → ℤ
+changed values k v n = if eqb n k then v else values n
+
+pub value-with : (p : Parameters) (k : ℕ) (v : ℤ) → length (p .values) ≡ 24 → k < 24 → (n : ℕ) → value (withValue p k v) n ≡ changed (value p) k v n
+unfolding value withValue
+value-with p k v size h n =
+    by-cases (λ (w : ℤ). getD (set (p .values) k v) n (pos 0) ≡ w) (eqb n k) v (value p n)
+    (λ e. subst (λ (m : ℕ). getD (set (p .values) k v) m (pos 0) ≡ v) (sym (eqb-true n k e)) (getD-set-same (p .values) k v (pos 0) (omega arith)))
+    (λ e. getD-set-other (p .values) k n v (pos 0) (eqb-false n k e))
+
+keeps-same : (r : Rule) (f g : ℕ → ℤ) (n : ℕ) → ((m : ℕ) → f m ≡ g m) → keeps r f n ≡ keeps r g n
+keeps-same Unknown f g n e = refl
+keeps-same ReadOnly f g n e = refl
+keeps-same Word f g n e = refl
+keeps-same (Free low high) f g n e = rw (e n) refl
+keeps-same (Pair low high strict) f g n e = rw (e n, e (n + 1), e (n - 1)) refl
+keeps-same (Between low high) f g n e = rw (e n, e low, e high) refl
+
+by-place : {A : Type 0} (n k : ℕ) → (n < k → A) → (n ≡ k → A) → (k < n → A) → A
+by-place {A} n k f g h = go (ltb n k) refl (eqb n k) refl
+  where
+    go : (s : Bool) → ltb n k ≡ s → (t : Bool) → eqb n k ≡ t → A
+    go true e t d = f (ltb-true n k e)
+    go false e true d = g (eqb-true n k d)
+    go false e false d = h (omega (arith, ltb-false n k e, eqb-false n k d))
+
+-- ---- no other parameter's rule looks at SL or RS: within their limits they may take any values
+
+module _ (p : Parameters) (legal : Legal p) (sl rs : ℤ) where
+  settings : ℕ → ℤ
+  settings = changed (changed (value p) 20 sl) 21 rs
+
+  settings-size : length (withValue p 20 sl .values) ≡ 24
+  unfolding withValue
+  settings-size = length-set (p .values) 20 sl ∙ legal .size
+
+  settings-are : (n : ℕ) → value (withValue (withValue p 20 sl) 21 rs) n ≡ settings n
+  unfolding settings
+  settings-are n =
+      value-with (withValue p 20 sl) 21 rs settings-size (omega arith) n ∙
+      ap (λ (v : ℤ). if eqb n 21 then rs else v) (value-with p 20 sl (legal .size) (omega arith) n)
+
+  rules-from : (many first : ℕ) → 1 ≤ first → first + many ≤ 24 → Each (λ (n : ℕ). keeps (ruleOf n) (value p) n ≡ true) first many
+  rules-from many first a b =
+      each-of (λ (n : ℕ). keeps (ruleOf n) (value p) n ≡ true) many first (λ n h l. legal .rules n (omega arith) (omega arith))
+
+  pub settings-legal : isWithin (t.LS p) (t.HS p) sl ≡ true → isWithin (t.LR p) (t.HR p) rs ≡ true → Legal (withValue (withValue p 20 sl) 21 rs)
+  unfolding ruleOf withValue settings
+  settings-legal e d =
+      let P : ℕ → Type 0 = λ m. keeps (ruleOf m) settings m ≡ true in
+      record {
+        size = length-set (set (p .values) 20 sl) 21 rs ∙ settings-size;
+        rules = λ n a b.
+          keeps-same (ruleOf n) (value (withValue (withValue p 20 sl) 21 rs)) settings n settings-are ∙
+          by-place n 20 (λ l. each-in P 19 1 n (rules-from 19 1 (omega arith) (omega arith)) a l) (λ q. subst P (sym q) e)
+          (λ l. by-place n 21 (λ k. absurd (omega arith)) (λ q. subst P (sym q) d)
+          (λ k. each-in P 2 22 n (rules-from 2 22 (omega arith) (omega arith)) k (omega arith)));
+      }
+
+-- ---- what the rules come to, in orders of integers
+
+pub record Ordered (least low high most : ℤ) : Type 0 where
+  pub not-below : least ≤ℤ low
+  pub order : low ≤ℤ high
+  pub not-above : high ≤ℤ most
+
+pub record Inside (least v most : ℤ) : Type 0 where
+  pub not-below : least ≤ℤ v
+  pub not-above : v ≤ℤ most
+
+-- of each parameter that a scan reckons with
+pub record Ranges (p : Parameters) : Type 0 where
+  pub channel1 : Ordered (negℤ (pos 9999)) (t.L1 p) (t.H1 p) (pos 9999)
+  pub channel2 : Ordered (negℤ (pos 9999)) (t.L2 p) (t.H2 p) (pos 9999)
+  pub channel3 : Ordered (negℤ (pos 9999)) (t.L3 p) (t.H3 p) (pos 9999)
+  pub span1 : t.L1 p <ℤ t.H1 p
+  pub span2 : t.L2 p <ℤ t.H2 p
+  pub span3 : t.L3 p <ℤ t.H3 p
+  pub ratios : Ordered (pos 1) (t.LR p) (t.HR p) (pos 9999)
+  pub setpoints : Ordered (negℤ (pos 9999)) (t.LS p) (t.HS p) (pos 9999)
+  pub outputs : Ordered (pos 0) (t.LO p) (t.HO p) (pos 9999)
+  pub low-deviation : Inside (pos 0) (t.LD p) (pos 9999)
+  pub band : Inside (pos 1) (t.XP p) (pos 9999)
+  pub integral-time : Inside (pos 0) (t.TI p) (pos 9999)
+  pub derivative-time : Inside (pos 0) (t.TD p) (pos 9999)
+  pub setpoint : Inside (t.LS p) (t.SL p) (t.HS p)
+  pub ratio : Inside (t.LR p) (t.RS p) (t.HR p)
+  pub bias : Inside (negℤ (pos 9999)) (t.RB p) (pos 9999)
+
+both : (a b : Bool) → a && b ≡ true → (a ≡ true) × (b ≡ true)
+both true b e = (refl, e)
+both false b e = (e, let z : _≡_ {A = Bool} false true = e in cc)
+
+pub inside : (low high v : ℤ) → isWithin low high v ≡ true → Inside low v high
+inside low high v e = let h = both (leZ low v) (leZ v high) e in omega (arith, integers, h .0, h .1)
+
+-- the lower of a pair and the upper, from the rules of both
+ordered : (strict : Bool) (least most low high : ℤ) → (isWithin least most high && inOrder strict low high) ≡ true → (isWithin least most low && inOrder strict low high) ≡ true → Ordered least low high most
+ordered true least most low high d e = let h = both (isWithin least most high) (ltZ low high) d in let k = both (isWithin least most low) (ltZ low high) e in
+    omega (arith, integers, inside least most high (h .0), inside least most low (k .0), h .1)
+ordered false least most low high d e = let h = both (isWithin least most high) (leZ low high) d in let k = both (isWithin least most low) (leZ low high) e in
+    omega (arith, integers, inside least most high (h .0), inside least most low (k .0), h .1)
+
+spanned : (least most low high : ℤ) → (isWithin least most high && ltZ low high) ≡ true → low <ℤ high
+spanned least most low high d = let h = both (isWithin least most high) (ltZ low high) d in omega (arith, integers, h .1)
+
+pub ranges : (p : Parameters) → Legal p → Ranges p
+unfolding ruleOf
+ranges p legal =
+    record {
+      channel1 = ordered true _ _ _ _ (legal .rules 1 (omega arith) (omega arith)) (legal .rules 2 (omega arith) (omega arith));
+      channel2 = ordered true _ _ _ _ (legal .rules 3 (omega arith) (omega arith)) (legal .rules 4 (omega arith) (omega arith));
+      channel3 = ordered true _ _ _ _ (legal .rules 5 (omega arith) (omega arith)) (legal .rules 6 (omega arith) (omega arith));
+      span1 = spanned (negℤ (pos 9999)) (pos 9999) (t.L1 p) (t.H1 p) (legal .rules 1 (omega arith) (omega arith));
+      span2 = spanned (negℤ (pos 9999)) (pos 9999) (t.L2 p) (t.H2 p) (legal .rules 3 (omega arith) (omega arith));
+      span3 = spanned (negℤ (pos 9999)) (pos 9999) (t.L3 p) (t.H3 p) (legal .rules 5 (omega arith) (omega arith));
+      ratios = ordered false _ _ _ _ (legal .rules 7 (omega arith) (omega arith)) (legal .rules 8 (omega arith) (omega arith));
+      setpoints = ordered false _ _ _ _ (legal .rules 9 (omega arith) (omega arith)) (legal .rules 10 (omega arith) (omega arith));
+      outputs = ordered false _ _ _ _ (legal .rules 15 (omega arith) (omega arith)) (legal .rules 16 (omega arith) (omega arith));
+      low-deviation = inside _ _ _ (legal .rules 14 (omega arith) (omega arith));
+      band = inside _ _ _ (legal .rules 17 (omega arith) (omega arith));
+      integral-time = inside _ _ _ (legal .rules 18 (omega arith) (omega arith));
+      derivative-time = inside _ _ _ (legal .rules 19 (omega arith) (omega arith));
+      setpoint = inside _ _ _ (legal .rules 20 (omega arith) (omega arith));
+      ratio = inside _ _ _ (legal .rules 21 (omega arith) (omega arith));
+      bias = inside _ _ _ (legal .rules 22 (omega arith) (omega arith));
+    }

@@ -1,0 +1,4 @@
+pub mod Legal
+pub mod LegalLaws
+pub mod Range
+pub mod Table

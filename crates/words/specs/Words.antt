@@ -1,0 +1,79 @@
+-- Document 01, "Words (004, 4.3.5, 4.3.6)": MD and DS, bit by bit.
+use mathlib.Core.Bool.{Bool, true, false, not}
+use Prim.Native.Nat.{ℕ, _+_, _*_}
+use lib.Dec.{eqb}
+use Rattle.integers.specs.Choice.{if_then_else_}
+use Rattle.signals.specs.Signals.{pinsOf, buttonsOf}
+use Rattle.modes.specs.Modes.{isOpenCause, isCause}
+use Rattle.modes.specs.declared.Conditions.{Conditions}
+use Rattle.modes.specs.declared.Mode.{Mode}
+use Rattle.modes.specs.declared.Mode.the-variants.{Hold, Track, Forced, Manual, Auto, Remote, Ratio, Fallback}
+use Rattle.words.specs.declared.Marks.{Marks}
+use Rattle.words.specs.declared.Shown.{Shown}
+
+-- a byte by its bits 7 to 0
+abbrev pub weight : Bool → ℕ → ℕ
+weight b w = if b then w else 0
+
+unfoldable pub byteOf : Bool → Bool → Bool → Bool → Bool → Bool → Bool → Bool → ℕ
+byteOf b7 b6 b5 b4 b3 b2 b1 b0 =
+    weight b7 128 + weight b6 64 + weight b5 32 + weight b4 16 + weight b3 8 + weight b2 4 + weight b1 2 + weight b0 1
+
+-- ---- "MD: 15 Hold, 14 Track, 13 Manual or Forced, 12 Auto or Fall-back, 11 Remote or Ratio, 10 Remote pin, 9 open cause, 8 memory fault,
+-- 7 Lower, 6 Raise, 5 zero, 4 measured power, 3 SP, 2 R, 1 A, 0 M."
+
+-- the bit that shows the mode
+abbrev pub modeBit : Mode → ℕ
+modeBit Hold = 15
+modeBit Track = 14
+modeBit Forced = 13
+modeBit Manual = 13
+modeBit Auto = 12
+modeBit Fallback = 12
+modeBit Remote = 11
+modeBit Ratio = 11
+
+unfoldable pub mdHigh : Mode → Conditions → ℕ
+mdHigh mode c =
+    let n = modeBit mode in
+    byteOf (eqb n 15) (eqb n 14) (eqb n 13) (eqb n 12) (eqb n 11) (pinsOf (c .pins) .remote) (isOpenCause (c .opens)) (c .fault)
+
+unfoldable pub mdLow : Marks → Shown → ℕ
+mdLow marks shown =
+    let b = buttonsOf (shown .buttons) in
+    byteOf (b .lower) (b .raise) false (marks .power) (b .sp) (b .r) (b .a) (b .m)
+
+unfoldable pub MD : Mode → Conditions → Marks → Shown → ℕ
+MD mode c marks shown = 256 * mdHigh mode c + mdLow marks shown
+
+-- ---- "DS: high byte the pin byte; 7, 6 user bits 2, 1; 5 is 0 in Hold, Manual, Forced; 4 is 0 in Remote, Ratio; 3 is 0 for battery low, 2 for a
+-- cause, 1 for low alarm, 0 for high" alarm
+
+-- 0 in Hold, Manual, Forced
+abbrev pub bit5 : Mode → Bool
+bit5 Hold = false
+bit5 Track = true
+bit5 Forced = false
+bit5 Manual = false
+bit5 Auto = true
+bit5 Remote = true
+bit5 Ratio = true
+bit5 Fallback = true
+
+-- 0 in Remote, Ratio
+abbrev pub bit4 : Mode → Bool
+bit4 Hold = true
+bit4 Track = true
+bit4 Forced = true
+bit4 Manual = true
+bit4 Auto = true
+bit4 Remote = false
+bit4 Ratio = false
+bit4 Fallback = true
+
+unfoldable pub dsLow : Mode → Conditions → Marks → Shown → ℕ
+dsLow mode c marks shown =
+    byteOf (marks .user2) (marks .user1) (bit5 mode) (bit4 mode) (not (shown .batterylow)) (not (isCause (c .fault) (c .opens))) (not (shown .lowalarm)) (not (shown .highalarm))
+
+unfoldable pub DS : Mode → Conditions → Marks → Shown → ℕ
+DS mode c marks shown = 256 * c .pins + dsLow mode c marks shown

@@ -1,0 +1,128 @@
+// The status words MD and DS.
+ghost use mathlib.Core.Path.{_≡_};
+ghost use Prim.Native.Nat.{_≤_};
+ghost use Rattle.words.specs.Words.{weight, byteOf, modeBit, bit5, bit4, mdHigh, mdLow, MD, dsLow, DS};
+use modes::Conditions;
+use modes::Mode;
+
+// User bits 1 and 2, and MD bit 4: whether channel 3 is measured power.
+pub struct Marks {
+    pub user1: bool,
+    pub user2: bool,
+    pub power: bool,
+}
+
+// What the last scan leaves to be shown beside PV, SP, ER and MP: the button byte, the battery and the alarms.
+pub struct Shown {
+    pub buttons: u8,
+    pub batterylow: bool,
+    pub lowalarm: bool,
+    pub highalarm: bool,
+}
+
+fn weight(b: bool, w: u16) -> u16
+    ensures { λ r. ⌜ (r ≡ weight b w) × (r ≤ w) ⌝ }
+{
+    if b { w } else { 0 }
+}
+
+// A byte by its bits 7 to 0.
+fn byte(b7: bool, b6: bool, b5: bool, b4: bool, b3: bool, b2: bool, b1: bool, b0: bool) -> u16
+    ensures { λ r. ⌜ (r ≡ byteOf b7 b6 b5 b4 b3 b2 b1 b0) × (r ≤ 255) ⌝ }
+{
+    weight(b7, 128)
+        + weight(b6, 64)
+        + weight(b5, 32)
+        + weight(b4, 16)
+        + weight(b3, 8)
+        + weight(b2, 4)
+        + weight(b1, 2)
+        + weight(b0, 1)
+}
+
+fn mode_bit(mode: Mode) -> u16
+    ensures { λ r. ⌜ r ≡ modeBit mode ⌝ }
+{
+    match mode {
+        Mode::Hold => 15,
+        Mode::Track => 14,
+        Mode::Forced => 13,
+        Mode::Manual => 13,
+        Mode::Auto => 12,
+        Mode::Fallback => 12,
+        Mode::Remote => 11,
+        Mode::Ratio => 11,
+    }
+}
+
+fn bit_5(mode: Mode) -> bool
+    ensures { λ r. ⌜ r ≡ bit5 mode ⌝ }
+{
+    match mode {
+        Mode::Hold => false,
+        Mode::Track => true,
+        Mode::Forced => false,
+        Mode::Manual => false,
+        Mode::Auto => true,
+        Mode::Remote => true,
+        Mode::Ratio => true,
+        Mode::Fallback => true,
+    }
+}
+
+fn bit_4(mode: Mode) -> bool
+    ensures { λ r. ⌜ r ≡ bit4 mode ⌝ }
+{
+    match mode {
+        Mode::Hold => true,
+        Mode::Track => true,
+        Mode::Forced => true,
+        Mode::Manual => true,
+        Mode::Auto => true,
+        Mode::Remote => false,
+        Mode::Ratio => false,
+        Mode::Fallback => true,
+    }
+}
+
+fn md_high(mode: Mode, c: Conditions) -> u16
+    ensures { λ r. ⌜ (r ≡ mdHigh mode c) × (r ≤ 255) ⌝ }
+{
+    let n = mode_bit(mode);
+    let p = signals::pins_of(c.pins);
+    let late = modes::is_open_cause(c.opens);
+    byte(n == 15, n == 14, n == 13, n == 12, n == 11, p.remote, late, c.fault)
+}
+
+fn md_low(marks: Marks, shown: Shown) -> u16
+    ensures { λ r. ⌜ (r ≡ mdLow marks shown) × (r ≤ 255) ⌝ }
+{
+    let b = signals::buttons_of(shown.buttons);
+    byte(b.lower, b.raise, false, marks.power, b.sp, b.r, b.a, b.m)
+}
+
+// MD. The contract rules out a mode's bit that is wrong or missing, a fault shown for the other, and a button that is not shown.
+pub fn md(mode: Mode, c: Conditions, marks: Marks, shown: Shown) -> u16
+    ensures { λ r. ⌜ r ≡ MD mode c marks shown ⌝ }
+{
+    let high = md_high(mode, c);
+    let low = md_low(marks, shown);
+    256 * high + low
+}
+
+fn ds_low(mode: Mode, c: Conditions, marks: Marks, shown: Shown) -> u16
+    ensures { λ r. ⌜ (r ≡ dsLow mode c marks shown) × (r ≤ 255) ⌝ }
+{
+    let cause = modes::is_cause(c.fault, c.opens);
+    let b5 = bit_5(mode);
+    let b4 = bit_4(mode);
+    byte(marks.user2, marks.user1, b5, b4, !shown.batterylow, !cause, !shown.lowalarm, !shown.highalarm)
+}
+
+// DS. The contract rules out an alarm that is shown for one cause only, one that is turned about, and a pin byte that is another scan's.
+pub fn ds(mode: Mode, c: Conditions, marks: Marks, shown: Shown) -> u16
+    ensures { λ r. ⌜ r ≡ DS mode c marks shown ⌝ }
+{
+    let low = ds_low(mode, c, marks, shown);
+    256 * (c.pins as u16) + low
+}
