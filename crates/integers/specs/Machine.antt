@@ -1,8 +1,8 @@
 -- What the machine reads back of a signed number: the number itself, since it fits its width. Every width is covered by one law.
 use mathlib.Core.Path.{_≡_}
 use mathlib.Core.Bool.{true, false, cond}
-use Prim.Native.Nat.{ℕ, _^_, _<_}
-use lib.IntN.{ℤ, pos}
+use Prim.Native.Nat.{ℕ, _^_, _<_, _≤_}
+use lib.IntN.{ℤ, pos, natAbs}
 use lib.Signed.{mag, ltZ}
 use mir.Syntax.{Width}
 use mir.Val.{SFits, toZ, ofZ, hbits}
@@ -20,6 +20,10 @@ back w z h = toZ-ofZ {w = w} {z = z} (record { sfits = h })
 -- of an unsigned number that was cast to a signed type
 pub cast-back : (w : Width) (n : ℕ) → n < 2 ^ hbits w → toZ w n ≡ pos n
 cast-back w n h = toZ-ofZ {w = w} {z = pos n} (record { sfits = h })
+
+-- a number so small that a sum or difference of two fits 64 bits by far: up to a million million
+pub record Small (z : ℤ) : Type 0 where
+  pub small : natAbs z ≤ 1000000000000
 
 -- ---- `if a < b { x } else { y }` of signed numbers, as each arm leaves it
 

@@ -2,7 +2,10 @@
 // The laws that let `omega` read integers, for the proofs of every crate above, are in specs/.
 ghost use mathlib.Core.Path.{_≡_};
 ghost use Prim.Native.Nat.{_<_};
-ghost use lib.IntN.{natAbs};
+ghost use lib.IntN.{natAbs, _+ℤ_, _-ℤ_};
+ghost use lib.Signed.{ltZ};
+ghost use Rattle.integers.specs.Choice.{if_then_else_};
+ghost use Rattle.integers.specs.Machine.{Small};
 ghost use Rattle.integers.specs.Sign.{fromSign, isNegative};
 ghost use Rattle.integers.specs.Limit.{atLeast, atMost, limited};
 ghost use Rattle.integers.specs.Rounding.{halfUp, halfEven};
@@ -32,6 +35,36 @@ pub fn signed(minus: bool, m: u64) -> i64
     ensures { λ r. ⌜ r ≡ fromSign minus m ⌝ }
 {
     if minus { 0 - m as i64 } else { m as i64 }
+}
+
+// a < b. The contract rules out ≤ for <.
+pub fn less(a: i64, b: i64) -> bool
+    ensures { λ r. ⌜ r ≡ ltZ a b ⌝ }
+{
+    a < b
+}
+
+// x where the test holds, else y.
+pub fn choose(test: bool, x: i64, y: i64) -> i64
+    ensures { λ r. ⌜ r ≡ if test then x else y ⌝ }
+{
+    if test { x } else { y }
+}
+
+// a + b of numbers far from the type's ends. The contract rules out a sum that wraps.
+pub fn plus(a: i64, b: i64) -> i64
+    requires { ⌜ Small a × Small b ⌝ }
+    ensures { λ r. ⌜ r ≡ a +ℤ b ⌝ }
+{
+    a + b
+}
+
+// a - b, likewise.
+pub fn minus(a: i64, b: i64) -> i64
+    requires { ⌜ Small a × Small b ⌝ }
+    ensures { λ r. ⌜ r ≡ a -ℤ b ⌝ }
+{
+    a - b
 }
 
 fn at_least(low: i64, value: i64) -> i64

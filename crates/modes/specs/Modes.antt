@@ -84,6 +84,37 @@ isAutomatic Remote = true
 isAutomatic Ratio = true
 isAutomatic Fallback = true
 
+-- for rules that speak of one mode
+abbrev pub isTrack : Mode → Bool
+isTrack Hold = false
+isTrack Track = true
+isTrack Forced = false
+isTrack Manual = false
+isTrack Auto = false
+isTrack Remote = false
+isTrack Ratio = false
+isTrack Fallback = false
+
+abbrev pub isRemote : Mode → Bool
+isRemote Hold = false
+isRemote Track = false
+isRemote Forced = false
+isRemote Manual = false
+isRemote Auto = false
+isRemote Remote = true
+isRemote Ratio = false
+isRemote Fallback = false
+
+abbrev pub isRatio : Mode → Bool
+isRatio Hold = false
+isRatio Track = false
+isRatio Forced = false
+isRatio Manual = false
+isRatio Auto = false
+isRatio Remote = false
+isRatio Ratio = true
+isRatio Fallback = false
+
 -- step 6: "on the 85th open scan, if the mode just before this scan was automatic and S2.5 is ON": the 85th is an open one with 84 before it
 unfoldable pub goesToMinimum : Conditions → Input → Bool → Bool → Bool
 goesToMinimum before i ratioswitch powerfail =

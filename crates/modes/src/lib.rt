@@ -3,7 +3,7 @@ ghost use mathlib.Core.Path.{_≡_};
 ghost use mathlib.Core.Bool.{true};
 ghost use Prim.Native.Nat.{_≤_};
 ghost use Rattle.signals.specs.declared.Input.{Input};
-ghost use Rattle.modes.specs.Modes.{isOpenCause, isCause, counted, opensAfter, requestBy, requestAfter, conditionsAfter, modeBy, inPriority, modeOf, isAutomatic, goesToMinimum};
+ghost use Rattle.modes.specs.Modes.{isOpenCause, isCause, counted, opensAfter, requestBy, requestAfter, conditionsAfter, modeBy, inPriority, modeOf, isAutomatic, isTrack, isRemote, isRatio, goesToMinimum};
 use signals::Buttons;
 use signals::Input;
 
@@ -91,7 +91,11 @@ fn mode_by(q: Request, remotepin: bool, ratioswitch: bool) -> Mode
         Request::Auto => Mode::Auto,
         Request::Remote => {
             if remotepin {
-                if ratioswitch { Mode::Ratio } else { Mode::Remote }
+                if ratioswitch {
+                    Mode::Ratio
+                } else {
+                    Mode::Remote
+                }
             } else {
                 Mode::Fallback
             }
@@ -126,6 +130,51 @@ pub fn is_automatic(mode: Mode) -> bool
         Mode::Remote => true,
         Mode::Ratio => true,
         Mode::Fallback => true,
+    }
+}
+
+pub fn is_track(mode: Mode) -> bool
+    ensures { λ r. ⌜ r ≡ isTrack mode ⌝ }
+{
+    match mode {
+        Mode::Hold => false,
+        Mode::Track => true,
+        Mode::Forced => false,
+        Mode::Manual => false,
+        Mode::Auto => false,
+        Mode::Remote => false,
+        Mode::Ratio => false,
+        Mode::Fallback => false,
+    }
+}
+
+pub fn is_remote(mode: Mode) -> bool
+    ensures { λ r. ⌜ r ≡ isRemote mode ⌝ }
+{
+    match mode {
+        Mode::Hold => false,
+        Mode::Track => false,
+        Mode::Forced => false,
+        Mode::Manual => false,
+        Mode::Auto => false,
+        Mode::Remote => true,
+        Mode::Ratio => false,
+        Mode::Fallback => false,
+    }
+}
+
+pub fn is_ratio(mode: Mode) -> bool
+    ensures { λ r. ⌜ r ≡ isRatio mode ⌝ }
+{
+    match mode {
+        Mode::Hold => false,
+        Mode::Track => false,
+        Mode::Forced => false,
+        Mode::Manual => false,
+        Mode::Auto => false,
+        Mode::Remote => false,
+        Mode::Ratio => true,
+        Mode::Fallback => false,
     }
 }
 

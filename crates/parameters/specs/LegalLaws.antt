@@ -30,9 +30,9 @@ defaults-legal =
     record {
       size = refl;
       rules = λ n a b.
-        each-in (λ (m : ℕ). keeps (ruleOf m) (value fresh) m ≡ true) 23 1 n
-        (refl, (refl, (refl, (refl, (refl, (refl, (refl, (refl, (refl, (refl, (refl, (refl, (refl, (refl, (refl, (refl, (refl, (refl, (refl, (refl, (refl, (refl, (refl, tt)))))))))))))))))))))))
-        a (omega arith);
+          each-in (λ (m : ℕ). keeps (ruleOf m) (value fresh) m ≡ true) 23 1 n
+          (refl, (refl, (refl, (refl, (refl, (refl, (refl, (refl, (refl, (refl, (refl, (refl, (refl, (refl, (refl, (refl, (refl, (refl, (refl, (refl, (refl, (refl, (refl, tt)))))))))))))))))))))))
+          a (omega arith);
     }
 
 -- ---- one value changed
@@ -90,10 +90,10 @@ module _ (p : Parameters) (legal : Legal p) (sl rs : ℤ) where
       record {
         size = length-set (set (p .values) 20 sl) 21 rs ∙ settings-size;
         rules = λ n a b.
-          keeps-same (ruleOf n) (value (withValue (withValue p 20 sl) 21 rs)) settings n settings-are ∙
-          by-place n 20 (λ l. each-in P 19 1 n (rules-from 19 1 (omega arith) (omega arith)) a l) (λ q. subst P (sym q) e)
-          (λ l. by-place n 21 (λ k. absurd (omega arith)) (λ q. subst P (sym q) d)
-          (λ k. each-in P 2 22 n (rules-from 2 22 (omega arith) (omega arith)) k (omega arith)));
+            keeps-same (ruleOf n) (value (withValue (withValue p 20 sl) 21 rs)) settings n settings-are ∙
+            by-place n 20 (λ l. each-in P 19 1 n (rules-from 19 1 (omega arith) (omega arith)) a l) (λ q. subst P (sym q) e)
+            (λ l. by-place n 21 (λ k. absurd (omega arith)) (λ q. subst P (sym q) d)
+            (λ k. each-in P 2 22 n (rules-from 2 22 (omega arith) (omega arith)) k (omega arith)));
       }
 
 -- ---- what the rules come to, in orders of integers

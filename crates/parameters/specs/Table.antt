@@ -96,19 +96,19 @@ isFrom n first last = leb first n && leb n last
 -- "a parameter number from 1 to 32 chooses the range and the rule"
 unfoldable pub ruleOf : ℕ → Rule
 ruleOf n =
-    if isFrom n 1 6 then Pair (negℤ (pos 9999)) (pos 9999) true else      -- 1H to 3L: -9999..9999, L < H
-    if isFrom n 7 8 then Pair (pos 1) (pos 9999) false else               -- HR, LR: 1..9999, LR ≤ HR
-    if isFrom n 9 12 then Pair (negℤ (pos 9999)) (pos 9999) false else    -- HS, LS; HA, LA: -9999..9999, L ≤ H
-    if isFrom n 13 14 then Free (pos 0) (pos 9999) else                   -- HD, LD: 0..9999
-    if isFrom n 15 16 then Pair (pos 0) (pos 9999) false else             -- HO, LO: 0..9999, LO ≤ HO
-    if isFrom n 17 17 then Free (pos 1) (pos 9999) else                   -- XP: 1..9999
-    if isFrom n 18 19 then Free (pos 0) (pos 9999) else                   -- TI, TD: 0..9999
-    if isFrom n 20 20 then Between 10 9 else                              -- SL: LS..HS
-    if isFrom n 21 21 then Between 8 7 else                               -- RS: LR..HR
-    if isFrom n 22 22 then Free (negℤ (pos 9999)) (pos 9999) else         -- RB: -9999..9999
-    if isFrom n 23 23 then Free (pos 0) (pos 1) else                      -- IC: 0..1
-    if isFrom n 24 25 then Word else                                      -- MD, DS: 0..65535
-    if isFrom n 26 32 then ReadOnly else                                  -- SW, II, OP, SP, PV, ER, MP
+    if isFrom n 1 6 then Pair (negℤ (pos 9999)) (pos 9999) true else  -- 1H to 3L: -9999..9999, L < H
+    if isFrom n 7 8 then Pair (pos 1) (pos 9999) false else  -- HR, LR: 1..9999, LR ≤ HR
+    if isFrom n 9 12 then Pair (negℤ (pos 9999)) (pos 9999) false else  -- HS, LS; HA, LA: -9999..9999, L ≤ H
+    if isFrom n 13 14 then Free (pos 0) (pos 9999) else  -- HD, LD: 0..9999
+    if isFrom n 15 16 then Pair (pos 0) (pos 9999) false else  -- HO, LO: 0..9999, LO ≤ HO
+    if isFrom n 17 17 then Free (pos 1) (pos 9999) else  -- XP: 1..9999
+    if isFrom n 18 19 then Free (pos 0) (pos 9999) else  -- TI, TD: 0..9999
+    if isFrom n 20 20 then Between 10 9 else  -- SL: LS..HS
+    if isFrom n 21 21 then Between 8 7 else  -- RS: LR..HR
+    if isFrom n 22 22 then Free (negℤ (pos 9999)) (pos 9999) else  -- RB: -9999..9999
+    if isFrom n 23 23 then Free (pos 0) (pos 1) else  -- IC: 0..1
+    if isFrom n 24 25 then Word else  -- MD, DS: 0..65535
+    if isFrom n 26 32 then ReadOnly else  -- SW, II, OP, SP, PV, ER, MP
     Unknown
 
 -- ---- the column "Defaults", after the unused entry 0
@@ -116,11 +116,11 @@ ruleOf n =
 abbrev pub defaults : List ℤ
 defaults =
     pos 0
-    ∷ pos 1000 ∷ pos 0 ∷ pos 1000 ∷ pos 0 ∷ pos 1 ∷ pos 0               -- 1H to 3L: 1000, 0, 1000, 0, 1, 0
-    ∷ pos 9999 ∷ pos 1                                                  -- HR, LR: 9999, 1
-    ∷ pos 1000 ∷ pos 0 ∷ pos 9999 ∷ negℤ (pos 9999)                     -- HS, LS, HA, LA: 1000, 0, 9999, -9999
-    ∷ pos 9999 ∷ pos 9999                                               -- HD, LD: 9999, 9999
-    ∷ pos 9999 ∷ pos 0                                                  -- HO, LO: 9999, 0
-    ∷ pos 1000 ∷ pos 0 ∷ pos 0                                          -- XP: 1000; TI, TD: 0, 0
-    ∷ pos 0 ∷ pos 100 ∷ pos 0 ∷ pos 0                                   -- SL: 0; RS: 100; RB: 0; IC: 0
+    ∷ pos 1000 ∷ pos 0 ∷ pos 1000 ∷ pos 0 ∷ pos 1 ∷ pos 0  -- 1H to 3L: 1000, 0, 1000, 0, 1, 0
+    ∷ pos 9999 ∷ pos 1  -- HR, LR: 9999, 1
+    ∷ pos 1000 ∷ pos 0 ∷ pos 9999 ∷ negℤ (pos 9999)  -- HS, LS, HA, LA: 1000, 0, 9999, -9999
+    ∷ pos 9999 ∷ pos 9999  -- HD, LD: 9999, 9999
+    ∷ pos 9999 ∷ pos 0  -- HO, LO: 9999, 0
+    ∷ pos 1000 ∷ pos 0 ∷ pos 0  -- XP: 1000; TI, TD: 0, 0
+    ∷ pos 0 ∷ pos 100 ∷ pos 0 ∷ pos 0  -- SL: 0; RS: 100; RB: 0; IC: 0
     ∷ []

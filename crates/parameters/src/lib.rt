@@ -23,27 +23,49 @@ pub enum Rule {
 }
 
 pub const H1: usize = 1;
+
 pub const L1: usize = 2;
+
 pub const H2: usize = 3;
+
 pub const L2: usize = 4;
+
 pub const H3: usize = 5;
+
 pub const L3: usize = 6;
+
 pub const HR: usize = 7;
+
 pub const LR: usize = 8;
+
 pub const HS: usize = 9;
+
 pub const LS: usize = 10;
+
 pub const HA: usize = 11;
+
 pub const LA: usize = 12;
+
 pub const HD: usize = 13;
+
 pub const LD: usize = 14;
+
 pub const HO: usize = 15;
+
 pub const LO: usize = 16;
+
 pub const XP: usize = 17;
+
 pub const TI: usize = 18;
+
 pub const TD: usize = 19;
+
 pub const SL: usize = 20;
+
 pub const RS: usize = 21;
+
 pub const RB: usize = 22;
+
 pub const IC: usize = 23;
 
 impl Parameters {

@@ -91,7 +91,16 @@ fn md_high(mode: Mode, c: Conditions) -> u16
     let n = mode_bit(mode);
     let p = signals::pins_of(c.pins);
     let late = modes::is_open_cause(c.opens);
-    byte(n == 15, n == 14, n == 13, n == 12, n == 11, p.remote, late, c.fault)
+    byte(
+        n == 15,
+        n == 14,
+        n == 13,
+        n == 12,
+        n == 11,
+        p.remote,
+        late,
+        c.fault,
+    )
 }
 
 fn md_low(marks: Marks, shown: Shown) -> u16
@@ -116,7 +125,16 @@ fn ds_low(mode: Mode, c: Conditions, marks: Marks, shown: Shown) -> u16
     let cause = modes::is_cause(c.fault, c.opens);
     let b5 = bit_5(mode);
     let b4 = bit_4(mode);
-    byte(marks.user2, marks.user1, b5, b4, !shown.batterylow, !cause, !shown.lowalarm, !shown.highalarm)
+    byte(
+        marks.user2,
+        marks.user1,
+        b5,
+        b4,
+        !shown.batterylow,
+        !cause,
+        !shown.lowalarm,
+        !shown.highalarm,
+    )
 }
 
 // DS. The contract rules out an alarm that is shown for one cause only, one that is turned about, and a pin byte that is another scan's.

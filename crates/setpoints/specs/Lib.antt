@@ -1,0 +1,3 @@
+pub mod Reckoning
+pub mod ReckoningLaws
+pub mod Setpoints
