@@ -2,7 +2,7 @@
 use mathlib.Core.Path.{_≡_, refl}
 use mathlib.Core.Bool.{Bool, true, false, cond}
 
-infix 10 if_then_else_
+infix 5 if_then_else_
 abbrev pub if_then_else_ : {A : Type 0} → Bool → A → A → A
 if t then x else y = cond t x y
 

@@ -115,6 +115,28 @@ isRatio Remote = false
 isRatio Ratio = true
 isRatio Fallback = false
 
+-- Terms: "in Auto and Fall-back"
+abbrev pub isAutoOrFallback : Mode → Bool
+isAutoOrFallback Hold = false
+isAutoOrFallback Track = false
+isAutoOrFallback Forced = false
+isAutoOrFallback Manual = false
+isAutoOrFallback Auto = true
+isAutoOrFallback Remote = false
+isAutoOrFallback Ratio = false
+isAutoOrFallback Fallback = true
+
+-- step 6: "Outside Hold and Track"
+abbrev pub isLimiting : Mode → Bool
+isLimiting Hold = false
+isLimiting Track = false
+isLimiting Forced = true
+isLimiting Manual = true
+isLimiting Auto = true
+isLimiting Remote = true
+isLimiting Ratio = true
+isLimiting Fallback = true
+
 -- step 6: "on the 85th open scan, if the mode just before this scan was automatic and S2.5 is ON": the 85th is an open one with 84 before it
 unfoldable pub goesToMinimum : Conditions → Input → Bool → Bool → Bool
 goesToMinimum before i ratioswitch powerfail =

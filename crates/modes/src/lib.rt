@@ -3,7 +3,7 @@ ghost use mathlib.Core.Path.{_≡_};
 ghost use mathlib.Core.Bool.{true};
 ghost use Prim.Native.Nat.{_≤_};
 ghost use Rattle.signals.specs.declared.Input.{Input};
-ghost use Rattle.modes.specs.Modes.{isOpenCause, isCause, counted, opensAfter, requestBy, requestAfter, conditionsAfter, modeBy, inPriority, modeOf, isAutomatic, isTrack, isRemote, isRatio, goesToMinimum};
+ghost use Rattle.modes.specs.Modes.{isOpenCause, isCause, counted, opensAfter, requestBy, requestAfter, conditionsAfter, modeBy, inPriority, modeOf, isAutomatic, isTrack, isRemote, isRatio, isAutoOrFallback, isLimiting, goesToMinimum};
 use signals::Buttons;
 use signals::Input;
 
@@ -175,6 +175,36 @@ pub fn is_ratio(mode: Mode) -> bool
         Mode::Remote => false,
         Mode::Ratio => true,
         Mode::Fallback => false,
+    }
+}
+
+pub fn is_auto_or_fallback(mode: Mode) -> bool
+    ensures { λ r. ⌜ r ≡ isAutoOrFallback mode ⌝ }
+{
+    match mode {
+        Mode::Hold => false,
+        Mode::Track => false,
+        Mode::Forced => false,
+        Mode::Manual => false,
+        Mode::Auto => true,
+        Mode::Remote => false,
+        Mode::Ratio => false,
+        Mode::Fallback => true,
+    }
+}
+
+pub fn is_limiting(mode: Mode) -> bool
+    ensures { λ r. ⌜ r ≡ isLimiting mode ⌝ }
+{
+    match mode {
+        Mode::Hold => false,
+        Mode::Track => false,
+        Mode::Forced => true,
+        Mode::Manual => true,
+        Mode::Auto => true,
+        Mode::Remote => true,
+        Mode::Ratio => true,
+        Mode::Fallback => true,
     }
 }
 

@@ -8,7 +8,9 @@ use lib.IntN.{ℤ, pos, negℤ, natAbs, _+ℤ_, _-ℤ_}
 use lib.Signed.{leZ, _≤ℤ_}
 use Rattle.integers.specs.Choice.{if_then_else_, by-cases}
 use Rattle.integers.specs.Limit.{limited, limited-low, limited-high}
-use Rattle.integers.specs.Machine.{Small}
+use mir.Syntax.{w64}
+use mir.Val.{toZ, ofZ}
+use Rattle.integers.specs.Machine.{Small, back}
 use Rattle.integers.specs.Operations.{number, sum, difference, negation}
 use Rattle.integers.specs.Parts.{integers, apart}
 use Rattle.scaling.specs.Ratio.{RatioRange, ratioQuotient, inverseQuotient, ratio-size, inverse-size}
@@ -90,6 +92,16 @@ module _ (p : Parameters) (legal : Legal p) where
       let r = ranges p legal in
       record { small = omega (arith, integers, r .low-deviation .not-below, r .low-deviation .not-above, number (LD p), apart (LD p)) }
 
+  pub low-reading : Reading (L1 p)
+  low-reading =
+      let r = ranges p legal in
+      record { reading = omega (arith, integers, r .channel1 .not-below, r .channel1 .order, r .channel1 .not-above, number (L1 p), apart (L1 p)) }
+
+  pub high-reading : Reading (H1 p)
+  high-reading =
+      let r = ranges p legal in
+      record { reading = omega (arith, integers, r .channel1 .not-below, r .channel1 .order, r .channel1 .not-above, number (H1 p), apart (H1 p)) }
+
   pub bias-small : Small (RB p)
   bias-small =
       let r = ranges p legal in
@@ -149,9 +161,8 @@ module _ (p : Parameters) (legal : Legal p) where
     pub pv-reading : Reading (processVariable p i)
     unfolding processVariable
     pv-reading =
-        let r = ranges p legal in
         by-cases Reading (isOpen i) (L1 p) (scaled (L1 p) (H1 p) (firstSample p (i .sample1)))
-        (λ e. record { reading = omega (arith, integers, r .channel1 .not-below, r .channel1 .order, r .channel1 .not-above, number (L1 p), apart (L1 p)) })
+        (λ e. low-reading p legal)
         (λ e. scaled-reading (range1 p legal _ (first-most p (i .sample1) (sampled .first))))
 
     third-reading : Reading (thirdChannel p i)
@@ -194,3 +205,7 @@ reckoned-legal p s power mode i legal =
     settings-legal p legal _ _
     (is-within _ _ _ (chosen-inside (isRemote mode || isRatio mode) _ _ _ _ (limited-setpoint p legal s mode _ _ _ i) (setpoint-inside p legal (s .tracking) mode i _)))
     (is-within _ _ _ (ratio-inside p legal mode i))
+
+-- a reading is read back from the machine as it is
+pub reading-back : {z : ℤ} → Reading z → toZ w64 (ofZ w64 z) ≡ z
+reading-back {z} h = back w64 z (omega (arith, h .reading, number z))

@@ -1,0 +1,5 @@
+pub mod Deviation
+pub mod History
+pub mod Instruction
+pub mod OutputLaws
+pub mod Outputs

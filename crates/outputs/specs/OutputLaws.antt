@@ -1,0 +1,184 @@
+-- How large the numbers of step 6 are; what is remembered stays within -9999..9999, and the stored output within 0..9999 units.
+use mathlib.Core.Path.{_≡_, refl}
+use mathlib.Core.Bool.{Bool, true, false, cond, not, _&&_}
+use Prim.Native.Nat.{ℕ, _+_, _*_, _≤_, min}
+use native.Mathlib.Omega.{arith}
+use lib.IntN.{ℤ, pos, negℤ, natAbs, _+ℤ_, _-ℤ_, _*ℤ_}
+use lib.Signed.{_≤ℤ_}
+use Rattle.integers.specs.Choice.{if_then_else_, by-cases}
+use Rattle.integers.specs.Limit.{limited-low, limited-high}
+use Rattle.integers.specs.Machine.{Small}
+use Rattle.integers.specs.Operations.{Size, number, sum, difference, product, sum-size, difference-size}
+use Rattle.integers.specs.Parts.{integers, apart}
+use Rattle.terms.specs.Fraction.{Fraction, Positive, storedUnits, limitedStored}
+use Rattle.terms.specs.TermLaws.{term-size}
+use Rattle.terms.specs.Terms.{storedTerm, TuningRange}
+use Rattle.signals.specs.declared.Switches.{Switches}
+use Rattle.modes.specs.Modes.{isLimiting, isAutoOrFallback}
+use Rattle.modes.specs.declared.Mode.{Mode}
+use Rattle.modes.specs.declared.Mode.the-variants.{Hold, Track, Forced, Manual, Auto, Remote, Ratio, Fallback}
+use Rattle.parameters.specs.Legal.{Legal}
+use Rattle.parameters.specs.LegalLaws.{ranges, Ranges}
+use Rattle.parameters.specs.Table.{H1, L1, HO, LO, XP, TI, TD}
+use Rattle.parameters.specs.declared.Parameters.{Parameters}
+use Rattle.setpoints.specs.ReckoningLaws.{Reading}
+use Rattle.setpoints.specs.declared.Readings.{Readings}
+use Rattle.outputs.specs.Deviation.{deviation, earlierSetpoint, changeOfDeviation, secondDifference, tuningOf}
+use Rattle.outputs.specs.History.{remembered, historyAfter, recalled}
+use Rattle.outputs.specs.Instruction.{Limits, unlimited, between, storedArithmetic, changed, limitedTo, carriedOut}
+use Rattle.outputs.specs.Outputs.{changeIn, limitsIn, minimumOf, instructionOf}
+use Rattle.outputs.specs.declared.History.{History}
+use Rattle.outputs.specs.declared.History.the-variants.{Nothing, One, Two}
+use Rattle.outputs.specs.declared.Past.{Past}
+use Rattle.outputs.specs.declared.Situation.{Situation}
+
+-- PV and SP of a scan lie in -9999..9999
+pub record Read (r : Readings) : Type 0 where
+  pub pv-read : Reading (r .pv)
+  pub sp-read : Reading (r .sp)
+
+-- so do those that are remembered
+abbrev pub Kept : History → Type 0
+Kept Nothing = Unit
+Kept (One pv sp) = Reading pv × Reading sp
+Kept (Two pv sp before) = Reading pv × Reading sp × Reading before
+
+pub record Recalled (past : Past) : Type 0 where
+  pub pv-read : Reading (past .pv)
+  pub sp-read : Reading (past .sp)
+  pub before-read : Reading (past .before)
+
+-- a stored output lies in 0..9999 units
+pub record Stored (x : ℤ) : Type 0 where
+  pub not-below : pos 0 ≤ℤ x
+  pub not-above : x ≤ℤ storedUnits (pos 9999)
+
+-- ---- what is remembered
+
+pub recalled-read : (h : History) (r : Readings) → Kept h → Read r → Recalled (recalled h r)
+recalled-read Nothing r k n = record { pv-read = n .pv-read; sp-read = n .sp-read; before-read = n .pv-read }
+recalled-read (One pv sp) r k n = record { pv-read = k .0; sp-read = k .1; before-read = k .0 }
+recalled-read (Two pv sp before) r k n = record { pv-read = k .0; sp-read = k .1; before-read = k .2 }
+
+remembered-kept : (h : History) (r : Readings) → Kept h → Read r → Kept (remembered h r)
+remembered-kept Nothing r k n = (n .pv-read, n .sp-read)
+remembered-kept (One pv sp) r k n = (n .pv-read, n .sp-read, k .0)
+remembered-kept (Two pv sp before) r k n = (n .pv-read, n .sp-read, k .0)
+
+pub history-kept : (h : History) (isopen : Bool) (r : Readings) → Kept h → Read r → Kept (historyAfter h isopen r)
+unfolding historyAfter
+history-kept h isopen r k n = by-cases Kept isopen Nothing (remembered h r) (λ e. tt) (λ e. remembered-kept h r k n)
+
+-- ---- c, c - c1 and D
+
+pub deviation-most : (inverse : Bool) (sp pv : ℤ) → Reading sp → Reading pv → natAbs (deviation inverse sp pv) ≤ 19998
+unfolding deviation
+deviation-most inverse sp pv h k =
+    by-cases (λ (z : ℤ). natAbs z ≤ 19998) inverse (pv -ℤ sp) (sp -ℤ pv)
+    (λ e. omega (arith, difference pv sp, number pv, number sp, h .reading, k .reading))
+    (λ e. omega (arith, difference sp pv, number pv, number sp, h .reading, k .reading))
+
+pub earlier-reading : (s : Switches) (mode : Mode) (r : Readings) (past : Past) → Read r → Recalled past → Reading (earlierSetpoint s mode r past)
+unfolding earlierSetpoint
+earlier-reading s mode r past n k =
+    by-cases Reading (isAutoOrFallback mode && not (s .balanceoff)) (r .sp) (past .sp) (λ e. n .sp-read) (λ e. k .sp-read)
+
+pub change-most : (s : Switches) (mode : Mode) (r : Readings) (past : Past) → Read r → Recalled past → natAbs (changeOfDeviation s mode r past) ≤ 39996
+unfolding changeOfDeviation
+change-most s mode r past n k =
+    let now = deviation (s .inverseoutput) (r .sp) (r .pv) in
+    let earlier = deviation (s .inverseoutput) (earlierSetpoint s mode r past) (past .pv) in
+    omega (
+      arith,
+      difference now earlier,
+      number now,
+      number earlier,
+      deviation-most (s .inverseoutput) (r .sp) (r .pv) (n .sp-read) (n .pv-read),
+      deviation-most (s .inverseoutput) (earlierSetpoint s mode r past) (past .pv) (earlier-reading s mode r past n k) (k .pv-read),
+    )
+
+pub twice : (z : ℤ) → z +ℤ z ≡ pos 2 *ℤ z
+twice z = omega (arith, integers, sum z z, product (pos 2) z)
+
+pub second-most : (r : Readings) (past : Past) → Read r → Recalled past → natAbs (secondDifference r past) ≤ 39996
+unfolding secondDifference
+second-most r past n k =
+    let double = pos 2 *ℤ past .pv in
+    let first = r .pv -ℤ double in
+    omega (
+      arith,
+      sum first (past .before),
+      difference (r .pv) double,
+      product (pos 2) (past .pv),
+      number (r .pv),
+      number (past .pv),
+      number (past .before),
+      n .pv-read .reading,
+      k .pv-read .reading,
+      k .before-read .reading,
+    )
+
+pub tuning-range : (p : Parameters) (s : Switches) → Legal p → TuningRange (tuningOf p s)
+unfolding tuningOf
+tuning-range p s legal =
+    let r = ranges p legal in
+    let w = H1 p -ℤ L1 p in
+    record {
+      xp-some = omega (arith, integers, r .band .not-below, number (XP p));
+      xp-most = omega (arith, integers, r .band .not-below, r .band .not-above, number (XP p), apart (XP p));
+      span-some = omega (arith, integers, r .span1, difference (H1 p) (L1 p), number w, apart w);
+      span-most = omega (arith, integers, r .channel1 .not-below, r .channel1 .not-above, r .span1, difference (H1 p) (L1 p), number w, number (H1 p), number (L1 p), apart (H1 p), apart (L1 p), apart w);
+      ti-most = omega (arith, integers, r .integral-time .not-below, r .integral-time .not-above, number (TI p), apart (TI p));
+      td-most = omega (arith, integers, r .derivative-time .not-below, r .derivative-time .not-above, number (TD p), apart (TD p));
+    }
+
+-- ---- the stored output
+
+pub stored-most : (x : ℤ) → Stored x → natAbs x ≤ 655294464
+unfolding storedUnits
+stored-most x h = omega (arith, integers, h .not-below, h .not-above, number x, apart x)
+
+pub stored-small : (x : ℤ) → Stored x → Small x
+stored-small x h = record { small = omega (arith, stored-most x h) }
+
+pub limited-choice : (t : Bool) (low high x : ℤ) → (if t then limitedStored low high x else x) ≡ limitedTo storedArithmetic (if t then between low high else unlimited) x
+unfolding limitedTo storedArithmetic
+limited-choice true low high x = refl
+limited-choice false low high x = refl
+
+module _ (p : Parameters) (legal : Legal p) where
+  pub low-limit-most : natAbs (LO p) ≤ 10000
+  low-limit-most = let r = ranges p legal in omega (arith, integers, r .outputs .not-below, r .outputs .order, r .outputs .not-above, number (LO p), apart (LO p))
+
+  pub high-limit-most : natAbs (HO p) ≤ 10000
+  high-limit-most = let r = ranges p legal in omega (arith, integers, r .outputs .not-below, r .outputs .order, r .outputs .not-above, number (HO p), apart (HO p))
+
+pub minimum-most : (p : Parameters) (s : Switches) → Legal p → natAbs (minimumOf p s) ≤ 10000
+unfolding minimumOf
+minimum-most p s legal = by-cases (λ (z : ℤ). natAbs z ≤ 10000) (s .inversion) (HO p) (LO p) (λ e. high-limit-most p legal) (λ e. low-limit-most p legal)
+
+-- ---- sums and differences of bounded numbers
+
+sized : (z : ℤ) {m : ℕ} → natAbs z ≤ m → Size z m
+sized z h = omega (arith, number z, h)
+
+pub small-of : {z : ℤ} {m : ℕ} → Size z m → m ≤ 1000000000000 → Small z
+small-of h k = record { small = omega (arith, h .size, k) }
+
+pub sum-most : {x y : ℤ} {m n : ℕ} → Size x m → Size y n → Size (x +ℤ y) (m + n)
+sum-most {x} {y} h k = omega (arith, sum-size x y, h .size, k .size)
+
+pub difference-most : {x y : ℤ} {m n : ℕ} → Size x m → Size y n → Size (x -ℤ y) (m + n)
+difference-most {x} {y} h k = omega (arith, difference-size x y, h .size, k .size)
+
+pub reading-size : {z : ℤ} → Reading z → Size z 9999
+reading-size {z} h = sized z (h .reading)
+
+pub deviation-size : (inverse : Bool) {sp pv : ℤ} → Reading sp → Reading pv → Size (deviation inverse sp pv) 19998
+deviation-size inverse {sp} {pv} h k = sized (deviation inverse sp pv) (deviation-most inverse sp pv h k)
+
+pub stored-size : {x : ℤ} → Stored x → Size x 655294464
+stored-size {x} h = sized x (stored-most x h)
+
+pub term-sized : (f : Fraction) → Positive f → Size (storedTerm f) 655360000
+term-sized f h = sized (storedTerm f) (term-size f h)

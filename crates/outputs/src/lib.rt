@@ -1,0 +1,270 @@
+// Step 6 of a scan: the output in each mode, the terms and what they are made of, the limits; and what is remembered of earlier scans.
+ghost use mathlib.Core.Path.{_≡_};
+ghost use Prim.Native.Nat.{_≤_, min};
+ghost use lib.IntN.{natAbs, pos, _*ℤ_};
+ghost use Rattle.integers.specs.Machine.{Small};
+ghost use Rattle.terms.specs.Fraction.{storedUnits};
+ghost use Rattle.parameters.specs.Legal.{Legal};
+ghost use Rattle.setpoints.specs.ReckoningLaws.{Reading};
+ghost use Rattle.outputs.specs.Deviation.{deviation, earlierSetpoint, changeOfDeviation, secondDifference, tuningOf};
+ghost use Rattle.outputs.specs.History.{remembered, historyAfter, recalled};
+ghost use Rattle.outputs.specs.Instruction.{storedArithmetic, changed, limitedTo, carriedOut};
+ghost use Rattle.outputs.specs.OutputLaws.{Read, Kept, Recalled, Stored};
+ghost use Rattle.outputs.specs.Outputs.{minimumOf, pushed, byHand, termsOf, byTerms, changeIn, limitsIn, instructionOf};
+use modes::Mode;
+use parameters::Parameters;
+use setpoints::Readings;
+use signals::Input;
+use signals::Push;
+use signals::Switches;
+use terms::Tuning;
+
+// What is remembered of earlier scans: nothing; the PV and SP of the last one; these and the PV of the one before it.
+pub enum History {
+    Nothing,
+    One { pv: i64, sp: i64 },
+    Two { pv: i64, sp: i64, before: i64 },
+}
+
+// The previous PV and SP and the PV before, as the terms take them.
+pub struct Past {
+    pub pv: i64,
+    pub sp: i64,
+    pub before: i64,
+}
+
+// What step 6 goes by: the switches, this scan's mode, whether it goes to minimum in Manual or Forced Manual, and its input.
+pub struct Situation {
+    pub switches: Switches,
+    pub mode: Mode,
+    pub tominimum: bool,
+    pub input: Input,
+}
+
+fn remembered(h: History, r: Readings) -> History
+    ensures { λ n. ⌜ n ≡ remembered h r ⌝ }
+{
+    match h {
+        History::Nothing => History::One { pv: r.pv, sp: r.sp },
+        History::One { pv, sp } => History::Two {
+            pv: r.pv,
+            sp: r.sp,
+            before: pv,
+        },
+        History::Two { pv, sp, before } => History::Two {
+            pv: r.pv,
+            sp: r.sp,
+            before: pv,
+        },
+    }
+}
+
+// The contract rules out an open scan that is remembered and one that forgets only a part.
+pub fn history_after(h: History, isopen: bool, r: Readings) -> History
+    ensures { λ n. ⌜ n ≡ historyAfter h isopen r ⌝ }
+{
+    if isopen {
+        History::Nothing
+    } else {
+        remembered(h, r)
+    }
+}
+
+fn recalled(h: History, r: Readings) -> Past
+    ensures { λ n. ⌜ n ≡ recalled h r ⌝ }
+{
+    match h {
+        History::Nothing => Past {
+            pv: r.pv,
+            sp: r.sp,
+            before: r.pv,
+        },
+        History::One { pv, sp } => Past { pv, sp, before: pv },
+        History::Two { pv, sp, before } => Past { pv, sp, before },
+    }
+}
+
+// c, or c1 of earlier values.
+fn deviation(inverse: bool, sp: i64, pv: i64) -> i64
+    requires { ⌜ Small sp × Small pv ⌝ }
+    ensures { λ n. ⌜ n ≡ deviation inverse sp pv ⌝ }
+{
+    let turned = integers::minus(pv, sp);
+    let straight = integers::minus(sp, pv);
+    integers::choose(inverse, turned, straight)
+}
+
+fn earlier_setpoint(s: Switches, mode: Mode, r: Readings, past: Past) -> i64
+    ensures { λ n. ⌜ n ≡ earlierSetpoint s mode r past ⌝ }
+{
+    let balanced = modes::is_auto_or_fallback(mode);
+    integers::choose(balanced & !s.balanceoff, r.sp, past.sp)
+}
+
+fn change_of_deviation(s: Switches, mode: Mode, r: Readings, past: Past) -> i64
+    requires { ⌜ Read r × Recalled past ⌝ }
+    ensures { λ n. ⌜ n ≡ changeOfDeviation s mode r past ⌝ }
+{
+    let now = deviation(s.inverseoutput, r.sp, r.pv);
+    let sp = earlier_setpoint(s, mode, r, past);
+    let earlier = deviation(s.inverseoutput, sp, past.pv);
+    integers::minus(now, earlier)
+}
+
+fn second_difference(r: Readings, past: Past) -> i64
+    requires { ⌜ Read r × Recalled past ⌝ }
+    ensures { λ n. ⌜ n ≡ secondDifference r past ⌝ }
+{
+    let twice = integers::plus(past.pv, past.pv);
+    let first = integers::minus(r.pv, twice);
+    integers::plus(first, past.before)
+}
+
+fn tuning_of(p: Parameters, s: Switches) -> Tuning
+    requires { ⌜ Legal p ⌝ }
+    ensures { λ n. ⌜ n ≡ tuningOf p s ⌝ }
+{
+    let xp = integers::magnitude(p.get(parameters::XP));
+    let span = integers::minus(p.get(parameters::H1), p.get(parameters::L1));
+    let ti = integers::magnitude(p.get(parameters::TI));
+    let td = integers::magnitude(p.get(parameters::TD));
+    Tuning {
+        xp,
+        span: integers::magnitude(span),
+        ti,
+        td,
+        minutes: s.minutes,
+        inverted: s.inverseoutput,
+    }
+}
+
+// The output with the three terms added, each limited and rounded by itself. The contract rules out an output that never moves.
+fn with_terms(p: Parameters, x: Situation, r: Readings, h: History, output: i64) -> i64
+    requires { ⌜ Legal p × Read r × Kept h × Stored output ⌝ }
+    ensures { λ n. ⌜ n ≡ changed storedArithmetic (termsOf p x r h) output ⌝ }
+{
+    let s = x.switches;
+    let mode = x.mode;
+    let t = tuning_of(p, s);
+    let past = recalled(h, r);
+    let change = change_of_deviation(s, mode, r, past);
+    let c = deviation(s.inverseoutput, r.sp, r.pv);
+    let d = second_difference(r, past);
+    let one = integers::plus(output, terms::proportional(t, change));
+    let two = integers::plus(one, terms::integral(t, c));
+    integers::plus(two, terms::derivative(t, d))
+}
+
+// So many whole units, stored.
+fn units(u: i64) -> i64
+    requires { ⌜ natAbs u ≤ 10000 ⌝ }
+    ensures { λ n. ⌜ n ≡ storedUnits u ⌝ }
+{
+    u * 65536
+}
+
+fn minimum_of(p: Parameters, s: Switches) -> i64
+    ensures { λ n. ⌜ n ≡ minimumOf p s ⌝ }
+{
+    let high = p.get(parameters::HO);
+    let low = p.get(parameters::LO);
+    integers::choose(s.inversion, high, low)
+}
+
+fn pushed(push: Push, output: i64) -> i64
+    requires { ⌜ Stored output ⌝ }
+    ensures { λ n. ⌜ n ≡ changed storedArithmetic (pushed push) output ⌝ }
+{
+    match push {
+        Push::Raise => {
+            let by = units(12);
+            integers::plus(output, by)
+        }
+        Push::Lower => {
+            let by = units(-12);
+            integers::plus(output, by)
+        }
+        Push::Neither => output,
+    }
+}
+
+// Manual and Forced Manual. The contract rules out a move while SP is held, and Raise or Lower beside the minimum.
+fn by_hand(p: Parameters, x: Situation, output: i64) -> i64
+    requires { ⌜ Legal p × Stored output ⌝ }
+    ensures { λ n. ⌜ n ≡ changed storedArithmetic (byHand p x) output ⌝ }
+{
+    let s = x.switches;
+    let input = x.input;
+    let b = signals::buttons_of(input.buttons);
+    let push = signals::push_of(b);
+    if x.tominimum {
+        return units(minimum_of(p, s));
+    }
+    if b.sp {
+        return output;
+    }
+    pushed(push, output)
+}
+
+// The automatic modes.
+fn by_terms(p: Parameters, x: Situation, r: Readings, h: History, output: i64) -> i64
+    requires { ⌜ Legal p × Read r × Kept h × Stored output ⌝ }
+    ensures { λ n. ⌜ n ≡ changed storedArithmetic (byTerms p x r h) output ⌝ }
+{
+    let input = x.input;
+    let isopen = signals::is_open(input);
+    if isopen {
+        return output;
+    }
+    with_terms(p, x, r, h, output)
+}
+
+// Track's output in whole units.
+fn tracked(sample: u16) -> i64
+    ensures { λ n. ⌜ n ≡ storedUnits (pos (min sample 9999)) ⌝ }
+{
+    if sample < 9999 {
+        return sample as i64 * 65536;
+    }
+    655294464
+}
+
+fn changed_in(p: Parameters, x: Situation, r: Readings, h: History, output: i64) -> i64
+    requires { ⌜ Legal p × Read r × Kept h × Stored output ⌝ }
+    ensures { λ n. ⌜ n ≡ changed storedArithmetic (changeIn (x .mode) p x r h) output ⌝ }
+{
+    let mode = x.mode;
+    let input = x.input;
+    match mode {
+        Mode::Hold => output,
+        Mode::Track => tracked(input.sample3),
+        Mode::Forced => by_hand(p, x, output),
+        Mode::Manual => by_hand(p, x, output),
+        Mode::Auto => by_terms(p, x, r, h, output),
+        Mode::Remote => by_terms(p, x, r, h, output),
+        Mode::Ratio => by_terms(p, x, r, h, output),
+        Mode::Fallback => by_terms(p, x, r, h, output),
+    }
+}
+
+fn limited_in(mode: Mode, p: Parameters, output: i64) -> i64
+    requires { ⌜ Legal p ⌝ }
+    ensures { λ n. ⌜ n ≡ limitedTo storedArithmetic (limitsIn mode p) output ⌝ }
+{
+    let limiting = modes::is_limiting(mode);
+    let low = units(p.get(parameters::LO));
+    let high = units(p.get(parameters::HO));
+    let within = integers::limit(low, high, output);
+    integers::choose(limiting, within, output)
+}
+
+// The stored output after an accepted scan. The contract rules out an output limited in Hold, one that is not limited elsewhere, one that
+// never moves, and one that repeats an earlier one.
+pub fn output_after(p: Parameters, x: Situation, r: Readings, h: History, output: i64) -> i64
+    requires { ⌜ Legal p × Read r × Kept h × Stored output ⌝ }
+    ensures { λ n. ⌜ n ≡ carriedOut storedArithmetic (instructionOf p x r h) output ⌝ }
+{
+    let mode = x.mode;
+    let to = changed_in(p, x, r, h, output);
+    limited_in(mode, p, to)
+}
