@@ -182,3 +182,56 @@ stored-size {x} h = sized x (stored-most x h)
 
 pub term-sized : (f : Fraction) → Positive f → Size (storedTerm f) 655360000
 term-sized f h = sized (storedTerm f) (term-size f h)
+
+-- ---- an output that is limited lies within its limits; every output after a scan lies in 0..9999 units
+
+pub record InUnits (low high x : ℤ) : Type 0 where
+  pub not-below : storedUnits low ≤ℤ x
+  pub not-above : x ≤ℤ storedUnits high
+
+stored-order : (a b : ℤ) → a ≤ℤ b → storedUnits a ≤ℤ storedUnits b
+unfolding storedUnits
+stored-order a b h = omega (arith, integers, product a (pos 65536), product b (pos 65536), h)
+
+pub limited-in-units : (low high x : ℤ) → low ≤ℤ high → InUnits low high (limitedStored low high x)
+unfolding limitedStored
+limited-in-units low high x h =
+    record { not-below = limited-low (storedUnits low) (storedUnits high) x (stored-order low high h); not-above = limited-high (storedUnits low) (storedUnits high) x }
+
+in-units-stored : (low high x : ℤ) → pos 0 ≤ℤ low → high ≤ℤ pos 9999 → InUnits low high x → Stored x
+unfolding storedUnits
+in-units-stored low high x h k w =
+    let a = stored-order (pos 0) low h in
+    let b = stored-order high (pos 9999) k in
+    record { not-below = omega (arith, integers, a, w .not-below); not-above = omega (arith, integers, b, w .not-above) }
+
+units-stored : (n : ℕ) → n ≤ 9999 → Stored (storedUnits (pos n))
+unfolding storedUnits
+units-stored n h = record { not-below = omega (arith, integers, product (pos n) (pos 65536)); not-above = omega (arith, integers, product (pos n) (pos 65536), h) }
+
+module _ (p : Parameters) (legal : Legal p) where
+  -- outside Hold and Track
+  pub output-in-units : (mode : Mode) (y : ℤ) → isLimiting mode ≡ true → InUnits (LO p) (HO p) (limitedTo storedArithmetic (limitsIn mode p) y)
+  unfolding limitsIn limitedTo storedArithmetic
+  output-in-units mode y e = rw e (limited-in-units (LO p) (HO p) y (ranges p legal .outputs .order))
+
+  limited-stored : (mode : Mode) (y : ℤ) → isLimiting mode ≡ true → Stored (limitedTo storedArithmetic (limitsIn mode p) y)
+  limited-stored mode y e =
+      let r = ranges p legal in
+      in-units-stored (LO p) (HO p) _ (r .outputs .not-below) (r .outputs .not-above) (output-in-units mode y e)
+
+  stored-in : (mode : Mode) (x : Situation) (r : Readings) (h : History) (output : ℤ) → Stored output →
+      Stored (limitedTo storedArithmetic (limitsIn mode p) (changed storedArithmetic (changeIn mode p x r h) output))
+  unfolding limitsIn limitedTo changed storedArithmetic
+  stored-in Hold x r h output k = k
+  stored-in Track x r h output k = units-stored (min (x .input .sample3) 9999) (omega arith)
+  stored-in Forced x r h output k = limited-stored Forced _ refl
+  stored-in Manual x r h output k = limited-stored Manual _ refl
+  stored-in Auto x r h output k = limited-stored Auto _ refl
+  stored-in Remote x r h output k = limited-stored Remote _ refl
+  stored-in Ratio x r h output k = limited-stored Ratio _ refl
+  stored-in Fallback x r h output k = limited-stored Fallback _ refl
+
+  pub output-stored : (x : Situation) (r : Readings) (h : History) (output : ℤ) → Stored output → Stored (carriedOut storedArithmetic (instructionOf p x r h) output)
+  unfolding carriedOut instructionOf
+  output-stored x r h output k = stored-in (x .mode) x r h output k

@@ -1,4 +1,5 @@
 pub mod Legal
 pub mod LegalLaws
 pub mod Range
+pub mod RuleLaws
 pub mod Table

@@ -14,12 +14,12 @@ pub enum Rule {
     ReadOnly,
     // MD and DS: a word of 16 bits
     Word,
-    // a range alone
-    Free { low: i64, high: i64 },
-    // a range, and an order: the upper one of a pair has the odd number and the lower one the next; strictly in order where strict is true
-    Pair { low: i64, high: i64, strict: bool },
-    // between two other parameters, named by their numbers
-    Between { low: u64, high: u64 },
+    // a range alone, from least to most
+    Free(i64, i64),
+    // a range, and an order: the upper one of a pair has the odd number and the lower one the next; strictly in order where true
+    Pair(i64, i64, bool),
+    // between two other parameters, the lower and the upper one, named by their numbers
+    Between(u64, u64),
 }
 
 pub const H1: usize = 1;

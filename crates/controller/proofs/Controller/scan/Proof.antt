@@ -1,0 +1,54 @@
+-- `controller::Controller::scan` meets its contract.
+use mathlib.Core.Path.{_≡_, sym, ap, _∙_}
+use mathlib.Core.Option.{none, some}
+use borrow.Author.Needs.{needs}
+use Rattle.signals.specs.Refusals.{numberOf, numberIn, declinedBy, scanTests}
+use Rattle.controller.specs.Scan.{accepted, coreAfter, scan, scanCore, refused, stepped, handedBack}
+use Rattle.controller.specs.ValidLaws.{sampled, stepped-valid}
+use Rattle.outputs.specs.Instruction.{carriedOut, changed, limitedTo}
+use Rattle.controller.proofs.Controller.scan.Statement.{statement}
+use Rattle.controller.proofs.Controller.scan.Tie as tie
+
+scan-verdict-requires : tie.Need-scan-verdict-requires
+scan-verdict-requires c κs = search needs
+
+enum-known-verdict : tie.Need-enum-known-verdict
+enum-known-verdict c = search needs
+
+enum-told : tie.Need-enum-told
+enum-told c = search needs
+
+-- what an accepted verdict says
+none-declines : (c : tie.After-enum-told) → declinedBy (scanTests (c .before .before .before .args .input)) ≡ none
+none-declines c = sym (c .before .before .scan-verdict .ensures) ∙ ap numberIn (c .enum-told .given .1)
+
+stepped-requires : tie.Need-stepped-requires
+stepped-requires c κs = (c .before .before .before .pre, sampled (c .before .before .before .args .input) (none-declines c))
+
+words-requires : tie.Need-words-requires
+words-requires c κs =
+    let start = c .before .before .before .before in
+    rw (c .stepped .ensures) (stepped-valid (start .args .self) (start .args .input) (start .pre) (sampled (start .args .input) (none-declines (c .before))) .stored)
+
+some-declines : (c : tie.After-verdict) → declinedBy (scanTests (c .before .before .before .args .input)) ≡ some (numberOf (c .verdict .given .0 .0))
+some-declines c = sym (c .before .before .scan-verdict .ensures) ∙ ap numberIn (c .verdict .given .1)
+
+returns : tie.Need-returns
+unfolding scan scanCore handedBack refused carriedOut changed limitedTo
+returns c = simp (some-declines (c .before))
+
+returns-2 : tie.Need-returns-2
+unfolding scan scanCore handedBack stepped accepted coreAfter
+returns-2 c = simp (none-declines (c .before .before), c .words .ensures) (simp (c .before .stepped .ensures))
+
+pub scan-spec : {M : Type 1} → statement M
+scan-spec =
+    tie.close
+    (tie.spec
+    scan-verdict-requires
+    enum-known-verdict
+    enum-told
+    stepped-requires
+    words-requires
+    returns
+    returns-2)

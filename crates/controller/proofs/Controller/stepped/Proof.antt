@@ -1,0 +1,69 @@
+-- `controller::Controller::stepped` meets its contract.
+use mathlib.Core.Path.{_≡_}
+use native.Mathlib.Omega.{arith}
+use mir.Syntax.{w64}
+use mir.Val.{toZ, ofZ}
+use borrow.Author.Needs.{needs}
+use Rattle.integers.specs.Machine.{back}
+use Rattle.integers.specs.Operations.{number}
+use Rattle.modes.specs.Modes.{counted, conditionsAfter}
+use Rattle.outputs.specs.OutputLaws.{stored-most}
+use Rattle.controller.specs.Scan.{situationOf, accepted, stepped}
+use Rattle.controller.specs.ValidLaws.{read}
+use Rattle.controller.proofs.Controller.stepped.Statement.{statement}
+use Rattle.controller.proofs.Controller.stepped.Tie as tie
+
+after-requires : tie.Need-after-requires
+after-requires c κs = search needs
+
+situation-requires : tie.Need-situation-requires
+situation-requires c κs = search needs
+
+-- the output is read back as it is
+output-back : (c : tie.Start) → toZ w64 (ofZ w64 (c .args .self .output)) ≡ c .args .self .output
+output-back c = back w64 (c .args .self .output) (omega (arith, stored-most (c .args .self .output) (c .pre .0 .stored), number (c .args .self .output)))
+
+situation-is : (c : tie.After-situation) → let start = c .before .before .before .before .before in
+    c .situation .result ≡ situationOf (start .args .self .core) (conditionsAfter counted (start .args .self .core .conditions) (start .args .input)) (start .args .input)
+situation-is c = simp (c .situation .ensures) (simp (c .before .after .ensures))
+
+reckon-requires : tie.Need-reckon-requires
+unfolding situationOf
+reckon-requires c κs =
+    let start = c .before .before .before .before .before in
+    (start .pre .0 .legal, rw (situation-is c) (start .pre .1))
+
+after-requires-2 : tie.Need-after-requires-2
+after-requires-2 c κs = search needs
+
+output-after-requires : tie.Need-output-after-requires
+unfolding situationOf
+output-after-requires c κs =
+    let b = c .before .before .before in
+    let start = b .before .before .before .before .before .before in
+    simp (output-back start) (
+      start .pre .0 .legal,
+      rw (b .reckon .ensures, situation-is (b .before)) (read (start .args .self .core) _ (start .pre .0 .legal) (start .pre .1)),
+      start .pre .0 .kept,
+      start .pre .0 .stored,
+    )
+
+returns : tie.Need-returns
+unfolding stepped accepted
+returns c =
+    let b = c .before .before .before .before in
+    let call = c .output-after in
+    simp (back w64 (call .result) (call .ok))
+    (simp (call .ensures, output-back (b .before .before .before .before .before .before))
+    (simp (c .before .before .after2 .ensures) (simp (b .reckon .ensures) (simp (situation-is (b .before), b .before .before .after .ensures)))))
+
+pub stepped-spec : {M : Type 1} → statement M
+stepped-spec =
+    tie.close
+    (tie.spec
+    after-requires
+    situation-requires
+    reckon-requires
+    after-requires-2
+    output-after-requires
+    returns)

@@ -1,0 +1,43 @@
+-- `controller::Controller::words` meets its contract.
+use mathlib.Core.Path.{_≡_}
+use native.Mathlib.Omega.{arith}
+use mir.Syntax.{w64}
+use mir.Val.{toZ, ofZ}
+use borrow.Author.Needs.{needs}
+use Rattle.integers.specs.Machine.{back}
+use Rattle.integers.specs.Operations.{number}
+use Rattle.outputs.specs.OutputLaws.{stored-most}
+use Rattle.controller.specs.Scan.{statusOf}
+use Rattle.controller.proofs.Controller.words.Statement.{statement}
+use Rattle.controller.proofs.Controller.words.Tie as tie
+
+mode-requires : tie.Need-mode-requires
+mode-requires c κs = search needs
+
+md-requires : tie.Need-md-requires
+md-requires c κs = search needs
+
+ds-requires : tie.Need-ds-requires
+ds-requires c κs = search needs
+
+op-of-requires : tie.Need-op-of-requires
+op-of-requires c κs = search needs
+
+electrical-of-requires : tie.Need-electrical-of-requires
+electrical-of-requires c κs = search needs
+
+output-back : (c : tie.Start) → toZ w64 (ofZ w64 (c .args .self .output)) ≡ c .args .self .output
+output-back c = back w64 (c .args .self .output) (omega (arith, stored-most (c .args .self .output) (c .pre), number (c .args .self .output)))
+
+returns : tie.Need-returns
+unfolding statusOf
+returns c =
+    let b = c .before .before .before .before in
+    let start = b .before .before .before .before .before .before .before in
+    simp (c .electrical-of .ensures, c .before .before .op-of .ensures .0, b .ds .ensures, b .before .md .ensures)
+    (simp (b .before .before .mode .ensures, output-back start))
+
+pub words-spec : {M : Type 1} → statement M
+words-spec =
+    tie.close
+    (tie.spec mode-requires md-requires ds-requires op-of-requires electrical-of-requires returns)

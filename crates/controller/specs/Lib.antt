@@ -1,0 +1,5 @@
+pub mod Answers
+pub mod Scan
+pub mod State
+pub mod Valid
+pub mod ValidLaws

@@ -1,0 +1,123 @@
+-- Document 01, One scan, whole: the next state but for the output, the answer but for OP and electrical output, and an instruction for the output. These
+-- stand once, for our controller and for the exact one.
+use mathlib.Core.Bool.{Bool}
+use mathlib.Core.Option.{Option, some, none}
+use Prim.Native.Nat.{ℕ}
+use lib.IntN.{ℤ}
+use Rattle.signals.specs.Refusals.{declinedBy, scanTests}
+use Rattle.signals.specs.Signals.{switchesOf, isOpen, batteryLow}
+use Rattle.signals.specs.declared.Input.{Input}
+use Rattle.modes.specs.Modes.{counted, conditionsAfter, modeOf, goesToMinimum}
+use Rattle.modes.specs.declared.Conditions.{Conditions}
+use Rattle.modes.specs.declared.Mode.{Mode}
+use Rattle.words.specs.Words.{MD, DS}
+use Rattle.words.specs.declared.Shown.{Shown}
+use Rattle.setpoints.specs.Reckoning.{reckoned, lowAlarm, highAlarm}
+use Rattle.setpoints.specs.declared.Readings.{Readings}
+use Rattle.setpoints.specs.declared.Reckoned.{Reckoned}
+use Rattle.outputs.specs.History.{historyAfter}
+use Rattle.outputs.specs.Instruction.{keep, unlimited, Instruction, storedArithmetic, carriedOut}
+use Rattle.outputs.specs.Outputs.{instructionOf}
+use Rattle.outputs.specs.declared.Situation.{Situation}
+use Rattle.controller.specs.Answers.{Said, words, number, Handed, opOf, electricalOf}
+use Rattle.controller.specs.declared.Controller.{Controller}
+use Rattle.controller.specs.declared.Core.{Core}
+
+-- "Mode and cause always follow the present state."
+unfoldable pub modeNow : Core → Mode
+modeNow c = modeOf (c .conditions) (switchesOf (c .sw) .ratio)
+
+-- ---- steps 2 and 3: the mode of this scan, by what it leaves of the conditions; whether it goes to minimum, by those before it
+unfoldable pub situationOf : Core → Conditions → Input → Situation
+situationOf c after i =
+    let s = switchesOf (c .sw) in
+    record {
+      switches = s;
+      mode = modeOf after (s .ratio);
+      tominimum = goesToMinimum (c .conditions) i (s .ratio) (s .powerfail);
+      input = i;
+    }
+
+-- ---- steps 1, 4 and 5
+unfoldable pub reckonedIn : Core → Situation → Reckoned
+reckonedIn c x = reckoned (c .parameters) (x .switches) (c .marks .power) (x .mode) (x .input)
+
+-- ---- what is shown until the next scan: "Alarms are the last scan's."
+unfoldable pub shownAfter : Core → Situation → Readings → Shown
+shownAfter c x r =
+    record {
+      buttons = x .input .buttons;
+      batterylow = batteryLow (x .input);
+      lowalarm = lowAlarm (c .parameters) r;
+      highalarm = highAlarm (c .parameters) r;
+    }
+
+-- ---- step 7, and all that the scan leaves but the output
+unfoldable pub coreAfter : Core → Conditions → Situation → Reckoned → Core
+coreAfter c after x r =
+    record {
+      sw = c .sw;
+      parameters = r .parameters;
+      conditions = after;
+      marks = c .marks;
+      readings = r .readings;
+      shown = shownAfter c x (r .readings);
+      history = historyAfter (c .history) (isOpen (x .input)) (r .readings);
+    }
+
+-- ---- the whole
+
+-- the answer but for OP and electrical output
+pub data Status : Type 0 where
+  status : (md ds : ℕ) → Status
+  declined : ℕ → Status
+
+unfoldable pub statusOf : Core → Status
+statusOf c = status (MD (modeNow c) (c .conditions) (c .marks) (c .shown)) (DS (modeNow c) (c .conditions) (c .marks) (c .shown))
+
+pub record Outcome : Type 0 where
+  pub next : Core
+  pub answer : Status
+  pub instruction : Instruction
+
+-- an accepted scan. `more` counts one more open scan
+unfoldable pub accepted : (ℕ → ℕ) → Core → Input → Outcome
+accepted more c i =
+    let after = conditionsAfter more (c .conditions) i in
+    let x = situationOf c after i in
+    let r = reckonedIn c x in
+    let next = coreAfter c after x r in
+    record { next = next; answer = statusOf next; instruction = instructionOf (c .parameters) x (r .readings) (c .history) }
+
+-- "Answer: the number alone. Controller and buffers stay."
+unfoldable pub refused : Core → ℕ → Outcome
+refused c n = record { next = c; answer = declined n; instruction = record { change = keep; limits = unlimited } }
+
+abbrev pub unless : Option ℕ → Core → Outcome → Outcome
+unless none c o = o
+unless (some n) c o = refused c n
+
+unfoldable pub scanCore : (ℕ → ℕ) → Core → Input → Outcome
+scanCore more c i = unless (declinedBy (scanTests i)) c (accepted more c i)
+
+-- ---- our controller's: the instruction carried out in whole 1/65,536 units, OP and electrical output of the stored output
+
+-- an answer with the OP and electrical output of a stored output
+abbrev pub withOutput : Status → ℕ → ℤ → Said
+withOutput (status md ds) sw output = words md ds (opOf output) (electricalOf sw output)
+withOutput (declined n) sw output = number n
+
+-- what a call whose outcome this is hands back
+unfoldable pub handedBack : Controller → Outcome → Handed
+handedBack c o =
+    let output = carriedOut storedArithmetic (o .instruction) (c .output) in
+    record { next = record { core = o .next; output = output }; answer = withOutput (o .answer) (c .core .sw) output }
+
+-- the controller after an accepted scan
+unfoldable pub stepped : Controller → Input → Controller
+stepped c i =
+    let o = accepted counted (c .core) i in
+    record { core = o .next; output = carriedOut storedArithmetic (o .instruction) (c .output) }
+
+unfoldable pub scan : Controller → Input → Handed
+scan c i = handedBack c (scanCore counted (c .core) i)

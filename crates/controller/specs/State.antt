@@ -1,0 +1,48 @@
+-- Document 01: what a fresh start leaves.
+use mathlib.Core.Bool.{Bool, false}
+use Prim.Native.Nat.{ℕ}
+use lib.IntN.{ℤ, pos, _-ℤ_}
+use Rattle.modes.specs.declared.Conditions.{Conditions}
+use Rattle.modes.specs.declared.Request.{Request}
+use Rattle.modes.specs.declared.Request.the-variants.{Manual}
+use Rattle.words.specs.declared.Marks.{Marks}
+use Rattle.words.specs.declared.Shown.{Shown}
+use Rattle.parameters.specs.Table.{defaults, L1, SL}
+use Rattle.parameters.specs.declared.Parameters.{Parameters}
+use Rattle.setpoints.specs.declared.Readings.{Readings}
+use Rattle.outputs.specs.declared.History.the-variants.{Nothing}
+use Rattle.controller.specs.declared.Controller.{Controller}
+use Rattle.controller.specs.declared.Core.{Core}
+
+-- ---- "A fresh start and an accepted restart leave pins 80h, no buttons, open count 0, PV = 1L, SP = SL, ER = PV - SP, MP 0, battery good, no alarms"
+
+abbrev pub startConditions : Request → Bool → Conditions
+startConditions request fault = record { request = request; fault = fault; opens = 0; pins = 0x80 }
+
+unfoldable pub startReadings : Parameters → Readings
+startReadings p = record { pv = L1 p; sp = SL p; er = L1 p -ℤ SL p; mp = pos 0 }
+
+abbrev pub startShown : Shown
+startShown = record { buttons = 0; batterylow = false; lowalarm = false; highalarm = false }
+
+-- ---- "start fresh (any 16-bit switch word SW)"
+
+-- "A fresh controller has the defaults in the table."
+abbrev pub freshParameters : Parameters
+freshParameters = record { values = defaults }
+
+-- "A fresh controller requests Manual with output 0, user bits and MD bit 4 zero, no memory fault, and no earlier PV or SP remembered."
+unfoldable pub freshCore : ℕ → Core
+freshCore sw =
+    record {
+      sw = sw;
+      parameters = freshParameters;
+      conditions = startConditions Manual false;
+      marks = record { user1 = false; user2 = false; power = false };
+      readings = startReadings freshParameters;
+      shown = startShown;
+      history = Nothing;
+    }
+
+unfoldable pub freshController : ℕ → Controller
+freshController sw = record { core = freshCore sw; output = pos 0 }

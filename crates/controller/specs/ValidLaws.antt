@@ -1,0 +1,96 @@
+-- A fresh controller is valid, and a scan hands back a valid one.
+use mathlib.Core.Path.{_≡_, refl, sym, ap, _∙_}
+use mathlib.Core.Bool.{Bool, true, false, _||_}
+use mathlib.Core.List.{List, [], _∷_}
+use mathlib.Core.Option.{Option, some, none}
+use Prim.Native.Nat.{ℕ, _≤_}
+use native.Mathlib.Omega.{arith}
+use lib.Dec.{ltb}
+use lib.IntN.{ℤ, pos}
+use borrow.Author.Tests.{ltb-false}
+use Rattle.integers.specs.Choice.{if_then_else_}
+use Rattle.integers.specs.Parts.{integers}
+use Rattle.terms.specs.Fraction.{storedUnits}
+use Rattle.signals.specs.Refusals.{declinedBy, scanTests}
+use Rattle.signals.specs.Signals.{isOpen}
+use Rattle.signals.specs.declared.Input.{Input}
+use Rattle.modes.specs.Modes.{counted, conditionsAfter}
+use Rattle.parameters.specs.Legal.{Legal}
+use Rattle.parameters.specs.LegalLaws.{defaults-legal}
+use Rattle.setpoints.specs.Reckoning.{reckoned}
+use Rattle.setpoints.specs.ReckoningLaws.{Sampled, reckoned-legal, pv-reading, setpoint-read, limited-setpoint}
+use Rattle.setpoints.specs.declared.Readings.{Readings}
+use Rattle.outputs.specs.Instruction.{carriedOut, changed, limitedTo, storedArithmetic}
+use Rattle.outputs.specs.OutputLaws.{Read, Kept, Stored, history-kept, output-stored}
+use Rattle.outputs.specs.declared.Situation.{Situation}
+use Rattle.controller.specs.Scan.{situationOf, reckonedIn, coreAfter, Outcome, accepted, refused, unless, scanCore, handedBack, stepped, scan}
+use Rattle.controller.specs.State.{freshCore, freshController}
+use Rattle.controller.specs.Valid.{Valid}
+use Rattle.controller.specs.declared.Controller.{Controller}
+use Rattle.controller.specs.declared.Core.{Core}
+
+-- ---- a call that no test declines passed each test
+
+abbrev pub Passed : List (Bool × ℕ) → Type 0
+Passed [] = Unit {0}
+Passed (t ∷ ts) = (t .0 ≡ false) × Passed ts
+
+pub passed : (ts : List (Bool × ℕ)) → declinedBy ts ≡ none → Passed ts
+unfolding declinedBy
+passed [] e = tt
+passed (t ∷ ts) e = go (t .0) refl e (passed ts)
+  where
+    go : (b : Bool) → t .0 ≡ b → (if b then some (t .1) else declinedBy ts) ≡ none → (declinedBy ts ≡ none → Passed ts) → (t .0 ≡ false) × Passed ts
+    go true q e r = let z : _≡_ {A = ℕ} 0 1 = cc in absurd (omega arith)
+    go false q e r = (q, r e)
+
+neither : (a b : Bool) → a || b ≡ false → (a ≡ false) × (b ≡ false)
+neither true b e = (e, let z : _≡_ {A = Bool} true false = e in cc)
+neither false b e = (refl, e)
+
+pub sampled : (i : Input) → declinedBy (scanTests i) ≡ none → Sampled i
+unfolding scanTests
+sampled i e =
+    let p = passed (scanTests i) e .0 in
+    let a = neither (ltb 10000 (i .sample1) || ltb 10000 (i .sample2)) (ltb 10000 (i .sample3)) p in
+    let b = neither (ltb 10000 (i .sample1)) (ltb 10000 (i .sample2)) (a .0) in
+    record { first = ltb-false 10000 (i .sample1) (b .0); second = ltb-false 10000 (i .sample2) (b .1); third = ltb-false 10000 (i .sample3) (a .1) }
+
+-- ---- what an accepted scan reads
+
+pub read : (c : Core) (x : Situation) → Legal (c .parameters) → Sampled (x .input) → Read (reckonedIn c x .readings)
+unfolding reckonedIn reckoned
+read c x legal s =
+    record {
+      pv-read = pv-reading (c .parameters) legal (x .input) s;
+      sp-read = setpoint-read (c .parameters) legal (limited-setpoint (c .parameters) legal (x .switches) (x .mode) _ _ _ (x .input));
+    }
+
+-- ---- valid
+
+pub valid-fresh : (sw : ℕ) → Valid (freshController sw)
+unfolding freshController freshCore storedUnits
+valid-fresh sw = record { legal = defaults-legal; kept = tt; stored = record { not-below = omega (arith, integers); not-above = omega (arith, integers) } }
+
+pub stepped-valid : (c : Controller) (i : Input) → Valid c → Sampled i → Valid (stepped c i)
+unfolding stepped accepted coreAfter situationOf reckonedIn
+stepped-valid c i v s =
+    let after = conditionsAfter counted (c .core .conditions) i in
+    let x = situationOf (c .core) after i in
+    let readings = reckonedIn (c .core) x .readings in
+    record {
+      legal = reckoned-legal (c .core .parameters) (x .switches) (c .core .marks .power) (x .mode) i (v .legal);
+      kept = history-kept (c .core .history) (isOpen i) readings (v .kept) (read (c .core) x (v .legal) s);
+      stored = output-stored (c .core .parameters) (v .legal) x readings (c .core .history) (c .output) (v .stored);
+    }
+
+-- the two ways a scan can go
+pub by-verdict : (P : Outcome → Type 0) (d : Option ℕ) (c : Core) (o : Outcome) → (d ≡ none → P o) → ((n : ℕ) → P (refused c n)) → P (unless d c o)
+by-verdict P none c o f g = f refl
+by-verdict P (some n) c o f g = g n
+
+pub valid-scan : (c : Controller) (i : Input) → Valid c → Valid (scan c i .next)
+unfolding scan scanCore handedBack refused carriedOut changed limitedTo stepped
+valid-scan c i v =
+    by-verdict (λ o. Valid (handedBack c o .next)) (declinedBy (scanTests i)) (c .core) (accepted counted (c .core) i)
+    (λ e. stepped-valid c i v (sampled i e)) (λ n. v)
