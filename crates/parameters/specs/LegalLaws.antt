@@ -66,14 +66,14 @@ by-place {A} n k f g h = go (ltb n k) refl (eqb n k) refl
 -- ---- no other parameter's rule looks at SL or RS: within their limits they may take any values
 
 module _ (p : Parameters) (legal : Legal p) (sl rs : ℤ) where
-  settings : ℕ → ℤ
+  unfoldable pub settings : ℕ → ℤ
   settings = changed (changed (value p) 20 sl) 21 rs
 
   settings-size : length (withValue p 20 sl .values) ≡ 24
   unfolding withValue
   settings-size = length-set (p .values) 20 sl ∙ legal .size
 
-  settings-are : (n : ℕ) → value (withValue (withValue p 20 sl) 21 rs) n ≡ settings n
+  pub settings-are : (n : ℕ) → value (withValue (withValue p 20 sl) 21 rs) n ≡ settings n
   unfolding settings
   settings-are n =
       value-with (withValue p 20 sl) 21 rs settings-size (omega arith) n ∙

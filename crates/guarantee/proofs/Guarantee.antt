@@ -1,0 +1,72 @@
+-- The long guarantee, for every switch word and every list of calls, over the contracts of the calls themselves.
+use mathlib.Core.Path.{_≡_, refl, sym, ap, subst, _∙_}
+use mathlib.Core.Bool.{Bool, true, false}
+use mathlib.Core.List.{List, [], _∷_}
+use mathlib.Core.Option.{Option, some}
+use Prim.Native.Nat.{ℕ}
+use Rattle.modes.specs.Modes.{counted}
+use Rattle.signals.specs.declared.Input.{Input}
+use Rattle.controller.specs.Answers.{Said, Handed, handed}
+use Rattle.controller.specs.Scan.{modeNow, Status, Outcome, withOutput, handedBack}
+use Rattle.controller.specs.Scan as rules
+use Rattle.controller.specs.declared.Controller.{Controller}
+use Rattle.controller.specs.declared.Core.{Core}
+use Rattle.controller.specs.declared.Scanned.{Scanned}
+use Rattle.guarantee.specs.Claim.{modeIn, capped, isHoldOrTrack, WithinLimits, SameAnswer, SameAnswers, no-answer, and-answer}
+use Rattle.guarantee.specs.Count.{Demand3}
+use Rattle.guarantee.specs.Exact.{Call, scan, Calls, none, _then_, outcomeOf, exact, exactAnswer}
+use Rattle.guarantee.specs.Linked.{ScanEnsures, Linked, started, scanned, Ready}
+use Rattle.guarantee.proofs.Answers.{same-answer}
+use Rattle.guarantee.proofs.Capped.{cappedOutcome, capped-twice, now-capped}
+use Rattle.guarantee.proofs.Modes.{mode-is-first}
+use Rattle.guarantee.proofs.Ours.{ours, cores, outcomes, switch-word, valid-after, bound-after, within-after, fault-after}
+
+-- ---- what the contracts hand on is what the rules give
+
+pub linked : {word : ℕ} {xs : Calls} {hs : List Handed} {c : Controller} → Linked word xs hs c → c ≡ ours word xs
+unfolding ours rules.scan outcomeOf rules.scanCore
+linked (started r e) = e
+linked (scanned i r l e) = ap (λ (h : Handed). h .next) e ∙ ap (λ (k : Controller). rules.scan k i .next) (linked l)
+
+-- what a call hands back, in the exact controller's answer and our own output
+handed-answer : (word : ℕ) (xs : Calls) (x : Call) → let h = handedBack (ours word xs) (outcomeOf counted (ours word xs .core) x) in
+    SameAnswer (h .next) (h .answer) (exactAnswer word xs x)
+unfolding handedBack exactAnswer ours cappedOutcome
+handed-answer word xs x =
+    let h = handedBack (ours word xs) (outcomeOf counted (ours word xs .core) x) in
+    let a = ap (λ (o : Outcome). o .answer) (outcomes word xs x) in
+    let s = switch-word (ours word xs .core) x in
+    subst (λ (st : Status). SameAnswer (h .next) (h .answer) st) a
+    (subst (λ (sw : ℕ). SameAnswer (h .next) (withOutput (outcomeOf counted (ours word xs .core) x .answer) sw (h .next .output)) (outcomeOf counted (ours word xs .core) x .answer)) s
+    (same-answer (h .next) (outcomeOf counted (ours word xs .core) x .answer) (valid-after word (xs then x) .stored)))
+
+-- the contract of a scan, made after these calls
+scan-is : {word : ℕ} {xs : Calls} {hs : List Handed} {c : Controller} (i : Input) (r : Scanned) → Linked word xs hs c → ScanEnsures c i r →
+    handed r ≡ handedBack (ours word xs) (outcomeOf counted (ours word xs .core) (scan i))
+unfolding rules.scan outcomeOf
+scan-is i r l e = e ∙ ap (λ (k : Controller). rules.scan k i) (linked l)
+
+answers : {word : ℕ} {xs : Calls} {hs : List Handed} {c : Controller} → Linked word xs hs c → SameAnswers word xs hs
+answers {word} (started r e) = no-answer
+answers {word} (scanned {xs = xs} i r l e) =
+    and-answer (answers l)
+    (subst (λ (h : Handed). SameAnswer (h .next) (h .answer) (exactAnswer word xs (scan i))) (sym (scan-is i r l e)) (handed-answer word xs (scan i)))
+
+-- ---- demand 3
+
+pub guarantee : (word : ℕ) (calls : Calls) (hs : List Handed) (c : Controller) → Linked word calls hs c → Demand3 word calls hs c
+guarantee word calls hs c l =
+    let e = linked l in
+    let core-is : c .core ≡ capped (exact word calls .core) = ap (λ (k : Controller). k .core) e ∙ cores word calls in
+    record {
+      mode-first = mode-is-first (exact word calls .core) ∙ ap some (sym (ap modeNow core-is ∙ now-capped (exact word calls .core)));
+      fault-stands = rw e (fault-after word calls);
+      within-limits = rw e (within-after word calls);
+      same-state = ap capped core-is ∙ capped-twice (exact word calls .core);
+      same-answers = answers l;
+      bound = rw e (bound-after word calls);
+    }
+
+-- every call's `requires` holds at every controller that the calls hand back: it shuts no call out
+pub ready : (word : ℕ) (calls : Calls) (hs : List Handed) (c : Controller) → Linked word calls hs c → Ready c
+ready word calls hs c l = λ i. rw (linked l) (valid-after word calls)

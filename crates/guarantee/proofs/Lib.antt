@@ -1,0 +1,7 @@
+pub mod Answers
+pub mod Bound
+pub mod Capped
+pub mod Counting
+pub mod Guarantee
+pub mod Modes
+pub mod Ours

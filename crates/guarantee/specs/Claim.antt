@@ -1,0 +1,120 @@
+-- Demand 3, the long guarantee, written from document 01's words and apart from the rules: it names none of their thresholds, orders or limits.
+use mathlib.Core.Path.{_≡_}
+use mathlib.Core.Logic.{_↔_}
+use mathlib.Core.Bool.{Bool, true, false, not, _&&_, _||_}
+use mathlib.Core.List.{List, [], _∷_}
+use mathlib.Core.Option.{Option, some}
+use Prim.Native.Nat.{ℕ, _+_, _-_, _*_, min}
+use lib.Dec.{leb}
+use lib.IntN.{ℤ, pos, _*ℤ_}
+use lib.Signed.{_≤ℤ_, _<ℤ_}
+use Rattle.integers.specs.Choice.{if_then_else_}
+use Rattle.terms.specs.Near.{Near}
+use Rattle.signals.specs.Bits.{bit}
+use Rattle.modes.specs.declared.Conditions.{Conditions}
+use Rattle.modes.specs.declared.Mode.{Mode}
+use Rattle.modes.specs.declared.Mode.the-variants.{Hold, Track, Forced, Manual, Auto, Remote, Ratio, Fallback}
+use Rattle.modes.specs.declared.Request.{Request}
+use Rattle.modes.specs.declared.Request.the-variants as request
+use Rattle.parameters.specs.Table.{value}
+use Rattle.controller.specs.Answers.{Said, words, number, Handed}
+use Rattle.controller.specs.Scan.{modeNow, Status, status, declined}
+use Rattle.controller.specs.declared.Controller.{Controller}
+use Rattle.controller.specs.declared.Core.{Core}
+use Rattle.guarantee.specs.Exact.{Call, scan, Calls, none, _then_, exact, exactAnswer}
+
+-- ---- "the mode is the first in the priority order whose condition is present"
+
+unfoldable pub requests : Request → Request → Bool
+requests request.Manual request.Manual = true
+requests request.Manual request.Auto = false
+requests request.Manual request.Remote = false
+requests request.Auto request.Manual = false
+requests request.Auto request.Auto = true
+requests request.Auto request.Remote = false
+requests request.Remote request.Manual = false
+requests request.Remote request.Auto = false
+requests request.Remote request.Remote = true
+
+-- step 3: "Hold (pin 0); Track (pin 1); Forced Manual (a cause); Manual (request M); Auto (request A); Remote (request R, Remote pin 1, S2.1 OFF) or Ratio
+-- (same, S2.1 ON); Fall-back (request R, Remote pin 0)"; step 2: "A cause is the memory fault, or the 85th and later consecutive open scan"
+unfoldable pub condition : Core → Mode → Bool
+condition c Hold = not (bit (c .conditions .pins) 7)
+condition c Track = bit (c .conditions .pins) 6
+condition c Forced = c .conditions .fault || leb 85 (c .conditions .opens)
+condition c Manual = requests request.Manual (c .conditions .request)
+condition c Auto = requests request.Auto (c .conditions .request)
+condition c Remote = requests request.Remote (c .conditions .request) && bit (c .conditions .pins) 5 && not (bit (c .sw) 15)
+condition c Ratio = requests request.Remote (c .conditions .request) && bit (c .conditions .pins) 5 && bit (c .sw) 15
+condition c Fallback = requests request.Remote (c .conditions .request) && not (bit (c .conditions .pins) 5)
+
+unfoldable pub priority : List Mode
+priority = Hold ∷ Track ∷ Forced ∷ Manual ∷ Auto ∷ Remote ∷ Ratio ∷ Fallback ∷ []
+
+unfoldable pub first : (Mode → Bool) → List Mode → Option Mode
+first present [] = Option.none
+first present (m ∷ ms) = if present m then some m else first present ms
+
+-- the mode of a state, by its conditions
+abbrev pub modeIn : Core → Option Mode
+modeIn c = first (condition c) priority
+
+-- ---- "outside Hold and Track the stored output is within its limits"
+
+abbrev pub isHoldOrTrack : Mode → Bool
+isHoldOrTrack Hold = true
+isHoldOrTrack Track = true
+isHoldOrTrack Forced = false
+isHoldOrTrack Manual = false
+isHoldOrTrack Auto = false
+isHoldOrTrack Remote = false
+isHoldOrTrack Ratio = false
+isHoldOrTrack Fallback = false
+
+-- LO is parameter 16 and HO parameter 15, in units of 65,536
+pub record WithinLimits (c : Controller) : Type 0 where
+  pub least : (value (c .core .parameters) 16 *ℤ pos 65536) ≤ℤ c .output
+  pub most : c .output ≤ℤ (value (c .core .parameters) 15 *ℤ pos 65536)
+
+-- ---- "apart from the output, the whole state and every answer equal those of document 01's exact controller"
+
+-- "open counts above 85 taken as 85"
+unfoldable pub capped : Core → Core
+capped c =
+    record {
+      sw = c .sw;
+      parameters = c .parameters;
+      conditions = record {
+        request = c .conditions .request;
+        fault = c .conditions .fault;
+        opens = min 85 (c .conditions .opens);
+        pins = c .conditions .pins;
+      };
+      marks = c .marks;
+      readings = c .readings;
+      shown = c .shown;
+      history = c .history;
+    }
+
+-- "OP and electrical output, which are those of our own stored output": OP is its floor in units; electrical output is OP, or 9999 - OP with S2.2 ON
+pub record OwnOutput (c : Controller) (op electrical : ℕ) : Type 0 where
+  pub not-above : pos (op * 65536) ≤ℤ c .output
+  pub below-next : c .output <ℤ pos ((op + 1) * 65536)
+  pub electrically : electrical ≡ (if bit (c .core .sw) 14 then 9999 - op else op)
+
+-- an answer that was handed back with the controller c, beside the exact controller's
+pub data SameAnswer (c : Controller) : Said → Status → Type 0 where
+  same-words : {md ds op electrical : ℕ} → OwnOutput c op electrical → SameAnswer c (words md ds op electrical) (status md ds)
+  same-number : {n : ℕ} → SameAnswer c (number n) (declined n)
+
+-- every answer of the list, the latest first
+pub data SameAnswers (word : ℕ) : Calls → List Handed → Type 0 where
+  no-answer : SameAnswers word none []
+  and-answer : {xs : Calls} {hs : List Handed} {x : Call} {h : Handed} →
+      SameAnswers word xs hs → SameAnswer (h .next) (h .answer) (exactAnswer word xs x) → SameAnswers word (xs then x) (h ∷ hs)
+
+-- ---- "The memory fault stands exactly when the last accepted restart brought it and no accepted write of MD with bit 8 zero came after that restart."
+
+-- a scan leaves it as it is; the calls that bring and clear it are not built yet, and each will be a case here
+pub data FaultStands : Calls → Type 0 where
+  after-scan : {xs : Calls} {i : _} → FaultStands xs → FaultStands (xs then scan i)

@@ -1,0 +1,99 @@
+-- Document 01, "The exact controller": n, "the automatic scans since the output was last set outright", read from the exact controller; and demand 3.
+use mathlib.Core.Path.{_≡_}
+use mathlib.Core.Logic.{_↔_}
+use mathlib.Core.Bool.{Bool, true, false, not, _&&_, _||_}
+use mathlib.Core.List.{List}
+use mathlib.Core.Option.{Option, some}
+use Prim.Native.Nat.{ℕ, _+_, _*_}
+use lib.Dec.{eqb}
+use Rattle.integers.specs.Choice.{if_then_else_}
+use Rattle.terms.specs.Near.{Near}
+use Rattle.signals.specs.Bits.{bit}
+use Rattle.modes.specs.declared.Mode.{Mode}
+use Rattle.modes.specs.declared.Mode.the-variants.{Hold, Track, Forced, Manual, Auto, Remote, Ratio, Fallback}
+use Rattle.controller.specs.Answers.{Handed}
+use Rattle.controller.specs.Scan.{modeNow, Status, status, declined}
+use Rattle.controller.specs.declared.Controller.{Controller}
+use Rattle.controller.specs.declared.Core.{Core}
+use Rattle.guarantee.specs.Claim.{modeIn, isHoldOrTrack, WithinLimits, capped, SameAnswers, FaultStands}
+use Rattle.guarantee.specs.Exact.{Call, scan, Calls, none, _then_, exact, exactAnswer}
+
+-- ---- by the mode, as its conditions give it
+
+-- "Auto, Remote, Ratio and Fall-back are automatic."
+abbrev pub automatic : Option Mode → Bool
+automatic (some Auto) = true
+automatic (some Remote) = true
+automatic (some Ratio) = true
+automatic (some Fallback) = true
+automatic (some Hold) = false
+automatic (some Track) = false
+automatic (some Forced) = false
+automatic (some Manual) = false
+automatic Option.none = false
+
+abbrev pub tracks : Option Mode → Bool
+tracks (some Track) = true
+tracks (some Hold) = false
+tracks (some Forced) = false
+tracks (some Manual) = false
+tracks (some Auto) = false
+tracks (some Remote) = false
+tracks (some Ratio) = false
+tracks (some Fallback) = false
+tracks Option.none = false
+
+abbrev pub manualOrForced : Option Mode → Bool
+manualOrForced (some Manual) = true
+manualOrForced (some Forced) = true
+manualOrForced (some Hold) = false
+manualOrForced (some Track) = false
+manualOrForced (some Auto) = false
+manualOrForced (some Remote) = false
+manualOrForced (some Ratio) = false
+manualOrForced (some Fallback) = false
+manualOrForced Option.none = false
+
+-- ---- the count
+
+abbrev pub isAccepted : Status → Bool
+isAccepted (status md ds) = true
+isAccepted (declined n) = false
+
+-- "on the 85th open scan, if the mode just before this scan was automatic and S2.5 is ON". The exact controller counts on, so its count is 85 only then
+unfoldable pub toMinimum : Core → Core → Bool
+toMinimum before now = eqb (now .conditions .opens) 85 && automatic (modeIn before) && bit (now .sw) 11
+
+-- "Track, minimum, start fresh and accepted restart set the output outright": an accepted scan in Track, or one in Manual or Forced that goes to minimum
+unfoldable pub setsOutright : Core → Core → Call → Bool
+setsOutright before now (scan i) = tracks (modeIn now) || manualOrForced (modeIn now) && toMinimum before now
+
+-- step 6: "Automatic and open: kept. Automatic otherwise, an automatic scan"
+unfoldable pub isAutomaticScan : Core → Call → Bool
+isAutomaticScan now (scan i) = automatic (modeIn now) && not (bit (i .sensors) 0)
+
+-- n after one call more
+unfoldable pub countAfter : Core → Core → Call → Status → ℕ → ℕ
+countAfter before now x answer n =
+    if not (isAccepted answer) then n else
+    if setsOutright before now x then 0 else
+    if isAutomaticScan now x then n + 1 else n
+
+unfoldable pub automaticScans : ℕ → Calls → ℕ
+automaticScans word none = 0
+automaticScans word (xs then x) =
+    countAfter (exact word xs .core) (exact word (xs then x) .core) x (exactAnswer word xs x) (automaticScans word xs)
+
+-- ---- demand 3: after these calls, with these controllers and answers handed back, of the controller c
+pub record Demand3 (word : ℕ) (calls : Calls) (hs : List Handed) (c : Controller) : Type 0 where
+  -- "the mode is the first in the priority order whose condition is present"
+  pub mode-first : modeIn (exact word calls .core) ≡ some (modeNow (c .core))
+  -- "the memory fault stands exactly from a restart that brings it to the restart or write that clears it"
+  pub fault-stands : (c .core .conditions .fault ≡ true) ↔ FaultStands calls
+  -- "outside Hold and Track the stored output is within its limits"
+  pub within-limits : isHoldOrTrack (modeNow (c .core)) ≡ false → WithinLimits c
+  -- "apart from the output, the whole state and every answer equal those of document 01's exact controller"
+  pub same-state : capped (c .core) ≡ capped (exact word calls .core)
+  pub same-answers : SameAnswers word calls hs
+  -- "the stored output is within 3/2 × n × 1/65,536 unit of that controller's": `Near` counts halves of 1/65,536 unit
+  pub bound : Near (c .output) (exact word calls .output) (3 * automaticScans word calls)

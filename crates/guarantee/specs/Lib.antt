@@ -1,0 +1,4 @@
+pub mod Claim
+pub mod Count
+pub mod Exact
+pub mod Linked
