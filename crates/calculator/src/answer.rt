@@ -1,62 +1,19 @@
 // What a line asks, and its answer. Each argument is tested against its range before the function is called.
 ghost use Prim.Native.Nat.{_≤_};
 ghost use lib.IntN.{natAbs};
-ghost use lib.ListN.{length};
 ghost use Rattle.terms.specs.Terms.{TuningRange};
+use lines::Arguments;
 use terms::Tuning;
-use text::Reading;
 
 pub enum Answer {
     Number(i64),
     NoCall,
 }
 
-// The numbers behind a call's word; more than six, or a word that is no number, are no call's.
-struct Arguments {
-    ok: bool,
-    count: usize,
-    values: [i64; 6],
-}
-
-// A number from least to most; where the value lies outside, ok is false.
-struct Natural {
-    ok: bool,
-    value: u64,
-}
-
 // A number of at most that size, above or below zero; where the value is greater, ok is false.
 struct Signed {
     ok: bool,
     value: i64,
-}
-
-fn natural_in(value: i64, least: u64, most: u64) -> Natural
-    requires { ⌜ least ≤ most ⌝ }
-    ensures { λ r. ⌜ (least ≤ r .value) × (r .value ≤ most) ⌝ }
-{
-    let size = integers::magnitude(value);
-    if integers::negative(value) {
-        return Natural {
-            ok: false,
-            value: least,
-        };
-    }
-    if size < least {
-        return Natural {
-            ok: false,
-            value: least,
-        };
-    }
-    if most < size {
-        return Natural {
-            ok: false,
-            value: least,
-        };
-    }
-    Natural {
-        ok: true,
-        value: size,
-    }
 }
 
 fn signed_in(value: i64, most: u64) -> Signed
@@ -72,49 +29,11 @@ fn signed_in(value: i64, most: u64) -> Signed
     Signed { ok: true, value }
 }
 
-fn taken(ok: bool, count: usize, values: [i64; 6]) -> Arguments {
-    Arguments { ok, count, values }
-}
-
-fn read_arguments(line: &[u8], start: usize) -> Arguments
-    requires { ⌜ start ≤ length (now line) ⌝ }
-{
-    let mut values = [0i64; 6];
-    let mut count = 0;
-    let mut at = start;
-    while count < 6 {
-        let w = text::word(line, at);
-        let from = w.from;
-        let to = w.to;
-        if from == to {
-            return taken(true, count, values);
-        }
-        let reading = text::number(&line[from..to]);
-        match reading {
-            Reading::Number(value) => {
-                values[count] = value;
-            }
-            Reading::Malformed => {
-                return taken(false, count, values);
-            }
-        }
-        at = to;
-        count += 1;
-    }
-    let behind = text::word(line, at);
-    taken(behind.from == behind.to, count, values)
-}
-
-// Whether the call has so many arguments, all of them numbers.
-fn has(a: Arguments, count: usize) -> bool {
-    if a.ok { a.count == count } else { false }
-}
-
 // scale L H SAMPLE
 fn scale(values: [i64; 6]) -> Answer {
     let low = signed_in(values[0], 9999);
     let high = signed_in(values[1], 9999);
-    let sample = natural_in(values[2], 0, 10000);
+    let sample = lines::natural_in(values[2], 0, 10000);
     if low.ok & high.ok & sample.ok {
         let l = low.value;
         let h = high.value;
@@ -127,7 +46,7 @@ fn scale(values: [i64; 6]) -> Answer {
 
 // root SAMPLE
 fn root(values: [i64; 6]) -> Answer {
-    let sample = natural_in(values[0], 0, 10000);
+    let sample = lines::natural_in(values[0], 0, 10000);
     if sample.ok {
         return Answer::Number(scaling::root(sample.value as u16) as i64);
     }
@@ -137,7 +56,7 @@ fn root(values: [i64; 6]) -> Answer {
 // ratio Q S, or inverse Q S
 fn ratio(values: [i64; 6], inverse: bool) -> Answer {
     let q = signed_in(values[0], 9999);
-    let s = natural_in(values[1], 1, 9999);
+    let s = lines::natural_in(values[1], 1, 9999);
     if q.ok & s.ok {
         if inverse {
             return Answer::Number(scaling::inverse_ratio(q.value, s.value));
@@ -169,12 +88,12 @@ struct Setting {
 fn tuning_in(xp: i64, span: i64, ti: i64, td: i64, minutes: i64, inverted: i64) -> Setting
     ensures { λ r. ⌜ TuningRange (r .tuning) ⌝ }
 {
-    let x = natural_in(xp, 1, 9999);
-    let w = natural_in(span, 1, 19998);
-    let i = natural_in(ti, 0, 9999);
-    let d = natural_in(td, 0, 9999);
-    let m = natural_in(minutes, 0, 1);
-    let v = natural_in(inverted, 0, 1);
+    let x = lines::natural_in(xp, 1, 9999);
+    let w = lines::natural_in(span, 1, 19998);
+    let i = lines::natural_in(ti, 0, 9999);
+    let d = lines::natural_in(td, 0, 9999);
+    let m = lines::natural_in(minutes, 0, 1);
+    let v = lines::natural_in(inverted, 0, 1);
     Setting {
         ok: x.ok & w.ok & i.ok & d.ok & m.ok & v.ok,
         tuning: Tuning {
@@ -223,13 +142,13 @@ fn derivative(values: [i64; 6]) -> Answer {
 
 fn of_term(name: &[u8], a: Arguments) -> Answer {
     let values = a.values;
-    if check::same(name, b"proportional") && has(a, 3) {
+    if check::same(name, b"proportional") && lines::has(a, 3) {
         return proportional(values);
     }
-    if check::same(name, b"integral") && has(a, 5) {
+    if check::same(name, b"integral") && lines::has(a, 5) {
         return integral(values);
     }
-    if check::same(name, b"derivative") && has(a, 6) {
+    if check::same(name, b"derivative") && lines::has(a, 6) {
         return derivative(values);
     }
     Answer::NoCall
@@ -237,19 +156,19 @@ fn of_term(name: &[u8], a: Arguments) -> Answer {
 
 fn of_call(name: &[u8], a: Arguments) -> Answer {
     let values = a.values;
-    if check::same(name, b"scale") && has(a, 3) {
+    if check::same(name, b"scale") && lines::has(a, 3) {
         return scale(values);
     }
-    if check::same(name, b"root") && has(a, 1) {
+    if check::same(name, b"root") && lines::has(a, 1) {
         return root(values);
     }
-    if check::same(name, b"ratio") && has(a, 2) {
+    if check::same(name, b"ratio") && lines::has(a, 2) {
         return ratio(values, false);
     }
-    if check::same(name, b"inverse") && has(a, 2) {
+    if check::same(name, b"inverse") && lines::has(a, 2) {
         return ratio(values, true);
     }
-    if check::same(name, b"limit") && has(a, 3) {
+    if check::same(name, b"limit") && lines::has(a, 3) {
         return limit(values);
     }
     of_term(name, a)
@@ -259,6 +178,6 @@ pub fn of_line(line: &[u8]) -> Answer {
     let w = text::word(line, 0);
     let from = w.from;
     let to = w.to;
-    let a = read_arguments(line, to);
+    let a = lines::arguments_of(line, to);
     of_call(&line[from..to], a)
 }

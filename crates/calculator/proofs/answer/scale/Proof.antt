@@ -2,10 +2,10 @@
 use native.Mathlib.Omega.{arith}
 use mir.Syntax.{w64}
 use mir.Val.{SFits}
+use borrow.Author.Needs.{needs}
 use Rattle.integers.specs.Machine.{reads}
 use Rattle.integers.specs.Operations.{number}
 use Rattle.integers.specs.Parts.{integers}
-use borrow.Author.Needs.{needs}
 use Rattle.calculator.proofs.answer.scale.Statement.{statement}
 use Rattle.calculator.proofs.answer.scale.Tie as tie
 

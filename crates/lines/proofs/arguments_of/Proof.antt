@@ -1,9 +1,9 @@
--- `calculator::answer::read_arguments` is safe and ends: each turn takes one argument of at most six.
+-- `lines::arguments_of` is safe and ends: each turn takes one argument of at most six.
 use Prim.Native.Nat.{_-_, _≤_}
 use lib.ListN.{length}
 use borrow.Author.Needs.{needs}
-use Rattle.calculator.proofs.answer.read_arguments.Statement.{statement}
-use Rattle.calculator.proofs.answer.read_arguments.Tie as tie
+use Rattle.lines.proofs.arguments_of.Statement.{statement}
+use Rattle.lines.proofs.arguments_of.Tie as tie
 
 abbrev Inv-loop : tie.InvT-loop
 Inv-loop line start values₀ count₀ at₀ values count at = (count ≤ 6) × (at ≤ length line)
@@ -71,8 +71,8 @@ taken-requires-3 c κs = search needs
 returns-3 : tie.Need-returns-3 Inv-loop μ-loop
 returns-3 c = search needs
 
-pub read-arguments-spec : {M : Type 1} → statement M
-read-arguments-spec =
+pub arguments-of-spec : {M : Type 1} → statement M
+arguments-of-spec =
     tie.close
     (tie.spec
     Inv-loop

@@ -1,10 +1,10 @@
--- `calculator::say::bytes` is safe and ends.
+-- `lines::bytes` is safe and ends.
 use mathlib.Core.Path.{_≡_}
 use Prim.Native.Nat.{_-_, _≤_}
 use lib.ListN.{length}
 use borrow.Author.Needs.{needs}
-use Rattle.calculator.proofs.say.bytes.Statement.{statement}
-use Rattle.calculator.proofs.say.bytes.Tie as tie
+use Rattle.lines.proofs.bytes.Statement.{statement}
+use Rattle.lines.proofs.bytes.Tie as tie
 
 abbrev Inv-loop : tie.InvT-loop
 Inv-loop out₀ used s n₀ i₀ out n i = (i ≤ length s) × (length out ≡ length out₀)

@@ -1,0 +1,150 @@
+// What a line asks of the controller, and what comes of it. Every controller that is handed on is valid, so that the next call may be made.
+ghost use Prim.Native.Nat.{_≤_};
+ghost use Rattle.controller.specs.Valid.{Valid};
+use controller::Answer;
+use controller::Controller;
+use lines::Arguments;
+use signals::Input;
+
+pub enum Reply {
+    Accepted,
+    Words {
+        md: u16,
+        ds: u16,
+        op: u16,
+        electrical: u16,
+    },
+    Refused(u8),
+    NoCall,
+}
+
+// The controller after a line, and the reply to it.
+pub struct Step {
+    pub controller: Controller,
+    pub reply: Reply,
+}
+
+fn reply_of(answer: Answer) -> Reply {
+    match answer {
+        Answer::Words {
+            md,
+            ds,
+            op,
+            electrical,
+        } => Reply::Words {
+            md,
+            ds,
+            op,
+            electrical,
+        },
+        Answer::Refused(refusal) => Reply::Refused(refusal.number()),
+    }
+}
+
+fn no_call(controller: Controller) -> Step
+    requires { ⌜ Valid controller ⌝ }
+    ensures { λ r. ⌜ Valid (r .controller) ⌝ }
+{
+    Step {
+        controller,
+        reply: Reply::NoCall,
+    }
+}
+
+// fresh SW
+fn fresh(controller: Controller, values: [i64; 6]) -> Step
+    requires { ⌜ Valid controller ⌝ }
+    ensures { λ r. ⌜ Valid (r .controller) ⌝ }
+{
+    let sw = lines::natural_in(values[0], 0, 65535);
+    if sw.ok {
+        let started = Controller::fresh(sw.value as u16);
+        return Step {
+            controller: started,
+            reply: Reply::Accepted,
+        };
+    }
+    no_call(controller)
+}
+
+fn scanned(controller: Controller, input: Input) -> Step
+    requires { ⌜ Valid controller ⌝ }
+    ensures { λ r. ⌜ Valid (r .controller) ⌝ }
+{
+    let r = controller.scan(input);
+    let next = r.controller;
+    let answer = r.answer;
+    Step {
+        controller: next,
+        reply: reply_of(answer),
+    }
+}
+
+// The input of a scan; where a number is too large for its type, ok is false.
+struct Given {
+    ok: bool,
+    input: Input,
+}
+
+fn read_input(values: [i64; 6]) -> Given {
+    let pins = lines::natural_in(values[0], 0, 255);
+    let sample1 = lines::natural_in(values[1], 0, 65535);
+    let sample2 = lines::natural_in(values[2], 0, 65535);
+    let sample3 = lines::natural_in(values[3], 0, 65535);
+    let buttons = lines::natural_in(values[4], 0, 255);
+    let sensors = lines::natural_in(values[5], 0, 255);
+    Given {
+        ok: pins.ok & sample1.ok & sample2.ok & sample3.ok & buttons.ok & sensors.ok,
+        input: Input {
+            pins: pins.value as u8,
+            sample1: sample1.value as u16,
+            sample2: sample2.value as u16,
+            sample3: sample3.value as u16,
+            buttons: buttons.value as u8,
+            sensors: sensors.value as u8,
+        },
+    }
+}
+
+// scan PINS S1 S2 S3 BUTTONS SENSORS
+fn scan(controller: Controller, values: [i64; 6]) -> Step
+    requires { ⌜ Valid controller ⌝ }
+    ensures { λ r. ⌜ Valid (r .controller) ⌝ }
+{
+    let g = read_input(values);
+    if g.ok {
+        let input = g.input;
+        return scanned(controller, input);
+    }
+    no_call(controller)
+}
+
+fn of_call(controller: Controller, name: &[u8], a: Arguments) -> Step
+    requires { ⌜ Valid controller ⌝ }
+    ensures { λ r. ⌜ Valid (r .controller) ⌝ }
+{
+    let values = a.values;
+    if check::same(name, b"scan") && lines::has(a, 6) {
+        return scan(controller, values);
+    }
+    if check::same(name, b"fresh") && lines::has(a, 1) {
+        return fresh(controller, values);
+    }
+    no_call(controller)
+}
+
+// A line that fills the whole buffer is too long.
+pub fn of_line(controller: Controller, line: &[u8], len: usize) -> Step
+    requires { ⌜ Valid controller ⌝ }
+    ensures { λ r. ⌜ Valid (r .controller) ⌝ }
+{
+    if line.len() <= len {
+        return no_call(controller);
+    }
+    let call = &line[0..len];
+    let w = text::word(call, 0);
+    let from = w.from;
+    let to = w.to;
+    let a = lines::arguments_of(call, to);
+    of_call(controller, &call[from..to], a)
+}

@@ -1,0 +1,112 @@
+"""The claim over every list of calls (document 01, "The exact controller", demand 3), checked after every call.
+
+It is written apart from the rules in loop.py: the conditions of the modes, the causes, the accepted automatic scans and the outright settings are
+written out here again from the paper's words, and are read from the exact controller.  Nothing of loop.py is called.
+"""
+
+STEPS_IN_A_UNIT = 65536
+AUTOMATIC_MODES = {"Auto", "Remote", "Ratio", "Fall-back"}
+# Words: "15 Hold, 14 Track, 13 Manual or Forced, 12 Auto or Fall-back, 11 Remote or Ratio"
+MODES_BY_MD_BIT = {15: {"Hold"}, 14: {"Track"}, 13: {"Manual", "Forced Manual"}, 12: {"Auto", "Fall-back"}, 11: {"Remote", "Ratio"}}
+
+
+def bit(number, place):
+    return number >> place & 1
+
+
+def first_mode_present(exact):
+    """Step 3: the first in the priority order whose condition is present."""
+    hold_pin, track_pin, remote_pin = bit(exact.pins, 7), bit(exact.pins, 6), bit(exact.pins, 5)
+    ratio_switch = bit(exact.SW, 15)
+    cause = exact.memory_fault or exact.open_count > 84
+    conditions = (
+        ("Hold", hold_pin == 0),
+        ("Track", track_pin == 1),
+        ("Forced Manual", cause),
+        ("Manual", exact.request == "M"),
+        ("Auto", exact.request == "A"),
+        ("Remote", exact.request == "R" and remote_pin == 1 and ratio_switch == 0),
+        ("Ratio", exact.request == "R" and remote_pin == 1 and ratio_switch == 1),
+        ("Fall-back", exact.request == "R" and remote_pin == 0))
+    return next(mode for mode, present in conditions if present)
+
+
+def is_minimum(exact_before, exact, mode):
+    """Step 6: "on the 85th open scan, if the mode just before this scan was automatic and S2.5 is ON, it goes to minimum"."""
+    return (exact.open_count == 85 and mode in ("Manual", "Forced Manual") and bit(exact.SW, 11) == 1
+            and first_mode_present(exact_before) in AUTOMATIC_MODES)
+
+
+class Claim:
+    """Follows one pair of controllers; n is the number of accepted automatic scans since the output was last set outright."""
+
+    def __init__(self):
+        self.automatic_scans = 0
+        self.memory_fault = False  # no restart has brought it
+
+    def broken(self, call, before, after, answers, mode_shown):
+        """The parts of the claim that this call has broken.
+
+        Before and after are pairs of controllers, answers is the pair of answers, ours first and the exact one's second; mode_shown is the
+        mode that our controller is in after the call.
+        """
+        stored, exact = after
+        mode = first_mode_present(exact)
+        self.count(call, before[1], exact, answers[1], mode)
+        return [*self.broken_states(before, after, answers),
+                *broken_answers(stored, mode, answers),
+                *self.broken_output(stored, exact, mode),
+                *([] if mode_shown == mode else [f"the mode is {mode_shown}, the first condition present is that of {mode}"])]
+
+    def count(self, call, exact_before, exact, exact_answer, mode):
+        """The outright settings, "Track, minimum, start fresh", and the accepted automatic scans: automatic mode, not open."""
+        if call[0] == "fresh":
+            self.automatic_scans = 0
+        elif exact_answer[0] == "scan":
+            if mode == "Track" or is_minimum(exact_before, exact, mode):
+                self.automatic_scans = 0
+            elif mode in AUTOMATIC_MODES and exact.open_count == 0:
+                self.automatic_scans += 1
+
+    def broken_states(self, before, after, answers):
+        """Compared: "all items but the output equal, open counts above 85 taken as 85"; a declined call leaves the controller."""
+        stored, exact = after
+        if exact._replace(output=stored.output, open_count=stored.open_count) != stored:
+            for item, ours, others in zip(stored._fields, stored, exact, strict=True):
+                if item not in ("output", "open_count") and ours != others:
+                    yield f"{item} is {ours}, the exact controller's {others}"
+        if min(stored.open_count, 85) != min(exact.open_count, 85):
+            yield f"the open count is {stored.open_count}, the exact controller's {exact.open_count}"
+        if stored.memory_fault != self.memory_fault:
+            yield f"the memory fault is {stored.memory_fault}"
+        if answers[0][0] == "refused" and after != before:
+            yield "a declined call has changed a controller"
+
+    def broken_output(self, stored, exact, mode):
+        """Compared: "outputs within the bound", 3/2 x n x 1/65,536 units; outside Hold and Track ours is within its limits."""
+        if mode not in ("Hold", "Track"):
+            lowest, highest = stored.parameters.LO * STEPS_IN_A_UNIT, stored.parameters.HO * STEPS_IN_A_UNIT
+            if not lowest <= stored.output <= highest:
+                yield f"the output {stored.output} is not within {lowest}..{highest} in {mode}"
+        if not isinstance(stored.output, int):
+            yield f"the output {stored.output} is not a whole number of 1/65,536 units"
+        if 2 * abs(stored.output - STEPS_IN_A_UNIT * exact.output) > 3 * self.automatic_scans:
+            yield f"the output {stored.output}, exactly {STEPS_IN_A_UNIT * exact.output}, is out of bound, n is {self.automatic_scans}"
+
+
+def broken_answers(stored, mode, answers):
+    """Compared: "all answers equal, save OP and electrical output, which are those of our own stored output"."""
+    ours, others = answers
+    if ours[0] != "scan":
+        if ours != others:
+            yield f"the answer is {ours}, the exact controller's {others}"
+        return
+    if ours[:3] != others[:3]:
+        yield f"the words are {ours[:3]}, the exact controller's {others[:3]}"
+    whole_units = stored.output // STEPS_IN_A_UNIT
+    electrical = 9999 - whole_units if bit(stored.SW, 14) else whole_units
+    if ours[3:] != (whole_units, electrical):
+        yield f"OP and electrical output are {ours[3:]}, those of the output {stored.output} are {(whole_units, electrical)}"
+    shown = [place for place in MODES_BY_MD_BIT if bit(ours[1], place)]
+    if len(shown) != 1 or mode not in MODES_BY_MD_BIT[shown[0]]:
+        yield f"MD {ours[1]:04X}h does not show {mode}"

@@ -1,0 +1,165 @@
+"""The lines that the console reads, and those it answers: the form that was decided for them.
+
+A number is an optional minus and one to eighteen digits.  One or more blanks, spaces only, stand between words and may stand before and behind.
+A line has up to 700 bytes without its newline.  A line that isn't a call is answered error and changes nothing.
+Texts here have one character for each byte of the line.
+"""
+
+import re
+
+LONGEST_LINE = 700
+# The greatest of each number: SW and samples have 16 bits, pins, buttons and sensors 8; further kinds of call are to be added here.
+GREATEST = {"fresh": (65535,), "scan": (255, 65535, 65535, 65535, 255, 255)}
+NUMBER = re.compile("-?[0-9]{1,18}")
+
+
+def call_of(line):
+    """The call that a line makes, as its word and numbers; None for a line to be answered error."""
+    if len(line) > LONGEST_LINE:
+        return None
+    word, *texts = [part for part in line.split(" ") if part] or [""]
+    greatest = GREATEST.get(word)
+    if greatest is None or len(texts) != len(greatest) or not all(map(NUMBER.fullmatch, texts)):
+        return None
+    numbers = tuple(map(int, texts))
+    if any(not 0 <= number <= most for number, most in zip(numbers, greatest, strict=True)):
+        return None
+    return (word, *numbers)
+
+
+def line_of(call):
+    """A call's plainest line; an answer's line too."""
+    return " ".join(map(str, call))
+
+
+def lines_in(text):
+    """The lines of a whole input: the last may lack its newline, and an empty input has none."""
+    lines = text.split("\n")
+    return lines[:-1] if lines[-1] == "" else lines
+
+
+# Other forms of the same call ----------------------------------------------
+
+def with_leading_zeros(generator, call):
+    return line_of((call[0], *("0" * generator.randint(1, 18 - len(str(number))) + str(number) for number in call[1:])))
+
+
+def with_eighteen_digits(generator, call):
+    return line_of((call[0], *(f"{number:018}" for number in call[1:])))
+
+
+def with_minus_zeros(generator, call):
+    """Every zero, and only a zero, may bear a minus."""
+    return line_of((call[0], *(generator.choice(["-0", "-000", "-" + "0" * 18, "0"]) if number == 0 else number for number in call[1:])))
+
+
+def with_more_blanks(generator, call):
+    line = (" " * generator.randint(1, 4)).join(map(str, call))
+    return " " * generator.randint(0, 3) + line + " " * generator.randint(0, 3)
+
+
+def with_700_bytes(generator, call):
+    """The longest line: filled up with blanks, before the call, inside it or behind it."""
+    line = line_of(call)
+    missing = " " * (LONGEST_LINE - len(line))
+    return generator.choice([missing + line, line + missing, line.replace(" ", " " + missing, 1)])
+
+
+OTHER_FORMS = {"leading zeros": with_leading_zeros, "eighteen digits": with_eighteen_digits, "minus zero": with_minus_zeros,
+               "more blanks": with_more_blanks, "700 bytes": with_700_bytes}
+
+
+# Lines that are no call ----------------------------------------------------
+
+NO_NUMBERS = ("+5", "--5", "-", "5-", "1-2", "12x", "x12", "1.0", "1e3", "0x5", "80h", "1_0", "1,0", "\u00b2", "\xff")
+NO_WORDS = ("scam", "sca", "scann", "scan,", "scans", "freshen", "fres", "ok", "refused", "error", "x", "-", "128", "scan128")
+OTHER_BLANKS = ("\t", "\v", "\f", "\r", "\0", "\xa0", ",")
+
+
+def changed(generator, call, text):
+    """The call with one of its numbers put otherwise."""
+    place = generator.randrange(1, len(call))
+    return line_of((*call[:place], text, *call[place + 1:]))
+
+
+def number_missing(generator, call):
+    place = generator.randrange(1, len(call))
+    return line_of(call[:place] + call[place + 1:])
+
+
+def number_too_many(generator, call):
+    place = generator.randint(1, len(call))
+    return line_of((*call[:place], generator.choice([0, 0, 128, 5000]), *call[place:]))
+
+
+def number_beyond_its_type(generator, call):
+    """One more than the greatest, or far more: among them numbers that come out right in 8, 16, 32 bits if only the low bits are kept."""
+    place = generator.randrange(1, len(call))
+    most = GREATEST[call[0]][place - 1]
+    beyond = generator.choice([most + 1, most + 1 + call[place], (1 << 16) + call[place], (1 << 32) + call[place], 10 ** 18 - 1])
+    return line_of((*call[:place], max(beyond, most + 1), *call[place + 1:]))
+
+
+def number_below_zero(generator, call):
+    return changed(generator, call, generator.choice([-1, -2, -128, -256, -32768, -65536, -(1 << 32), 1 - 10 ** 18]))
+
+
+def nineteen_digits(generator, call):
+    place = generator.randrange(1, len(call))
+    text = generator.choice([f"{call[place]:019}", "0" * 19, f"-{0:019}", str((1 << 64) + call[place]), "9" * 40, "0" * 300 + "5"])
+    return line_of((*call[:place], text, *call[place + 1:]))
+
+
+def no_number(generator, call):
+    return changed(generator, call, generator.choice(NO_NUMBERS))
+
+
+def unknown_word(generator, call):
+    return line_of((generator.choice(NO_WORDS), *call[1:]))
+
+
+def word_in_capitals(generator, call):
+    return line_of((generator.choice([call[0].upper(), call[0].capitalize()]), *call[1:]))
+
+
+def no_word(generator, call):
+    return line_of(call[1:])
+
+
+def word_twice(generator, call):
+    return line_of((call[0], *call))
+
+
+def empty_line(generator, call):
+    return ""
+
+
+def blanks_only(generator, call):
+    return " " * generator.choice([1, 2, 5, 700])
+
+
+def other_blank(generator, call):
+    """One of the blanks, or one more before or behind, is no space; behind in half of the cases."""
+    words, blank = list(map(str, call)), generator.choice(OTHER_BLANKS)
+    place = generator.choice((len(words), generator.randrange(len(words))))
+    separators = ["", *[" "] * (len(words) - 1), ""]
+    separators[place] = blank
+    return "".join(separator + word for separator, word in zip(separators, [*words, ""], strict=True))
+
+
+def two_calls(generator, call):
+    return line_of((*call, *call))
+
+
+def overlong_line(generator, call):
+    """A call filled up with blanks to more than 700 bytes; of the longest the first or the last 700 bytes would be a call."""
+    line = line_of(call)
+    missing = " " * (generator.choice([701, 702, 768, 1024, 1400, 4096, 5000]) - len(line))
+    return generator.choice([missing + line, line + missing, line.replace(" ", " " + missing, 1)])
+
+
+LINE_ERRORS = {"number missing": number_missing, "number too many": number_too_many, "number beyond its type": number_beyond_its_type,
+               "number below zero": number_below_zero, "nineteen digits": nineteen_digits, "no number": no_number,
+               "unknown word": unknown_word, "word in capitals": word_in_capitals, "no word": no_word, "word twice": word_twice,
+               "empty line": empty_line, "blanks only": blanks_only, "other blank": other_blank, "two calls": two_calls,
+               "overlong line": overlong_line}

@@ -1,0 +1,240 @@
+"""The controller of document 01: its calls, its scan and its words, one text of the rules for both arithmetics.
+
+Made from document 01 (01-scope.md) and never from the code, so that a comparison of the two is a comparison with the paper.
+"""
+
+from functools import lru_cache
+
+import reckoner
+from reckoner import limit
+from state import OPEN_CAUSE, Controller, Input, Parameters
+
+# "SW bits 15 to 8 are switches S2.1 to S2.8 and bit 7 is S1.1, 1 = ON"
+S2_1, S2_2, S2_3, S2_4, S2_5, S2_6, S2_8, S1_1 = (1 << bit for bit in (15, 14, 13, 12, 11, 10, 8, 7))
+# "a pin byte (7 Hold, 6 Track, 5 Remote, 4 Computer, 3..0 unit address; 1 is 15 V)"
+HOLD_PIN, TRACK_PIN, REMOTE_PIN = 0x80, 0x40, 0x20
+# "a button byte laid out as MD bits 7..0": "7 Lower, 6 Raise, 5 zero, 4 measured power, 3 SP, 2 R, 1 A, 0 M"
+LOWER, RAISE, SP_BUTTON, R_BUTTON, A_BUTTON, M_BUTTON = 0x80, 0x40, 0x08, 0x04, 0x02, 0x01
+# "a sensor byte (0 channel 1 open, 1 battery low)"
+OPEN_SENSOR, BATTERY_SENSOR = 0x01, 0x02
+
+MODES = ("Hold", "Track", "Forced Manual", "Manual", "Auto", "Remote", "Ratio", "Fall-back")
+AUTOMATIC = ("Auto", "Remote", "Ratio", "Fall-back")
+
+# The same numbers come again and again: what the reckoner answered is kept, to save time.
+scale = lru_cache(maxsize=1 << 17)(reckoner.scale)
+
+
+# The calls -----------------------------------------------------------------
+
+def fresh(SW, arithmetic):
+    """Start fresh: "requests Manual with output 0 ..."; "a fresh start ... leave pins 80h, no buttons, open count 0 ..."."""
+    parameters = Parameters()
+    PV, SP = parameters.channel_1L, parameters.SL
+    return Controller(SW=SW, parameters=parameters, request="M", memory_fault=False, user_bits=0, measured_power=False,
+                      open_count=0, output=arithmetic.of_units(0), pins=0x80, buttons=0, PV=PV, SP=SP, ER=PV - SP, MP=0,
+                      battery_low=False, low_alarm=False, high_alarm=False,
+                      previous_PV=None, PV_before_previous=None, previous_SP=None)
+
+
+def scan(controller, given, arithmetic):
+    """One scan: the next controller and the answer, with the steps in the paper's order."""
+    number = declined(given)
+    if number is not None:
+        return controller, ("refused", number)
+    is_open = bool(given.sensors & OPEN_SENSOR)
+    now = controller._replace(
+        pins=given.pins, buttons=given.buttons, battery_low=bool(given.sensors & BATTERY_SENSOR),
+        PV=process_value(controller.parameters, given.sample_1, is_open),
+        open_count=arithmetic.counted(controller.open_count + 1) if is_open else 0)
+    now = now._replace(request=requested(now))
+    mode = mode_of(now)
+    now = now._replace(parameters=moved_parameters(now, mode, is_open))
+    now = with_setpoint(now, mode, given)
+    now = now._replace(output=next_output(controller, now, mode, given.sample_3, is_open, arithmetic))
+    return remembering(controller, now, is_open), ("scan", *scan_words(now, arithmetic))
+
+
+def make(controller, call, arithmetic):
+    """Any call, given as its word and numbers; further kinds of call are to be added here."""
+    word, *numbers = call
+    if word == "fresh":
+        return fresh(*numbers, arithmetic), ("ok",)
+    assert word == "scan"
+    return scan(controller, Input(*numbers), arithmetic)
+
+
+def declined(given):
+    """The refusal: "Plant: 1 a sample above 10000; 2 button bits 5 or 4 set; 3 sensor bits above 1 set"; "the lowest number wins"."""
+    if max(given.sample_1, given.sample_2, given.sample_3) > 10000:
+        return 1
+    if given.buttons & 0x30:
+        return 2
+    if given.sensors & 0xFC:
+        return 3
+    return None
+
+
+# One scan ------------------------------------------------------------------
+
+def process_value(parameters, sample, is_open):
+    """Step 1: channel 1 scaled, rooted first with IC 1; "An open channel 1 reads PV = 1L"."""
+    if is_open:
+        return parameters.channel_1L
+    if parameters.IC == 1:
+        sample = reckoner.root(sample)
+    return scale(parameters.channel_1L, parameters.channel_1H, sample)
+
+
+def has_open_cause(controller):
+    return controller.open_count >= OPEN_CAUSE
+
+
+def has_cause(controller):
+    """Step 2: "A cause is the memory fault, or the 85th and later consecutive open scan"."""
+    return controller.memory_fault or has_open_cause(controller)
+
+
+def requested(now):
+    """Step 2: "With a cause the request becomes Manual in any mode.  Otherwise the first pressed of M, A, R sets the request"."""
+    if has_cause(now):
+        return "M"
+    for button, request in ((M_BUTTON, "M"), (A_BUTTON, "A"), (R_BUTTON, "R")):
+        if now.buttons & button:
+            return request
+    return now.request
+
+
+def mode_of(controller):
+    """Step 3: the mode, in priority order; "Mode and cause always follow the present state"."""
+    if not controller.pins & HOLD_PIN:
+        return "Hold"
+    if controller.pins & TRACK_PIN:
+        return "Track"
+    if has_cause(controller):
+        return "Forced Manual"
+    if controller.request == "M":
+        return "Manual"
+    if controller.request == "A":
+        return "Auto"
+    if not controller.pins & REMOTE_PIN:
+        return "Fall-back"
+    return "Ratio" if controller.SW & S2_1 else "Remote"
+
+
+def direction(buttons):
+    """Step 4: "Raise and Lower together do nothing"; 1 for Raise alone, -1 for Lower alone, else 0."""
+    return bool(buttons & RAISE) - bool(buttons & LOWER)
+
+
+def moved_parameters(now, mode, is_open):
+    """Step 4: RS or SL moved with SP held; with S2.6 ON in a non-automatic mode SL becomes PV instead."""
+    parameters = now.parameters
+    way = direction(now.buttons) if now.buttons & SP_BUTTON else 0
+    if now.SW & S2_6 and mode not in AUTOMATIC:
+        return parameters if is_open else parameters._replace(SL=limit(parameters.LS, parameters.HS, now.PV))
+    if mode == "Remote" or way == 0:
+        return parameters
+    if mode == "Ratio":
+        return parameters._replace(RS=limit(parameters.LR, parameters.HR, parameters.RS + 12 * way))
+    return parameters._replace(SL=limit(parameters.LS, parameters.HS, parameters.SL + way))
+
+
+def ratio_setpoint(now, trim, sample_2):
+    """Step 5, in Ratio: "100 x q / s + RB, or with S2.3 ON q x s / 100 + RB"; the sum s is limited to LR..HR."""
+    parameters = now.parameters
+    s = limit(parameters.LR, parameters.HR, parameters.RS + trim)
+    q = scale(parameters.channel_2L, parameters.channel_2H, sample_2)
+    quotient = reckoner.inverse_ratio(q, s) if now.SW & S2_3 else reckoner.ratio(q, s)
+    return quotient + parameters.RB
+
+
+def with_setpoint(now, mode, given):
+    """Step 5: SP, SL, ER and MP of this scan; and the alarms, which are reckoned from PV and ER."""
+    parameters = now.parameters
+    scaled_3 = scale(parameters.channel_3L, parameters.channel_3H, given.sample_3)
+    trim = 0 if mode == "Track" or now.measured_power else scaled_3
+    if mode == "Remote":
+        SP = scale(parameters.channel_1L, parameters.channel_1H, given.sample_2) + trim
+    elif mode == "Ratio":
+        SP = ratio_setpoint(now, trim, given.sample_2)
+    else:
+        SP = parameters.SL if now.SW & S2_1 else parameters.SL + trim
+    SP = limit(parameters.LS, parameters.HS, SP)
+    if mode in ("Remote", "Ratio"):
+        parameters = parameters._replace(SL=SP)
+    ER = now.PV - SP
+    return now._replace(parameters=parameters, SP=SP, ER=ER, MP=scaled_3 if now.measured_power else 0,
+                        low_alarm=now.PV < parameters.LA or ER < -parameters.LD,
+                        high_alarm=now.PV > parameters.HA or ER > parameters.HD)
+
+
+def minimum(controller, arithmetic):
+    """Minimum: "sets OP to LO, or to HO with S2.2 ON"."""
+    return arithmetic.of_units(controller.parameters.HO if controller.SW & S2_2 else controller.parameters.LO)
+
+
+def next_output(before, now, mode, sample_3, is_open, arithmetic):
+    """Step 6, and the limiting at its end."""
+    output = before.output
+    if mode == "Hold":
+        return output
+    if mode == "Track":
+        return arithmetic.of_units(min(sample_3, 9999))
+    if mode in ("Manual", "Forced Manual"):
+        is_85th = is_open and before.open_count == OPEN_CAUSE - 1
+        if is_85th and mode_of(before) in AUTOMATIC and now.SW & S2_5:
+            output = minimum(now, arithmetic)
+        elif not now.buttons & SP_BUTTON:
+            output += arithmetic.of_units(12 * direction(now.buttons))
+    elif not is_open:
+        output += sum(arithmetic.term(*term) for term in terms(before, now, mode))
+    return limit(arithmetic.of_units(now.parameters.LO), arithmetic.of_units(now.parameters.HO), output)
+
+
+def terms(before, now, mode):
+    """Terms: the three, each as the reckoner's formula and its numbers.  "A forgotten value counts as the nearest later one"."""
+    inverse, minutes, parameters = bool(now.SW & S2_4), bool(now.SW & S2_8), now.parameters
+    previous_PV = now.PV if before.previous_PV is None else before.previous_PV
+    PV_before_previous = previous_PV if before.PV_before_previous is None else before.PV_before_previous
+    previous_SP = now.SP if before.previous_SP is None else before.previous_SP
+    if mode in ("Auto", "Fall-back") and not now.SW & S1_1:
+        previous_SP = now.SP
+    c, c1 = now.SP - now.PV, previous_SP - previous_PV
+    if inverse:
+        c, c1 = -c, -c1
+    W = parameters.channel_1H - parameters.channel_1L
+    D = now.PV - 2 * previous_PV + PV_before_previous
+    return ((reckoner.proportional, parameters.XP, W, c - c1),
+            (reckoner.integral, parameters.XP, W, parameters.TI, minutes, c),
+            (reckoner.derivative, parameters.XP, W, parameters.TD, minutes, inverse, D))
+
+
+def remembering(before, now, is_open):
+    """Step 7: "An open scan forgets earlier PV and SP and isn't remembered; others are"."""
+    if is_open:
+        return now._replace(previous_PV=None, PV_before_previous=None, previous_SP=None)
+    return now._replace(previous_PV=now.PV, PV_before_previous=before.previous_PV, previous_SP=now.SP)
+
+
+# Words ---------------------------------------------------------------------
+
+def MD(controller):
+    """Words: "MD: 15 Hold, 14 Track, 13 Manual or Forced, 12 Auto or Fall-back, 11 Remote or Ratio, 10 Remote pin, ..."."""
+    bit = {"Hold": 15, "Track": 14, "Manual": 13, "Forced Manual": 13, "Auto": 12, "Fall-back": 12, "Remote": 11, "Ratio": 11}
+    return (1 << bit[mode_of(controller)] | bool(controller.pins & REMOTE_PIN) << 10 | has_open_cause(controller) << 9
+            | controller.memory_fault << 8 | controller.buttons | controller.measured_power << 4)
+
+
+def DS(controller):
+    """Words: "DS: high byte the pin byte; 7, 6 user bits 2, 1; 5 is 0 in Hold, Manual, Forced; 4 is 0 in Remote, Ratio; 3 is 0 ..."."""
+    mode = mode_of(controller)
+    return (controller.pins << 8 | controller.user_bits << 6 | (mode not in ("Hold", "Manual", "Forced Manual")) << 5
+            | (mode not in ("Remote", "Ratio")) << 4 | (not controller.battery_low) << 3 | (not has_cause(controller)) << 2
+            | (not controller.low_alarm) << 1 | (not controller.high_alarm))
+
+
+def scan_words(controller, arithmetic):
+    """Words: "A scan answers MD, DS, OP and electrical output"; the last is OP, "or 9999 - OP with S2.2 ON"."""
+    OP = arithmetic.whole_units(controller.output)
+    return MD(controller), DS(controller), OP, 9999 - OP if controller.SW & S2_2 else OP

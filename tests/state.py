@@ -1,0 +1,119 @@
+"""The controller of document 01: its two arithmetics, its parameters and its other state items.
+
+Made from document 01 (01-scope.md) and never from the code, so that a comparison of the two is a comparison with the paper.
+
+The arithmetic given with a call decides what the output is.  Stored: a whole number of 1/65,536 units, to which rounded terms are added.
+Exact: a fraction, in units, to which the limited terms are added unrounded.  Everything else is the same for both.
+"""
+
+from fractions import Fraction
+from functools import lru_cache
+from math import floor
+from typing import NamedTuple
+
+import reckoner
+from reckoner import STEPS_IN_A_UNIT, TERM_LIMIT, limit
+
+OPEN_CAUSE = 85  # "the 85th and later consecutive open scan"
+
+
+class Stored:
+    """Ours: "the stored output is a whole number of 1/65,536 units, and OP is its floor in units"."""
+
+    @staticmethod
+    def of_units(units):
+        return units * STEPS_IN_A_UNIT
+
+    @staticmethod
+    @lru_cache(maxsize=1 << 17)
+    def term(formula, *numbers):
+        return reckoner.stored_term(formula(*numbers))
+
+    @staticmethod
+    def whole_units(output):
+        return output // STEPS_IN_A_UNIT
+
+    @staticmethod
+    def counted(open_scans):
+        return min(open_scans, OPEN_CAUSE)  # ours stops at 85
+
+
+class Exact:
+    """The exact controller: "its output is a fraction of two whole numbers and its limited terms are added unrounded"."""
+
+    @staticmethod
+    def of_units(units):
+        return Fraction(units)
+
+    @staticmethod
+    @lru_cache(maxsize=1 << 17)
+    def term(formula, *numbers):
+        return limit(-TERM_LIMIT, TERM_LIMIT, formula(*numbers))
+
+    @staticmethod
+    def whole_units(output):
+        return floor(output)
+
+    @staticmethod
+    def counted(open_scans):
+        return open_scans  # counts on
+
+
+class Parameters(NamedTuple):
+    """Parameters 1 to 23 in the order of their numbers, with the table's defaults."""
+    channel_1H: int = 1000
+    channel_1L: int = 0
+    channel_2H: int = 1000
+    channel_2L: int = 0
+    channel_3H: int = 1
+    channel_3L: int = 0
+    HR: int = 9999
+    LR: int = 1
+    HS: int = 1000
+    LS: int = 0
+    HA: int = 9999
+    LA: int = -9999
+    HD: int = 9999
+    LD: int = 9999
+    HO: int = 9999
+    LO: int = 0
+    XP: int = 1000
+    TI: int = 0
+    TD: int = 0
+    SL: int = 0
+    RS: int = 100
+    RB: int = 0
+    IC: int = 0
+
+
+class Controller(NamedTuple):
+    """The state: "State items are all that lasts between calls", in the paper's order."""
+    SW: int
+    parameters: Parameters
+    request: str            # "M", "A" or "R"
+    memory_fault: bool
+    user_bits: int          # bit 0 is user bit 1, bit 1 is user bit 2
+    measured_power: bool    # MD bit 4
+    open_count: int
+    output: object          # as the arithmetic has it
+    pins: int
+    buttons: int
+    PV: int
+    SP: int
+    ER: int
+    MP: int
+    battery_low: bool
+    low_alarm: bool
+    high_alarm: bool
+    previous_PV: object     # None once forgotten
+    PV_before_previous: object
+    previous_SP: object
+
+
+class Input(NamedTuple):
+    pins: int
+    sample_1: int
+    sample_2: int
+    sample_3: int
+    buttons: int
+    sensors: int

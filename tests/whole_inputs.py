@@ -1,0 +1,63 @@
+"""Whole inputs for the console, each with the whole output due: ends of input, overlong lines, and input that comes in pieces."""
+
+from console_lines import LONGEST_LINE, lines_in
+
+# Worked by hand.  SW 0, pins 80h, all else 0: Manual is MD 2000h; DS is 80h, then bits 4, 3, 2, 1, 0: 801Fh; output 0.
+FIRST_SCAN = "scan 128 0 0 0 0 0"
+FIRST_ANSWER = "scan 8192 32799 0 0"
+BY_HAND = (
+    ("no input", "", ""),
+    ("no newline at the end", "fresh 0", "ok\n"),
+    ("a newline at the end", "fresh 0\n", "ok\n"),
+    ("one empty line", "\n", "error\n"),
+    ("three empty lines", "\n\n\n", "error\nerror\nerror\n"),
+    ("one blank", " ", "error\n"),
+    ("one NUL", "\0", "error\n"),
+    ("one carriage return", "\r", "error\n"),
+    ("a carriage return before the newline", "fresh 0\r\n", "error\n"),
+    ("a NUL behind a call", "fresh 0\0\nfresh 0\0 5\nfresh 0 \0\n", "error\nerror\nerror\n"),
+    ("a tab for a blank", "fresh\t0\n\tfresh 0\nfresh 0\t\n", "error\nerror\nerror\n"),
+    ("a byte beyond ASCII", "\xff", "error\n"),
+    ("a scan before any fresh", FIRST_SCAN, FIRST_ANSWER + "\n"),
+    ("S2.2 ON", f"fresh 16384\n{FIRST_SCAN}", "ok\nscan 8192 32799 0 9999\n"),
+    ("a fresh start ends Auto", f"scan 128 0 0 0 2 0\nfresh 0\n{FIRST_SCAN}\n", f"scan 4098 32831 0 0\nok\n{FIRST_ANSWER}\n"),
+    ("a word cut by a newline", "fre\nsh 0\n", "error\nerror\n"),
+    ("a call after a line with NULs", f"\0\0\0\n{FIRST_SCAN}\n", f"error\n{FIRST_ANSWER}\n"),
+    ("the greatest numbers", "fresh 65535\nscan 255 10000 10000 10000 207 3\n", "ok\nscan 17615 65335 9999 0\n"),
+    ("one beyond the greatest", "fresh 65536\nscan 256 0 0 0 0 0\nscan 0 65536 0 0 0 0\nscan 0 65535 0 0 0 0\n", "error\n" * 3 + "refused 1\n"),
+    ("the lowest refusal wins", "scan 0 10001 0 0 48 255\nscan 0 0 0 0 16 4\nscan 0 0 0 0 0 4\n", "refused 1\nrefused 2\nrefused 3\n"),
+)
+
+
+def overlong():
+    """Lines of exactly the longest length, one byte longer and far longer, alone and between others, with and without a last newline."""
+    for length in (LONGEST_LINE - 1, LONGEST_LINE, LONGEST_LINE + 1, 2 * LONGEST_LINE, 5000, 70000):
+        due = "ok" if length <= LONGEST_LINE else "error"
+        missing = " " * (length - len("fresh 0"))
+        for name, line in (("behind", "fresh 0" + missing), ("before", missing + "fresh 0"), ("inside", f"fresh {missing}0")):
+            yield f"{length} bytes, blanks {name}", f"{line}\n", f"{due}\n"
+            yield f"{length} bytes, blanks {name}, no newline", line, f"{due}\n"
+        yield (f"{length} bytes between scans", f"{FIRST_SCAN}\nfresh 0{missing}\n{FIRST_SCAN}\n", f"{FIRST_ANSWER}\n{due}\n{FIRST_ANSWER}\n")
+        yield f"{length} digits and letters", f"{'7' * length}\n{'x' * length}\nfresh 1\n", "error\nerror\nok\n"
+    calls = "fresh 0 " * 100  # 800 bytes: what stands behind the 700th byte is no call of its own
+    yield "an overlong line of calls", f"{calls}\n{FIRST_SCAN}\n", f"error\n{FIRST_ANSWER}\n"
+
+
+def cut_short(answers_of):
+    """An input that ends after any byte of its last line."""
+    text = "fresh 1024\nscan 192 4990 20 5000 4 0\nscan 0160  10001 -0 070 66 03"
+    for length in range(text.index("\n") + 1, len(text) + 1):
+        yield f"cut after {length} bytes", text[:length], "".join(answer + "\n" for answer in answers_of(lines_in(text[:length])))
+
+
+def whole(answers_of):
+    """Name, the input's text and the output's text of each."""
+    return [*BY_HAND, *overlong(), *cut_short(answers_of)]
+
+
+def in_pieces(lines, answers_of):
+    """Inputs that come piece by piece: the size of a piece, the text and the output's text."""
+    few = "\n".join(lines[:40])
+    many = "\n".join(lines) + "\n"
+    for size, text in ((1, few), (2, few), (13, few), (699, many), (700, many), (701, many), (1024, many), (4095, many), (4097, many)):
+        yield size, text, "".join(answer + "\n" for answer in answers_of(lines_in(text)))
