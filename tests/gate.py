@@ -24,6 +24,7 @@ STEPS = (
     ("names in the documents", [*PYTHON, "tests/docs.py"]),
     ("the gate's own tests", [*PYTHON, "tests/gate_test.py"]),
     ("arithmetic against the reckoner", [*PYTHON, "tests/arithmetic.py", "target/bin/calculator"]),
+    ("scans against the reckoner", [*PYTHON, "tests/scans.py", "target/bin/console"]),
 )
 
 

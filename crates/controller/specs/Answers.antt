@@ -1,5 +1,4 @@
 -- Document 01: what a call answers, in the paper's numbers and values.
-use mathlib.Core.Bool.{Bool}
 use Prim.Native.Nat.{ℕ, _/_, _-_}
 use lib.IntN.{ℤ, natAbs}
 use Rattle.integers.specs.Choice.{if_then_else_}

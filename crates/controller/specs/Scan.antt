@@ -1,6 +1,5 @@
 -- Document 01, One scan, whole: the next state but for the output, the answer but for OP and electrical output, and an instruction for the output. These
 -- stand once, for our controller and for the exact one.
-use mathlib.Core.Bool.{Bool}
 use mathlib.Core.Option.{Option, some, none}
 use Prim.Native.Nat.{ℕ}
 use lib.IntN.{ℤ}

@@ -1,11 +1,10 @@
 -- Document 01: what a fresh start leaves.
 use mathlib.Core.Bool.{Bool, false}
 use Prim.Native.Nat.{ℕ}
-use lib.IntN.{ℤ, pos, _-ℤ_}
+use lib.IntN.{pos, _-ℤ_}
 use Rattle.modes.specs.declared.Conditions.{Conditions}
 use Rattle.modes.specs.declared.Request.{Request}
 use Rattle.modes.specs.declared.Request.the-variants.{Manual}
-use Rattle.words.specs.declared.Marks.{Marks}
 use Rattle.words.specs.declared.Shown.{Shown}
 use Rattle.parameters.specs.Table.{defaults, L1, SL}
 use Rattle.parameters.specs.declared.Parameters.{Parameters}

@@ -1,5 +1,4 @@
 -- What holds of every controller that the calls hand back, and all that a call asks of the controller it is given.
-use Prim.Native.Nat.{_≤_}
 use Rattle.parameters.specs.Legal.{Legal}
 use Rattle.outputs.specs.OutputLaws.{Kept, Stored}
 use Rattle.controller.specs.declared.Controller.{Controller}

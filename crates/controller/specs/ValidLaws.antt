@@ -1,12 +1,11 @@
 -- A fresh controller is valid, and a scan hands back a valid one.
-use mathlib.Core.Path.{_≡_, refl, sym, ap, _∙_}
+use mathlib.Core.Path.{_≡_, refl}
 use mathlib.Core.Bool.{Bool, true, false, _||_}
 use mathlib.Core.List.{List, [], _∷_}
 use mathlib.Core.Option.{Option, some, none}
-use Prim.Native.Nat.{ℕ, _≤_}
+use Prim.Native.Nat.{ℕ}
 use native.Mathlib.Omega.{arith}
 use lib.Dec.{ltb}
-use lib.IntN.{ℤ, pos}
 use borrow.Author.Tests.{ltb-false}
 use Rattle.integers.specs.Choice.{if_then_else_}
 use Rattle.integers.specs.Parts.{integers}
@@ -19,9 +18,8 @@ use Rattle.parameters.specs.Legal.{Legal}
 use Rattle.parameters.specs.LegalLaws.{defaults-legal}
 use Rattle.setpoints.specs.Reckoning.{reckoned}
 use Rattle.setpoints.specs.ReckoningLaws.{Sampled, reckoned-legal, pv-reading, setpoint-read, limited-setpoint}
-use Rattle.setpoints.specs.declared.Readings.{Readings}
-use Rattle.outputs.specs.Instruction.{carriedOut, changed, limitedTo, storedArithmetic}
-use Rattle.outputs.specs.OutputLaws.{Read, Kept, Stored, history-kept, output-stored}
+use Rattle.outputs.specs.Instruction.{carriedOut, changed, limitedTo}
+use Rattle.outputs.specs.OutputLaws.{Read, history-kept, output-stored}
 use Rattle.outputs.specs.declared.Situation.{Situation}
 use Rattle.controller.specs.Scan.{situationOf, reckonedIn, coreAfter, Outcome, accepted, refused, unless, scanCore, handedBack, stepped, scan}
 use Rattle.controller.specs.State.{freshCore, freshController}

@@ -1,14 +1,11 @@
 -- Our answers are the exact controller's, with the OP and electrical output of our own stored output.
-use mathlib.Core.Path.{_≡_, refl}
-use Prim.Native.Nat.{ℕ, _+_, _*_, _/_, _<_, _≤_}
+use mathlib.Core.Path.{refl}
 use native.Mathlib.Omega.{arith}
-use lib.IntN.{ℤ, pos, natAbs}
-use lib.Signed.{_≤ℤ_, _<ℤ_}
 use Rattle.integers.specs.Operations.{number}
 use Rattle.integers.specs.Parts.{integers, apart}
 use Rattle.signals.specs.Signals.{switchesOf}
 use Rattle.outputs.specs.OutputLaws.{Stored}
-use Rattle.controller.specs.Answers.{Said, words, opOf, electricalOf}
+use Rattle.controller.specs.Answers.{opOf, electricalOf}
 use Rattle.controller.specs.Scan.{Status, status, declined, withOutput}
 use Rattle.controller.specs.declared.Controller.{Controller}
 use Rattle.guarantee.specs.Claim.{OwnOutput, SameAnswer, same-words, same-number}

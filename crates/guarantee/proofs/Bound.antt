@@ -1,11 +1,9 @@
 -- Each instruction, carried out in both arithmetics, keeps the stored output near its fraction.
-use mathlib.Core.Path.{_≡_, refl, subst}
-use mathlib.Core.Bool.{Bool, true, false}
-use Prim.Native.Nat.{ℕ, _+_, _*_, _≤_}
+use Prim.Native.Nat.{ℕ, _*_}
 use native.Mathlib.Omega.{arith}
-use lib.IntN.{ℤ, _+ℤ_}
+use lib.IntN.{ℤ}
 use Rattle.integers.specs.Choice.{if_then_else_, by-cases}
-use Rattle.terms.specs.Fraction.{Fraction, Positive, whole, plus, limited, storedUnits}
+use Rattle.terms.specs.Fraction.{Fraction, Positive, whole, storedUnits}
 use Rattle.terms.specs.Near.{Near}
 use Rattle.terms.specs.NearLaws.{whole-near, plus-near, limited-near, near-more}
 use Rattle.terms.specs.TermLaws.{term-near, proportional-positive, integral-positive, derivative-positive}

@@ -1,16 +1,15 @@
 -- The rules look at the open count only up to 85: a controller that stops counting there goes the same way as one that counts on.
-use mathlib.Core.Path.{_≡_, refl, sym, ap, ap₂, _∙_}
-use mathlib.Core.Bool.{Bool, true, false, _&&_, _||_}
+use mathlib.Core.Path.{_≡_, refl, sym, ap, _∙_}
+use mathlib.Core.Bool.{Bool, true, false, _||_}
 use mathlib.Core.Option.{Option, some, none}
-use Prim.Native.Nat.{ℕ, _+_, _≤_, _<_, min}
+use Prim.Native.Nat.{ℕ, min}
 use native.Mathlib.Omega.{arith}
 use lib.Dec.{leb, eqb}
 use borrow.Author.Tests.{leb-true, leb-false, le-leb, lt-leb, eqb-true, eqb-false, eq-eqb, ne-eqb}
-use Rattle.integers.specs.Choice.{if_then_else_}
 use Rattle.signals.specs.Refusals.{declinedBy, scanTests}
 use Rattle.signals.specs.Signals.{isOpen, buttonsOf}
 use Rattle.signals.specs.declared.Input.{Input}
-use Rattle.modes.specs.Modes.{isOpenCause, isCause, counted, opensAfter, requestAfter, conditionsAfter, modeOf, isAutomatic, goesToMinimum}
+use Rattle.modes.specs.Modes.{isCause, counted, opensAfter, requestAfter, conditionsAfter, modeOf, goesToMinimum}
 use Rattle.modes.specs.declared.Conditions.{Conditions}
 use Rattle.modes.specs.declared.Mode.{Mode}
 use Rattle.words.specs.Words.{MD, DS, mdHigh, dsLow}

@@ -1,14 +1,13 @@
 -- n counts what the rules do to the output: it goes to 0 where the instruction sets outright, up by 1 where terms are added, and stays elsewhere.
-use mathlib.Core.Path.{_≡_, refl, sym, ap, ap₂, _∙_}
+use mathlib.Core.Path.{_≡_, refl, sym, _∙_}
 use mathlib.Core.Bool.{Bool, true, false, not, _&&_, _||_}
-use mathlib.Core.Option.{Option, some}
-use Prim.Native.Nat.{ℕ, suc, _+_}
+use mathlib.Core.Option.{some}
+use Prim.Native.Nat.{ℕ, _+_}
 use native.Mathlib.Omega.{arith}
 use lib.Dec.{eqb}
 use lib.IntN.{ℤ}
 use borrow.Author.Tests.{eqb-true, eqb-false, eq-eqb, ne-eqb}
 use Rattle.integers.specs.Choice.{if_then_else_}
-use Rattle.signals.specs.Bits.{bit}
 use Rattle.signals.specs.Refusals.{declinedBy, scanTests}
 use Rattle.signals.specs.Signals.{switchesOf, isOpen, buttonsOf, pushOf}
 use Rattle.signals.specs.declared.Input.{Input}

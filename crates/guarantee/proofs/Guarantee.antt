@@ -1,20 +1,18 @@
 -- The long guarantee, for every switch word and every list of calls, over the contracts of the calls themselves.
-use mathlib.Core.Path.{_≡_, refl, sym, ap, subst, _∙_}
-use mathlib.Core.Bool.{Bool, true, false}
-use mathlib.Core.List.{List, [], _∷_}
-use mathlib.Core.Option.{Option, some}
+use mathlib.Core.Path.{_≡_, sym, ap, subst, _∙_}
+use mathlib.Core.List.{List}
+use mathlib.Core.Option.{some}
 use Prim.Native.Nat.{ℕ}
 use Rattle.modes.specs.Modes.{counted}
 use Rattle.signals.specs.declared.Input.{Input}
-use Rattle.controller.specs.Answers.{Said, Handed, handed}
+use Rattle.controller.specs.Answers.{Handed, handed}
 use Rattle.controller.specs.Scan.{modeNow, Status, Outcome, withOutput, handedBack}
 use Rattle.controller.specs.Scan as rules
 use Rattle.controller.specs.declared.Controller.{Controller}
-use Rattle.controller.specs.declared.Core.{Core}
 use Rattle.controller.specs.declared.Scanned.{Scanned}
-use Rattle.guarantee.specs.Claim.{modeIn, capped, isHoldOrTrack, WithinLimits, SameAnswer, SameAnswers, no-answer, and-answer}
+use Rattle.guarantee.specs.Claim.{capped, SameAnswer, SameAnswers, no-answer, and-answer}
 use Rattle.guarantee.specs.Count.{Demand3}
-use Rattle.guarantee.specs.Exact.{Call, scan, Calls, none, _then_, outcomeOf, exact, exactAnswer}
+use Rattle.guarantee.specs.Exact.{Call, scan, Calls, _then_, outcomeOf, exact, exactAnswer}
 use Rattle.guarantee.specs.Linked.{ScanEnsures, Linked, started, scanned, Ready}
 use Rattle.guarantee.proofs.Answers.{same-answer}
 use Rattle.guarantee.proofs.Capped.{cappedOutcome, capped-twice, now-capped}

@@ -1,13 +1,12 @@
 -- Our controller after a list of calls, by the rules, beside the exact one.
 use mathlib.Core.Path.{_≡_, refl, sym, ap, subst, _∙_}
-use mathlib.Core.Bool.{Bool, true, false}
+use mathlib.Core.Bool.{true, false}
 use mathlib.Core.Logic.{_↔_}
 use Prim.Native.Nat.{ℕ, _*_}
 use native.Mathlib.Omega.{arith}
-use lib.IntN.{ℤ, pos, _*ℤ_}
-use lib.Signed.{_≤ℤ_}
+use lib.IntN.{pos}
 use Rattle.integers.specs.Parts.{integers}
-use Rattle.terms.specs.Fraction.{storedUnits, whole}
+use Rattle.terms.specs.Fraction.{storedUnits}
 use Rattle.terms.specs.Near.{Near}
 use Rattle.terms.specs.NearLaws.{whole-near}
 use Rattle.signals.specs.Refusals.{declinedBy, scanTests}
@@ -15,11 +14,10 @@ use Rattle.signals.specs.declared.Input.{Input}
 use Rattle.modes.specs.Modes.{counted, conditionsAfter}
 use Rattle.parameters.specs.Legal.{Legal}
 use Rattle.parameters.specs.LegalLaws.{settings, settings-are}
-use Rattle.parameters.specs.Table.{value, withValue, HO, LO}
-use Rattle.parameters.specs.declared.Parameters.{Parameters}
+use Rattle.parameters.specs.Table.{value, HO, LO}
 use Rattle.setpoints.specs.Reckoning.{reckoned}
-use Rattle.outputs.specs.Instruction.{storedArithmetic, exactArithmetic, carriedOut, changed, limitedTo}
-use Rattle.outputs.specs.OutputLaws.{InUnits, output-in-units}
+use Rattle.outputs.specs.Instruction.{storedArithmetic, carriedOut, changed, limitedTo}
+use Rattle.outputs.specs.OutputLaws.{output-in-units}
 use Rattle.outputs.specs.Outputs.{instructionOf, changeIn}
 use Rattle.outputs.specs.declared.Situation.{Situation}
 use Rattle.controller.specs.Scan.{modeNow, situationOf, reckonedIn, coreAfter, Outcome, accepted, refused, scanCore, handedBack}
@@ -31,10 +29,10 @@ use Rattle.controller.specs.declared.Controller.{Controller}
 use Rattle.controller.specs.declared.Core.{Core}
 use Rattle.guarantee.specs.Claim.{capped, isHoldOrTrack, WithinLimits, FaultStands, after-scan}
 use Rattle.guarantee.specs.Count.{automaticScans}
-use Rattle.guarantee.specs.Exact.{Call, scan, Calls, none, _then_, oneMore, outcomeOf, Exact, exactOutcome, exactAfter, exact, exactAnswer}
+use Rattle.guarantee.specs.Exact.{Call, scan, Calls, none, _then_, oneMore, outcomeOf, exactOutcome, exactAfter, exact, exactAnswer}
 use Rattle.guarantee.proofs.Bound.{Sound, keeps, instruction-sound, carried-near}
 use Rattle.guarantee.proofs.Capped.{cappedOutcome, outcome-capped}
-use Rattle.guarantee.proofs.Counting.{changeCount, counts}
+use Rattle.guarantee.proofs.Counting.{counts}
 use Rattle.guarantee.proofs.Modes.{limiting}
 
 unfoldable pub ours : ℕ → Calls → Controller

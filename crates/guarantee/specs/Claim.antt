@@ -1,6 +1,5 @@
 -- Demand 3, the long guarantee, written from document 01's words and apart from the rules: it names none of their thresholds, orders or limits.
 use mathlib.Core.Path.{_≡_}
-use mathlib.Core.Logic.{_↔_}
 use mathlib.Core.Bool.{Bool, true, false, not, _&&_, _||_}
 use mathlib.Core.List.{List, [], _∷_}
 use mathlib.Core.Option.{Option, some}
@@ -9,19 +8,17 @@ use lib.Dec.{leb}
 use lib.IntN.{ℤ, pos, _*ℤ_}
 use lib.Signed.{_≤ℤ_, _<ℤ_}
 use Rattle.integers.specs.Choice.{if_then_else_}
-use Rattle.terms.specs.Near.{Near}
 use Rattle.signals.specs.Bits.{bit}
-use Rattle.modes.specs.declared.Conditions.{Conditions}
 use Rattle.modes.specs.declared.Mode.{Mode}
 use Rattle.modes.specs.declared.Mode.the-variants.{Hold, Track, Forced, Manual, Auto, Remote, Ratio, Fallback}
 use Rattle.modes.specs.declared.Request.{Request}
 use Rattle.modes.specs.declared.Request.the-variants as request
 use Rattle.parameters.specs.Table.{value}
 use Rattle.controller.specs.Answers.{Said, words, number, Handed}
-use Rattle.controller.specs.Scan.{modeNow, Status, status, declined}
+use Rattle.controller.specs.Scan.{Status, status, declined}
 use Rattle.controller.specs.declared.Controller.{Controller}
 use Rattle.controller.specs.declared.Core.{Core}
-use Rattle.guarantee.specs.Exact.{Call, scan, Calls, none, _then_, exact, exactAnswer}
+use Rattle.guarantee.specs.Exact.{Call, scan, Calls, none, _then_, exactAnswer}
 
 -- ---- "the mode is the first in the priority order whose condition is present"
 

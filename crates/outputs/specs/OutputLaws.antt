@@ -1,9 +1,9 @@
 -- How large the numbers of step 6 are; what is remembered stays within -9999..9999, and the stored output within 0..9999 units.
 use mathlib.Core.Path.{_≡_, refl}
-use mathlib.Core.Bool.{Bool, true, false, cond, not, _&&_}
+use mathlib.Core.Bool.{Bool, true, false, not, _&&_}
 use Prim.Native.Nat.{ℕ, _+_, _*_, _≤_, min}
 use native.Mathlib.Omega.{arith}
-use lib.IntN.{ℤ, pos, negℤ, natAbs, _+ℤ_, _-ℤ_, _*ℤ_}
+use lib.IntN.{ℤ, pos, natAbs, _+ℤ_, _-ℤ_, _*ℤ_}
 use lib.Signed.{_≤ℤ_}
 use Rattle.integers.specs.Choice.{if_then_else_, by-cases}
 use Rattle.integers.specs.Limit.{limited-low, limited-high}
@@ -18,14 +18,14 @@ use Rattle.modes.specs.Modes.{isLimiting, isAutoOrFallback}
 use Rattle.modes.specs.declared.Mode.{Mode}
 use Rattle.modes.specs.declared.Mode.the-variants.{Hold, Track, Forced, Manual, Auto, Remote, Ratio, Fallback}
 use Rattle.parameters.specs.Legal.{Legal}
-use Rattle.parameters.specs.LegalLaws.{ranges, Ranges}
+use Rattle.parameters.specs.LegalLaws.{ranges}
 use Rattle.parameters.specs.Table.{H1, L1, HO, LO, XP, TI, TD}
 use Rattle.parameters.specs.declared.Parameters.{Parameters}
 use Rattle.setpoints.specs.ReckoningLaws.{Reading}
 use Rattle.setpoints.specs.declared.Readings.{Readings}
 use Rattle.outputs.specs.Deviation.{deviation, earlierSetpoint, changeOfDeviation, secondDifference, tuningOf}
 use Rattle.outputs.specs.History.{remembered, historyAfter, recalled}
-use Rattle.outputs.specs.Instruction.{Limits, unlimited, between, storedArithmetic, changed, limitedTo, carriedOut}
+use Rattle.outputs.specs.Instruction.{unlimited, between, storedArithmetic, changed, limitedTo, carriedOut}
 use Rattle.outputs.specs.Outputs.{changeIn, limitsIn, minimumOf, instructionOf}
 use Rattle.outputs.specs.declared.History.{History}
 use Rattle.outputs.specs.declared.History.the-variants.{Nothing, One, Two}

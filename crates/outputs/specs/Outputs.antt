@@ -1,6 +1,5 @@
 -- Document 01, One scan, step 6: what a scan does to the output, in each mode.
-use mathlib.Core.Bool.{Bool}
-use Prim.Native.Nat.{ℕ, min}
+use Prim.Native.Nat.{min}
 use lib.IntN.{ℤ, pos, negℤ}
 use Rattle.integers.specs.Choice.{if_then_else_}
 use Rattle.terms.specs.Terms.{proportionalTerm, integralTerm, derivativeTerm}

@@ -1,6 +1,6 @@
 -- What holds of the parameters of every controller: each keeps its row of the table.
 use mathlib.Core.Path.{_≡_}
-use mathlib.Core.Bool.{Bool, true, false, _&&_}
+use mathlib.Core.Bool.{Bool, true, _&&_}
 use Prim.Native.Nat.{ℕ, _+_, _-_, _%_, _≤_}
 use lib.Dec.{eqb}
 use lib.IntN.{ℤ}

@@ -1,6 +1,6 @@
 -- Document 01, One scan: what steps 1, 4 and 5 leave together, and the alarms.
 use mathlib.Core.Bool.{Bool, _||_}
-use lib.IntN.{ℤ, negℤ, _-ℤ_}
+use lib.IntN.{negℤ, _-ℤ_}
 use lib.Signed.{ltZ}
 use Rattle.integers.specs.Choice.{if_then_else_}
 use Rattle.signals.specs.declared.Input.{Input}

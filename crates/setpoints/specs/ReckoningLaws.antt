@@ -1,6 +1,6 @@
 -- How large the readings are, and that SL and RS stay within their limits.
-use mathlib.Core.Path.{_≡_, refl}
-use mathlib.Core.Bool.{Bool, true, false, not, _&&_, _||_}
+use mathlib.Core.Path.{_≡_}
+use mathlib.Core.Bool.{Bool, true, not, _&&_, _||_}
 use Prim.Native.Nat.{ℕ, _≤_}
 use native.Mathlib.Omega.{arith}
 use lib.Dec.{eqb}
@@ -24,11 +24,11 @@ use Rattle.signals.specs.declared.Switches.{Switches}
 use Rattle.modes.specs.Modes.{isAutomatic, isTrack, isRemote, isRatio}
 use Rattle.modes.specs.declared.Mode.{Mode}
 use Rattle.parameters.specs.Legal.{Legal, isWithin}
-use Rattle.parameters.specs.LegalLaws.{Ordered, Inside, Ranges, ranges, inside, settings-legal}
-use Rattle.parameters.specs.Table.{value, H1, L1, H2, L2, H3, L3, HR, LR, HS, LS, SL, RS, RB, IC, LD}
+use Rattle.parameters.specs.LegalLaws.{Ordered, Inside, ranges, settings-legal}
+use Rattle.parameters.specs.Table.{H1, L1, H2, L2, H3, L3, HR, LR, HS, LS, SL, RS, RB, IC, LD}
 use Rattle.parameters.specs.declared.Parameters.{Parameters}
 use Rattle.setpoints.specs.Reckoning.{reckoned}
-use Rattle.setpoints.specs.Setpoints.{firstSample, processVariable, thirdChannel, moved, ratioAfter, setpointMoved, setpointAfter, trimOf, quotientOf, setpointOf, measuredPower}
+use Rattle.setpoints.specs.Setpoints.{firstSample, processVariable, thirdChannel, moved, ratioAfter, setpointMoved, setpointAfter, trimOf, quotientOf, setpointOf}
 
 -- the samples of an accepted scan
 pub record Sampled (i : Input) : Type 0 where

@@ -1,5 +1,5 @@
 -- Document 01, "The calls" and "One scan", Input: what the bits of the switch word, the pin byte, the button byte and the sensor byte say.
-use mathlib.Core.Bool.{Bool, true, false}
+use mathlib.Core.Bool.{Bool}
 use Prim.Native.Nat.{ℕ}
 use Rattle.integers.specs.Choice.{if_then_else_}
 use Rattle.signals.specs.Bits.{bit}

@@ -1,19 +1,41 @@
 -- Document 01's figures worked by hand hold of the rules: each side of each equation computes to the same number.
-use mathlib.Core.Path.{refl}
+use mathlib.Core.Path.{_≡_, refl}
 use lib.Dec.{lit<}
 use Rattle.integers.specs.Rounding.{halfUp, halfEven, nearestAway, nearestEven}
+use Rattle.integers.specs.Limit as Limit
+use Rattle.signals.specs.Refusals.{declinedBy, scanTests}
+use Rattle.signals.specs.Signals.{buttonsOf, pinsOf, switchesOf, pushOf}
+use Rattle.modes.specs.Modes as m
+use Rattle.modes.specs.Modes.{counted, opensAfter}
+use Rattle.parameters.specs.Table.{value, withValue}
+use Rattle.setpoints.specs.Reckoning as r
+use Rattle.setpoints.specs.Setpoints as p
+use Rattle.outputs.specs.Deviation as d
+use Rattle.outputs.specs.Instruction as o
+use Rattle.outputs.specs.Outputs as u
+use Rattle.controller.specs.Answers as a
+use Rattle.controller.specs.Answers.{words}
+use Rattle.controller.specs.Scan as s
+use Rattle.controller.specs.Scan.{scan}
+use Rattle.controller.specs.State as State
+use Rattle.controller.specs.State.{freshController}
+use Rattle.words.specs.Words.{byteOf, mdHigh, mdLow, MD, dsLow, DS}
 use Rattle.scaling.specs.Ratio.{ratioQuotient, inverseQuotient}
 use Rattle.scaling.specs.Scale.{scaled}
-use Rattle.terms.specs.Fraction.{whole, atLeast, atMost, limited, stored, storedUnits}
+use Rattle.terms.specs.Fraction.{whole, atLeast, atMost, limited, stored, storedUnits, limitedStored}
 use Rattle.terms.specs.Terms.{proportionalTerm, integralTerm, derivativeTerm, limitedTerm, storedTerm}
-use Rattle.worked.specs.Figures.{AllHold, figures}
+use Rattle.worked.specs.Figures.{AllHold, firstScan, figures}
 
 infixr 5 _and_
 _and_ : {A B : Type 0} → A → B → A × B
 a and b = (a, b)
 
+scan-figure : scan (freshController 0) firstScan .answer ≡ words 0x1002 0x913F 0 0
+unfolding s.scan s.scanCore s.accepted s.handedBack s.situationOf s.reckonedIn s.shownAfter s.coreAfter s.statusOf s.modeNow State.freshController State.freshCore State.startReadings a.opOf a.electricalOf declinedBy scanTests buttonsOf pinsOf switchesOf pushOf m.counted m.opensAfter m.conditionsAfter m.modeOf m.goesToMinimum byteOf mdHigh mdLow MD dsLow DS value withValue r.reckoned r.lowAlarm r.highAlarm p.firstSample p.processVariable p.thirdChannel p.ratioAfter p.setpointMoved p.setpointAfter p.trimOf p.localSetpoint p.setpointIn p.setpointOf p.measuredPower scaled halfUp Limit.limited Limit.atLeast Limit.atMost d.deviation d.earlierSetpoint d.changeOfDeviation d.secondDifference d.tuningOf o.storedArithmetic o.changed o.limitedTo o.carriedOut u.termsOf u.byTerms u.limitsIn u.instructionOf proportionalTerm integralTerm derivativeTerm limitedTerm storedTerm whole atLeast atMost limited stored storedUnits limitedStored nearestEven halfEven
+scan-figure = refl
+
 pub worked : AllHold figures
-unfolding figures proportionalTerm integralTerm derivativeTerm limitedTerm storedTerm whole atLeast atMost limited stored storedUnits nearestEven nearestAway halfEven halfUp scaled ratioQuotient inverseQuotient
+unfolding figures proportionalTerm integralTerm derivativeTerm limitedTerm storedTerm whole atLeast atMost limited stored storedUnits nearestEven nearestAway halfEven halfUp scaled ratioQuotient inverseQuotient counted opensAfter byteOf mdHigh mdLow MD dsLow DS buttonsOf pinsOf switchesOf
 worked =
     (lit< tt, lit< tt, refl) and refl and
     (lit< tt, lit< tt, refl) and refl and
@@ -22,4 +44,8 @@ worked =
     refl and refl and
     refl and refl and
     refl and
+    refl and refl and
+    refl and
+    refl and
+    scan-figure and
     tt

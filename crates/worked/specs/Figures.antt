@@ -1,9 +1,18 @@
 -- Document 01, "Worked by hand (all to be proved)": one list of statements about the rules, in the paper's order. proofs/Worked.antt proves it.
-use mathlib.Core.Bool.{false}
+use mathlib.Core.Bool.{true, false}
 use mathlib.Core.List.{List, [], _∷_}
 use mathlib.Core.Path.{_≡_}
-use Prim.Native.Nat.{ℕ}
+use Prim.Native.Nat.{ℕ, zero, suc}
 use lib.IntN.{ℤ, pos, negℤ, _*ℤ_}
+use Rattle.signals.specs.declared.Input.{Input}
+use Rattle.modes.specs.Modes.{isCause, counted, opensAfter}
+use Rattle.modes.specs.declared.Conditions.{Conditions}
+use Rattle.modes.specs.declared.Mode.the-variants.{Auto}
+use Rattle.modes.specs.declared.Request.the-variants as request
+use Rattle.words.specs.Words.{MD, DS}
+use Rattle.controller.specs.Answers.{words}
+use Rattle.controller.specs.Scan.{scan}
+use Rattle.controller.specs.State.{startShown, freshController}
 use Rattle.scaling.specs.Ratio.{ratioQuotient, inverseQuotient}
 use Rattle.scaling.specs.Scale.{scaled}
 use Rattle.terms.specs.Fraction.{Fraction, Positive, whole}
@@ -22,6 +31,18 @@ Equal f g = Positive f × Positive g × (f .numerator *ℤ pos (g .denominator) 
 -- "With XP 1000, W 1000, S2.8 and S2.4 OFF", and TI and TD as each figure has them
 abbrev pub example : ℕ → ℕ → Tuning
 example ti td = record { xp = 1000; span = 1000; ti = ti; td = td; minutes = false; inverted = false }
+
+-- the count that so many consecutive open scans leave
+abbrev pub afterOpenScans : ℕ → ℕ
+afterOpenScans zero = 0
+afterOpenScans (suc n) = opensAfter counted true (afterOpenScans n)
+
+-- request A, no cause, these pins; the mode that they give is Auto
+abbrev pub inAuto : ℕ → Conditions
+inAuto pins = record { request = request.Auto; fault = false; opens = 0; pins = pins }
+
+abbrev pub firstScan : Input
+firstScan = record { pins = 0x91; sample1 = 5000; sample2 = 0; sample3 = 0; buttons = 2; sensors = 0 }
 
 unfoldable pub figures : List (Type 0)
 figures =
@@ -44,4 +65,13 @@ figures =
     ∷ (ratioQuotient (negℤ (pos 101)) 200 ≡ negℤ (pos 51))
     -- "S2.3 ON, q 5, s 150 gives 8"
     ∷ (inverseQuotient (pos 5) 150 ≡ pos 8)
+    -- "Open scan 84 isn't a cause, 85 is."
+    ∷ (isCause false (afterOpenScans 84) ≡ false)
+    ∷ (isCause false (afterOpenScans 85) ≡ true)
+    -- "Auto with bit 4 is MD 1010h."
+    ∷ (MD Auto (inAuto 0x80) (record { user1 = false; user2 = false; power = true }) startShown ≡ 0x1010)
+    -- "Pins 91h in Auto, healthy: DS 913Fh."
+    ∷ (DS Auto (inAuto 0x91) (record { user1 = false; user2 = false; power = false }) startShown ≡ 0x913F)
+    -- the same of a whole scan: started fresh with SW 0, pins 91h, PV 500, A pressed
+    ∷ (scan (freshController 0) firstScan .answer ≡ words 0x1002 0x913F 0 0)
     ∷ []
