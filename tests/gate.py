@@ -25,6 +25,7 @@ STEPS = (
     ("the gate's own tests", [*PYTHON, "tests/gate_test.py"]),
     ("arithmetic against the reckoner", [*PYTHON, "tests/arithmetic.py", "target/bin/calculator"]),
     ("scans against the reckoner", [*PYTHON, "tests/scans.py", "target/bin/console"]),
+    ("the console's speed", [*PYTHON, "tests/speed.py", "target/bin/console"]),
 )
 
 

@@ -33,4 +33,4 @@ opOf output = natAbs output / 65536
 
 -- "Electrical output is OP, or 9999 - OP with S2.2 ON."
 unfoldable pub electricalOf : ℕ → ℤ → ℕ
-electricalOf sw output = if switchesOf sw .inversion then 9999 - opOf output else opOf output
+electricalOf sw output = if switchesOf sw .displayinversion then 9999 - opOf output else opOf output

@@ -39,7 +39,7 @@ situationOf c after i =
 
 -- ---- steps 1, 4 and 5
 unfoldable pub reckonedIn : Core → Situation → Reckoned
-reckonedIn c x = reckoned (c .parameters) (x .switches) (c .marks .power) (x .mode) (x .input)
+reckonedIn c x = reckoned (c .parameters) (x .switches) (c .marks .measuredpower) (x .mode) (x .input)
 
 -- ---- what is shown until the next scan: "Alarms are the last scan's."
 unfoldable pub shownAfter : Core → Situation → Readings → Shown
@@ -106,17 +106,17 @@ abbrev pub withOutput : Status → ℕ → ℤ → Said
 withOutput (status md ds) sw output = words md ds (opOf output) (electricalOf sw output)
 withOutput (declined n) sw output = number n
 
--- what a call whose outcome this is hands back
+-- the controller after a call whose outcome this is
+unfoldable pub controllerAfter : Controller → Outcome → Controller
+controllerAfter c o = record { core = o .next; output = carriedOut storedArithmetic (o .instruction) (c .output) }
+
+-- and all that the call hands back
 unfoldable pub handedBack : Controller → Outcome → Handed
-handedBack c o =
-    let output = carriedOut storedArithmetic (o .instruction) (c .output) in
-    record { next = record { core = o .next; output = output }; answer = withOutput (o .answer) (c .core .sw) output }
+handedBack c o = let next = controllerAfter c o in record { next = next; answer = withOutput (o .answer) (c .core .sw) (next .output) }
 
 -- the controller after an accepted scan
 unfoldable pub stepped : Controller → Input → Controller
-stepped c i =
-    let o = accepted counted (c .core) i in
-    record { core = o .next; output = carriedOut storedArithmetic (o .instruction) (c .output) }
+stepped c i = controllerAfter c (accepted counted (c .core) i)
 
 unfoldable pub scan : Controller → Input → Handed
 scan c i = handedBack c (scanCore counted (c .core) i)

@@ -37,7 +37,7 @@ freshCore sw =
       sw = sw;
       parameters = freshParameters;
       conditions = startConditions Manual false;
-      marks = record { user1 = false; user2 = false; power = false };
+      marks = record { user1 = false; user2 = false; measuredpower = false };
       readings = startReadings freshParameters;
       shown = startShown;
       history = Nothing;

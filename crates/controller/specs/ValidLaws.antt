@@ -21,7 +21,7 @@ use Rattle.setpoints.specs.ReckoningLaws.{Sampled, reckoned-legal, pv-reading, 
 use Rattle.outputs.specs.Instruction.{carriedOut, changed, limitedTo}
 use Rattle.outputs.specs.OutputLaws.{Read, history-kept, output-stored}
 use Rattle.outputs.specs.declared.Situation.{Situation}
-use Rattle.controller.specs.Scan.{situationOf, reckonedIn, coreAfter, Outcome, accepted, refused, unless, scanCore, handedBack, stepped, scan}
+use Rattle.controller.specs.Scan.{controllerAfter, situationOf, reckonedIn, coreAfter, Outcome, accepted, refused, unless, scanCore, handedBack, stepped, scan}
 use Rattle.controller.specs.State.{freshCore, freshController}
 use Rattle.controller.specs.Valid.{Valid}
 use Rattle.controller.specs.declared.Controller.{Controller}
@@ -71,13 +71,13 @@ unfolding freshController freshCore storedUnits
 valid-fresh sw = record { legal = defaults-legal; kept = tt; stored = record { not-below = omega (arith, integers); not-above = omega (arith, integers) } }
 
 pub stepped-valid : (c : Controller) (i : Input) → Valid c → Sampled i → Valid (stepped c i)
-unfolding stepped accepted coreAfter situationOf reckonedIn
+unfolding stepped controllerAfter accepted coreAfter situationOf reckonedIn
 stepped-valid c i v s =
     let after = conditionsAfter counted (c .core .conditions) i in
     let x = situationOf (c .core) after i in
     let readings = reckonedIn (c .core) x .readings in
     record {
-      legal = reckoned-legal (c .core .parameters) (x .switches) (c .core .marks .power) (x .mode) i (v .legal);
+      legal = reckoned-legal (c .core .parameters) (x .switches) (c .core .marks .measuredpower) (x .mode) i (v .legal);
       kept = history-kept (c .core .history) (isOpen i) readings (v .kept) (read (c .core) x (v .legal) s);
       stored = output-stored (c .core .parameters) (v .legal) x readings (c .core .history) (c .output) (v .stored);
     }
@@ -88,7 +88,7 @@ by-verdict P none c o f g = f refl
 by-verdict P (some n) c o f g = g n
 
 pub valid-scan : (c : Controller) (i : Input) → Valid c → Valid (scan c i .next)
-unfolding scan scanCore handedBack refused carriedOut changed limitedTo stepped
+unfolding scan scanCore handedBack controllerAfter refused carriedOut changed limitedTo stepped
 valid-scan c i v =
     by-verdict (λ o. Valid (handedBack c o .next)) (declinedBy (scanTests i)) (c .core) (accepted counted (c .core) i)
     (λ e. stepped-valid c i v (sampled i e)) (λ n. v)

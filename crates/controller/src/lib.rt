@@ -91,7 +91,7 @@ fn electrical_of(sw: u16, output: i64) -> u16
 {
     let s = signals::switches_of(sw);
     let op = op_of(output);
-    if s.inversion { 9999 - op } else { op }
+    if s.displayinversion { 9999 - op } else { op }
 }
 
 impl Core {
@@ -129,7 +129,7 @@ impl Core {
         let s = x.switches;
         let mode = x.mode;
         let input = x.input;
-        setpoints::reckon(p, s, marks.power, mode, input)
+        setpoints::reckon(p, s, marks.measuredpower, mode, input)
     }
 
     fn shown_after(self, x: Situation, r: Readings) -> Shown
@@ -191,7 +191,7 @@ impl Controller {
                 marks: Marks {
                     user1: false,
                     user2: false,
-                    power: false,
+                    measuredpower: false,
                 },
                 readings,
                 shown: Shown {

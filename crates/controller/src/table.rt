@@ -5,7 +5,7 @@ use crate::Controller;
 use parameters::Rule;
 
 impl Controller {
-    // The ranges of the table, and the defaults by number after the unused entry 0.
+    // The ends of the table's ranges.
     pub const READING_LEAST: i64 = -9999;
 
     pub const READING_MOST: i64 = 9999;
@@ -30,35 +30,41 @@ impl Controller {
 
     pub const TIME_MOST: i64 = 9999;
 
+    pub const WORD_LEAST: i64 = 0;
+
+    pub const WORD_MOST: i64 = 65535;
+
+    // IC: linear, or root.
     pub const LINEAR: i64 = 0;
 
     pub const ROOT: i64 = 1;
 
+    // By number; entry 0 is not used.
     pub const DEFAULTS: [i64; 24] = [
-        0,
-        1000,
-        0,
-        1000,
-        0,
-        1,
-        0,
-        9999,
-        1,
-        1000,
-        0,
-        9999,
-        -9999,
-        9999,
-        9999,
-        9999,
-        0,
-        1000,
-        0,
-        0,
-        0,
-        100,
-        0,
-        0,
+        0, // not used
+        1000, // 1H
+        0, // 1L
+        1000, // 2H
+        0, // 2L
+        1, // 3H
+        0, // 3L
+        9999, // HR
+        1, // LR
+        1000, // HS
+        0, // LS
+        9999, // HA
+        -9999, // LA
+        9999, // HD
+        9999, // LD
+        9999, // HO
+        0, // LO
+        1000, // XP
+        0, // TI
+        0, // TD
+        0, // SL
+        100, // RS
+        0, // RB
+        0, // IC
     ];
 
     // What a parameter's number asks of a value. The contract rules out a range, an order or a partner other than the table's.
@@ -73,11 +79,11 @@ impl Controller {
             15..=16 => Rule::Pair(Self::OUTPUT_LEAST, Self::OUTPUT_MOST, false),
             17 => Rule::Free(Self::BAND_LEAST, Self::BAND_MOST),
             18..=19 => Rule::Free(Self::TIME_LEAST, Self::TIME_MOST),
-            20 => Rule::Between(10, 9),
-            21 => Rule::Between(8, 7),
+            20 => Rule::Between(parameters::LS, parameters::HS),
+            21 => Rule::Between(parameters::LR, parameters::HR),
             22 => Rule::Free(Self::READING_LEAST, Self::READING_MOST),
             23 => Rule::Free(Self::LINEAR, Self::ROOT),
-            24..=25 => Rule::Word,
+            24..=25 => Rule::Word(Self::WORD_LEAST, Self::WORD_MOST),
             26..=32 => Rule::ReadOnly,
             _ => Rule::Unknown,
         }

@@ -6,18 +6,18 @@ use Prim.Native.Nat.{ℕ}
 use Rattle.modes.specs.Modes.{counted}
 use Rattle.signals.specs.declared.Input.{Input}
 use Rattle.controller.specs.Answers.{Handed, handed}
-use Rattle.controller.specs.Scan.{modeNow, Status, Outcome, withOutput, handedBack}
+use Rattle.controller.specs.Scan.{controllerAfter, modeNow, Status, Outcome, withOutput, handedBack}
 use Rattle.controller.specs.Scan as rules
 use Rattle.controller.specs.declared.Controller.{Controller}
 use Rattle.controller.specs.declared.Scanned.{Scanned}
 use Rattle.guarantee.specs.Claim.{capped, SameAnswer, SameAnswers, no-answer, and-answer}
-use Rattle.guarantee.specs.Count.{Demand3}
-use Rattle.guarantee.specs.Exact.{Call, scan, Calls, _then_, outcomeOf, exact, exactAnswer}
+use Rattle.guarantee.specs.Demand.{Demand3}
+use Rattle.guarantee.specs.Exact.{Call, scan, Calls, _then_, outcomeOf, exactAfter, exact, exactAnswer}
 use Rattle.guarantee.specs.Linked.{ScanEnsures, Linked, started, scanned, Ready}
-use Rattle.guarantee.proofs.Answers.{same-answer}
+use Rattle.guarantee.proofs.Answers.{outcome-shows, same-answer}
 use Rattle.guarantee.proofs.Capped.{cappedOutcome, capped-twice, now-capped}
 use Rattle.guarantee.proofs.Modes.{mode-is-first}
-use Rattle.guarantee.proofs.Ours.{ours, cores, outcomes, switch-word, valid-after, bound-after, within-after, fault-after}
+use Rattle.guarantee.proofs.Ours.{ours, cores, outcomes, switch-word, opens-after, valid-after, bound-after, within-after, fault-after}
 
 -- ---- what the contracts hand on is what the rules give
 
@@ -28,15 +28,16 @@ linked (scanned i r l e) = ap (λ (h : Handed). h .next) e ∙ ap (λ (k : Contr
 
 -- what a call hands back, in the exact controller's answer and our own output
 handed-answer : (word : ℕ) (xs : Calls) (x : Call) → let h = handedBack (ours word xs) (outcomeOf counted (ours word xs .core) x) in
-    SameAnswer (h .next) (h .answer) (exactAnswer word xs x)
-unfolding handedBack exactAnswer ours cappedOutcome
+    SameAnswer (h .next) (exact word (xs then x) .core) (h .answer) (exactAnswer word xs x)
+unfolding handedBack controllerAfter exactAnswer exact exactAfter ours cappedOutcome
 handed-answer word xs x =
-    let h = handedBack (ours word xs) (outcomeOf counted (ours word xs .core) x) in
-    let a = ap (λ (o : Outcome). o .answer) (outcomes word xs x) in
-    let s = switch-word (ours word xs .core) x in
-    subst (λ (st : Status). SameAnswer (h .next) (h .answer) st) a
-    (subst (λ (sw : ℕ). SameAnswer (h .next) (withOutput (outcomeOf counted (ours word xs .core) x .answer) sw (h .next .output)) (outcomeOf counted (ours word xs .core) x .answer)) s
-    (same-answer (h .next) (outcomeOf counted (ours word xs .core) x .answer) (valid-after word (xs then x) .stored)))
+    let o = outcomeOf counted (ours word xs .core) x in
+    let next = handedBack (ours word xs) o .next in
+    let now = exact word (xs then x) .core in
+    let answers-are : exactAnswer word xs x ≡ o .answer = sym (ap (λ (o : Outcome). o .answer) (outcomes word xs x)) in
+    let answer = same-answer next now (exactAnswer word xs x) (outcome-shows (exact word xs .core) x) (valid-after word (xs then x) .stored) in
+    subst (λ (s : Status). SameAnswer next now (withOutput s (ours word xs .core .sw) (next .output)) (exactAnswer word xs x)) answers-are
+    (subst (λ (sw : ℕ). SameAnswer next now (withOutput (exactAnswer word xs x) sw (next .output)) (exactAnswer word xs x)) (switch-word (ours word xs .core) x) answer)
 
 -- the contract of a scan, made after these calls
 scan-is : {word : ℕ} {xs : Calls} {hs : List Handed} {c : Controller} (i : Input) (r : Scanned) → Linked word xs hs c → ScanEnsures c i r →
@@ -48,7 +49,7 @@ answers : {word : ℕ} {xs : Calls} {hs : List Handed} {c : Controller} → Link
 answers {word} (started r e) = no-answer
 answers {word} (scanned {xs = xs} i r l e) =
     and-answer (answers l)
-    (subst (λ (h : Handed). SameAnswer (h .next) (h .answer) (exactAnswer word xs (scan i))) (sym (scan-is i r l e)) (handed-answer word xs (scan i)))
+    (subst (λ (h : Handed). SameAnswer (h .next) (exact word (xs then scan i) .core) (h .answer) (exactAnswer word xs (scan i))) (sym (scan-is i r l e)) (handed-answer word xs (scan i)))
 
 -- ---- demand 3
 
@@ -58,6 +59,7 @@ guarantee word calls hs c l =
     let core-is : c .core ≡ capped (exact word calls .core) = ap (λ (k : Controller). k .core) e ∙ cores word calls in
     record {
       mode-first = mode-is-first (exact word calls .core) ∙ ap some (sym (ap modeNow core-is ∙ now-capped (exact word calls .core)));
+      opens-counted = opens-after word calls;
       fault-stands = rw e (fault-after word calls);
       within-limits = rw e (within-after word calls);
       same-state = ap capped core-is ∙ capped-twice (exact word calls .core);

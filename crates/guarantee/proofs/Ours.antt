@@ -11,7 +11,7 @@ use Rattle.terms.specs.Near.{Near}
 use Rattle.terms.specs.NearLaws.{whole-near}
 use Rattle.signals.specs.Refusals.{declinedBy, scanTests}
 use Rattle.signals.specs.declared.Input.{Input}
-use Rattle.modes.specs.Modes.{counted, conditionsAfter}
+use Rattle.modes.specs.Modes.{counted, opensAfter, conditionsAfter}
 use Rattle.parameters.specs.Legal.{Legal}
 use Rattle.parameters.specs.LegalLaws.{settings, settings-are}
 use Rattle.parameters.specs.Table.{value, HO, LO}
@@ -20,7 +20,7 @@ use Rattle.outputs.specs.Instruction.{storedArithmetic, carriedOut, changed, li
 use Rattle.outputs.specs.OutputLaws.{output-in-units}
 use Rattle.outputs.specs.Outputs.{instructionOf, changeIn}
 use Rattle.outputs.specs.declared.Situation.{Situation}
-use Rattle.controller.specs.Scan.{modeNow, situationOf, reckonedIn, coreAfter, Outcome, accepted, refused, scanCore, handedBack}
+use Rattle.controller.specs.Scan.{controllerAfter, modeNow, situationOf, reckonedIn, coreAfter, statusOf, Outcome, accepted, refused, scanCore, handedBack}
 use Rattle.controller.specs.Scan as rules
 use Rattle.controller.specs.State.{freshController, freshCore}
 use Rattle.controller.specs.Valid.{Valid}
@@ -28,7 +28,7 @@ use Rattle.controller.specs.ValidLaws.{by-verdict, valid-fresh, valid-scan}
 use Rattle.controller.specs.declared.Controller.{Controller}
 use Rattle.controller.specs.declared.Core.{Core}
 use Rattle.guarantee.specs.Claim.{capped, isHoldOrTrack, WithinLimits, FaultStands, after-scan}
-use Rattle.guarantee.specs.Count.{automaticScans}
+use Rattle.guarantee.specs.Count.{openAfter, openScans, automaticScans}
 use Rattle.guarantee.specs.Exact.{Call, scan, Calls, none, _then_, oneMore, outcomeOf, exactOutcome, exactAfter, exact, exactAnswer}
 use Rattle.guarantee.proofs.Bound.{Sound, keeps, instruction-sound, carried-near}
 use Rattle.guarantee.proofs.Capped.{cappedOutcome, outcome-capped}
@@ -46,7 +46,7 @@ unfolding freshCore capped
 fresh-capped word = refl
 
 pub cores : (word : ℕ) (xs : Calls) → ours word xs .core ≡ capped (exact word xs .core)
-unfolding ours exact exactAfter freshController handedBack cappedOutcome
+unfolding ours exact exactAfter freshController handedBack controllerAfter cappedOutcome
 cores word none = fresh-capped word
 cores word (xs then x) =
     ap (λ (k : Core). outcomeOf counted k x .next) (cores word xs) ∙ ap (λ (o : Outcome). o .next) (outcome-capped (exact word xs .core) x)
@@ -77,12 +77,25 @@ outcome-sound c (scan i) legal =
     (λ e. instruction-sound (c .parameters) _ _ (c .history) legal) (λ n. keeps)
 
 pub bound-after : (word : ℕ) (xs : Calls) → Near (ours word xs .output) (exact word xs .output) (3 * automaticScans word xs)
-unfolding ours exact exactAfter exactAnswer automaticScans freshController handedBack storedUnits cappedOutcome
+unfolding ours exact exactAfter exactAnswer automaticScans freshController handedBack controllerAfter storedUnits cappedOutcome
 bound-after word none = whole-near (pos 0) 0
 bound-after word (xs then x) =
     rw (outcomes word xs x, counts)
     (carried-near (exactOutcome (exact word xs) x .instruction) (ours word xs .output) (exact word xs .output) (automaticScans word xs)
     (outcome-sound (exact word xs .core) x (exact-legal word xs)) (bound-after word xs))
+
+-- ---- the open count
+
+open-counts : (c : Core) (x : Call) → let o = outcomeOf oneMore c x in o .next .conditions .opens ≡ openAfter x (o .answer) (c .conditions .opens)
+unfolding outcomeOf scanCore refused accepted coreAfter conditionsAfter opensAfter statusOf openAfter
+open-counts c (scan i) =
+    by-verdict (λ o. o .next .conditions .opens ≡ openAfter (scan i) (o .answer) (c .conditions .opens)) (declinedBy (scanTests i)) c (accepted oneMore c i)
+    (λ e. refl) (λ n. refl)
+
+pub opens-after : (word : ℕ) (xs : Calls) → exact word xs .core .conditions .opens ≡ openScans word xs
+unfolding exact exactAfter exactAnswer openScans freshCore
+opens-after word none = refl
+opens-after word (xs then x) = open-counts (exact word xs .core) x ∙ ap (λ (n : ℕ). openAfter x (exactAnswer word xs x) n) (opens-after word xs)
 
 -- ---- the limits
 
@@ -98,7 +111,7 @@ module _ (c : Core) (x : Situation) (legal : Legal (c .parameters)) where
 
 accepted-within : (c : Controller) (i : Input) → Legal (c .core .parameters) → let now = handedBack c (accepted counted (c .core) i) .next in
     isHoldOrTrack (modeNow (now .core)) ≡ false → WithinLimits now
-unfolding handedBack accepted coreAfter modeNow situationOf carriedOut instructionOf storedUnits
+unfolding handedBack controllerAfter accepted coreAfter modeNow situationOf carriedOut instructionOf storedUnits
 accepted-within c i legal e =
     let x = situationOf (c .core) (conditionsAfter counted (c .core .conditions) i) i in
     let y = changed storedArithmetic (changeIn (x .mode) (c .core .parameters) x (reckonedIn (c .core) x .readings) (c .core .history)) (c .output) in
@@ -111,7 +124,7 @@ fresh-within word = record { least = omega (arith, integers); most = omega (arit
 
 refused-within : (c : Controller) (n : ℕ) → (isHoldOrTrack (modeNow (c .core)) ≡ false → WithinLimits c) →
     isHoldOrTrack (modeNow (handedBack c (refused (c .core) n) .next .core)) ≡ false → WithinLimits (handedBack c (refused (c .core) n) .next)
-unfolding handedBack refused carriedOut changed limitedTo
+unfolding handedBack controllerAfter refused carriedOut changed limitedTo
 refused-within c n f = f
 
 pub within-after : (word : ℕ) (xs : Calls) → isHoldOrTrack (modeNow (ours word xs .core)) ≡ false → WithinLimits (ours word xs)
@@ -140,7 +153,7 @@ false-not-true : false ≡ true → ⊥
 false-not-true e = let z : _≡_ {A = ℕ} 0 1 = cc in omega arith
 
 no-fault : (word : ℕ) (xs : Calls) → ours word xs .core .conditions .fault ≡ false
-unfolding ours outcomeOf scanCore freshController freshCore handedBack
+unfolding ours outcomeOf scanCore freshController freshCore handedBack controllerAfter
 no-fault word none = refl
 no-fault word (xs then scan i) =
     let c = ours word xs in

@@ -1,9 +1,11 @@
--- Demand 3, the long guarantee, written from document 01's words and apart from the rules: it names none of their thresholds, orders or limits.
+-- The parts of demand 3, written out again from document 01's words. Of the rules only the state's types, the bits of a word and the exact controller
+-- are used: the conditions, their order, 85, the limits and what a word shows of the mode stand here a second time, so that a wrong rule does not pass with
+-- its own measure.
 use mathlib.Core.Path.{_≡_}
 use mathlib.Core.Bool.{Bool, true, false, not, _&&_, _||_}
 use mathlib.Core.List.{List, [], _∷_}
 use mathlib.Core.Option.{Option, some}
-use Prim.Native.Nat.{ℕ, _+_, _-_, _*_, min}
+use Prim.Native.Nat.{ℕ, _+_, _-_, _*_, _/_, min}
 use lib.Dec.{leb}
 use lib.IntN.{ℤ, pos, _*ℤ_}
 use lib.Signed.{_≤ℤ_, _<ℤ_}
@@ -18,7 +20,7 @@ use Rattle.controller.specs.Answers.{Said, words, number, Handed}
 use Rattle.controller.specs.Scan.{Status, status, declined}
 use Rattle.controller.specs.declared.Controller.{Controller}
 use Rattle.controller.specs.declared.Core.{Core}
-use Rattle.guarantee.specs.Exact.{Call, scan, Calls, none, _then_, exactAnswer}
+use Rattle.guarantee.specs.Exact.{Call, scan, Calls, none, _then_, exact, exactAnswer}
 
 -- ---- "the mode is the first in the priority order whose condition is present"
 
@@ -68,7 +70,7 @@ isHoldOrTrack Remote = false
 isHoldOrTrack Ratio = false
 isHoldOrTrack Fallback = false
 
--- LO is parameter 16 and HO parameter 15, in units of 65,536
+-- LO is parameter 16 and HO parameter 15, in units, of which the stored output has 65,536 to one
 pub record WithinLimits (c : Controller) : Type 0 where
   pub least : (value (c .core .parameters) 16 *ℤ pos 65536) ≤ℤ c .output
   pub most : c .output ≤ℤ (value (c .core .parameters) 15 *ℤ pos 65536)
@@ -99,16 +101,33 @@ pub record OwnOutput (c : Controller) (op electrical : ℕ) : Type 0 where
   pub below-next : c .output <ℤ pos ((op + 1) * 65536)
   pub electrically : electrical ≡ (if bit (c .core .sw) 14 then 9999 - op else op)
 
--- an answer that was handed back with the controller c, beside the exact controller's
-pub data SameAnswer (c : Controller) : Said → Status → Type 0 where
-  same-words : {md ds op electrical : ℕ} → OwnOutput c op electrical → SameAnswer c (words md ds op electrical) (status md ds)
-  same-number : {n : ℕ} → SameAnswer c (number n) (declined n)
+-- MD bits 15 to 11, read as a number of five bits: "15 Hold, 14 Track, 13 Manual or Forced, 12 Auto or Fall-back, 11 Remote or Ratio"
+abbrev pub shownAs : Mode → ℕ
+shownAs Hold = 16
+shownAs Track = 8
+shownAs Manual = 4
+shownAs Forced = 4
+shownAs Auto = 2
+shownAs Fallback = 2
+shownAs Remote = 1
+shownAs Ratio = 1
+
+-- MD shows the mode that the conditions of this state give
+pub record ShowsMode (md : ℕ) (now : Core) : Type 0 where
+  pub mode : Mode
+  pub present : modeIn now ≡ some mode
+  pub shown : md / 2048 ≡ shownAs mode
+
+-- an answer that was handed back with the controller c, beside that of the exact controller, which this call left in the state `now`
+pub data SameAnswer (c : Controller) (now : Core) : Said → Status → Type 0 where
+  same-words : {md ds op electrical : ℕ} → ShowsMode md now → OwnOutput c op electrical → SameAnswer c now (words md ds op electrical) (status md ds)
+  same-number : {n : ℕ} → SameAnswer c now (number n) (declined n)
 
 -- every answer of the list, the latest first
 pub data SameAnswers (word : ℕ) : Calls → List Handed → Type 0 where
   no-answer : SameAnswers word none []
   and-answer : {xs : Calls} {hs : List Handed} {x : Call} {h : Handed} →
-      SameAnswers word xs hs → SameAnswer (h .next) (h .answer) (exactAnswer word xs x) → SameAnswers word (xs then x) (h ∷ hs)
+      SameAnswers word xs hs → SameAnswer (h .next) (exact word (xs then x) .core) (h .answer) (exactAnswer word xs x) → SameAnswers word (xs then x) (h ∷ hs)
 
 -- ---- "The memory fault stands exactly when the last accepted restart brought it and no accepted write of MD with bit 8 zero came after that restart."
 

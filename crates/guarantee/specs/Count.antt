@@ -1,4 +1,4 @@
--- Document 01, "The exact controller": n, "the automatic scans since the output was last set outright", read from the exact controller; and demand 3.
+-- Document 01, "The exact controller": n, "the automatic scans since the output was last set outright", read from the exact controller.
 use mathlib.Core.Path.{_≡_}
 use mathlib.Core.Logic.{_↔_}
 use mathlib.Core.Bool.{Bool, true, false, not, _&&_, _||_}
@@ -60,6 +60,14 @@ abbrev pub isAccepted : Status → Bool
 isAccepted (status md ds) = true
 isAccepted (declined n) = false
 
+-- consecutive open scans, told by the calls alone: an accepted open scan is one more, an accepted scan that isn't open starts anew, a declined one counts as none
+unfoldable pub openAfter : Call → Status → ℕ → ℕ
+openAfter (scan i) answer n = if not (isAccepted answer) then n else if bit (i .sensors) 0 then n + 1 else 0
+
+unfoldable pub openScans : ℕ → Calls → ℕ
+openScans word none = 0
+openScans word (xs then x) = openAfter x (exactAnswer word xs x) (openScans word xs)
+
 -- "on the 85th open scan, if the mode just before this scan was automatic and S2.5 is ON". The exact controller counts on, so its count is 85 only then
 unfoldable pub toMinimum : Core → Core → Bool
 toMinimum before now = eqb (now .conditions .opens) 85 && automatic (modeIn before) && bit (now .sw) 11
@@ -83,17 +91,3 @@ unfoldable pub automaticScans : ℕ → Calls → ℕ
 automaticScans word none = 0
 automaticScans word (xs then x) =
     countAfter (exact word xs .core) (exact word (xs then x) .core) x (exactAnswer word xs x) (automaticScans word xs)
-
--- ---- demand 3: after these calls, with these controllers and answers handed back, of the controller c
-pub record Demand3 (word : ℕ) (calls : Calls) (hs : List Handed) (c : Controller) : Type 0 where
-  -- "the mode is the first in the priority order whose condition is present"
-  pub mode-first : modeIn (exact word calls .core) ≡ some (modeNow (c .core))
-  -- "the memory fault stands exactly from a restart that brings it to the restart or write that clears it"
-  pub fault-stands : (c .core .conditions .fault ≡ true) ↔ FaultStands calls
-  -- "outside Hold and Track the stored output is within its limits"
-  pub within-limits : isHoldOrTrack (modeNow (c .core)) ≡ false → WithinLimits c
-  -- "apart from the output, the whole state and every answer equal those of document 01's exact controller"
-  pub same-state : capped (c .core) ≡ capped (exact word calls .core)
-  pub same-answers : SameAnswers word calls hs
-  -- "the stored output is within 3/2 × n × 1/65,536 unit of that controller's": `Near` counts halves of 1/65,536 unit
-  pub bound : Near (c .output) (exact word calls .output) (3 * automaticScans word calls)

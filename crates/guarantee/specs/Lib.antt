@@ -1,4 +1,5 @@
 pub mod Claim
 pub mod Count
+pub mod Demand
 pub mod Exact
 pub mod Linked

@@ -155,7 +155,7 @@ module _ (p : Parameters) (legal : Legal p) where
 
 pub minimum-most : (p : Parameters) (s : Switches) → Legal p → natAbs (minimumOf p s) ≤ 10000
 unfolding minimumOf
-minimum-most p s legal = by-cases (λ (z : ℤ). natAbs z ≤ 10000) (s .inversion) (HO p) (LO p) (λ e. high-limit-most p legal) (λ e. low-limit-most p legal)
+minimum-most p s legal = by-cases (λ (z : ℤ). natAbs z ≤ 10000) (s .displayinversion) (HO p) (LO p) (λ e. high-limit-most p legal) (λ e. low-limit-most p legal)
 
 -- ---- sums and differences of bounded numbers
 

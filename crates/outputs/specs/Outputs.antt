@@ -21,7 +21,7 @@ use Rattle.outputs.specs.declared.Situation.{Situation}
 
 -- ""Minimum" sets OP to LO, or to HO with S2.2 ON."
 unfoldable pub minimumOf : Parameters → Switches → ℤ
-minimumOf p s = if s .inversion then HO p else LO p
+minimumOf p s = if s .displayinversion then HO p else LO p
 
 -- "one of Raise, Lower .. moves it 12 units"
 abbrev pub pushed : Push → Change

@@ -168,7 +168,7 @@ fn minimum_of(p: Parameters, s: Switches) -> i64
 {
     let high = p.get(parameters::HO);
     let low = p.get(parameters::LO);
-    integers::choose(s.inversion, high, low)
+    integers::choose(s.displayinversion, high, low)
 }
 
 fn pushed(push: Push, output: i64) -> i64
@@ -219,7 +219,7 @@ fn by_terms(p: Parameters, x: Situation, r: Readings, h: History, output: i64) -
     with_terms(p, x, r, h, output)
 }
 
-// Track's output in whole units.
+// Track's output, stored: the lesser of sample 3 and 9999 units.
 fn tracked(sample: u16) -> i64
     ensures { λ n. ⌜ n ≡ storedUnits (pos (min sample 9999)) ⌝ }
 {

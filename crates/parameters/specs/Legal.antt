@@ -24,7 +24,7 @@ inOrder strict low high = if strict then ltZ low high else leZ low high
 abbrev pub keeps : Rule → (ℕ → ℤ) → ℕ → Bool
 keeps Unknown values n = true
 keeps ReadOnly values n = true
-keeps Word values n = true
+keeps (Word low high) values n = true
 keeps (Free low high) values n = isWithin low high (values n)
 keeps (Pair low high strict) values n =
     isWithin low high (values n) && (if eqb (n % 2) 1 then inOrder strict (values (n + 1)) (values n) else inOrder strict (values n) (values (n - 1)))

@@ -49,7 +49,7 @@ value-with p k v size h n =
 keeps-same : (r : Rule) (f g : ℕ → ℤ) (n : ℕ) → ((m : ℕ) → f m ≡ g m) → keeps r f n ≡ keeps r g n
 keeps-same Unknown f g n e = refl
 keeps-same ReadOnly f g n e = refl
-keeps-same Word f g n e = refl
+keeps-same (Word low high) f g n e = refl
 keeps-same (Free low high) f g n e = rw (e n) refl
 keeps-same (Pair low high strict) f g n e = rw (e n, e (n + 1), e (n - 1)) refl
 keeps-same (Between low high) f g n e = rw (e n, e low, e high) refl

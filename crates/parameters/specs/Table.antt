@@ -107,7 +107,7 @@ ruleOf n =
     if isFrom n 21 21 then Between 8 7 else  -- RS: LR..HR
     if isFrom n 22 22 then Free (negℤ (pos 9999)) (pos 9999) else  -- RB: -9999..9999
     if isFrom n 23 23 then Free (pos 0) (pos 1) else  -- IC: 0..1
-    if isFrom n 24 25 then Word else  -- MD, DS: 0..65535
+    if isFrom n 24 25 then Word (pos 0) (pos 65535) else  -- MD, DS: 0..65535
     if isFrom n 26 32 then ReadOnly else  -- SW, II, OP, SP, PV, ER, MP
     Unknown
 

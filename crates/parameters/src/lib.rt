@@ -12,14 +12,14 @@ pub enum Rule {
     // a number outside 1..32
     Unknown,
     ReadOnly,
-    // MD and DS: a word of 16 bits
-    Word,
+    // MD and DS: a range, from least to most, and rules of their own
+    Word(i64, i64),
     // a range alone, from least to most
     Free(i64, i64),
     // a range, and an order: the upper one of a pair has the odd number and the lower one the next; strictly in order where true
     Pair(i64, i64, bool),
     // between two other parameters, the lower and the upper one, named by their numbers
-    Between(u64, u64),
+    Between(usize, usize),
 }
 
 pub const H1: usize = 1;

@@ -15,14 +15,14 @@ use Rattle.setpoints.specs.declared.Reckoned.{Reckoned}
 
 -- SL and RS are parameters 20 and 21. "In Remote and Ratio SL becomes SP. ER = PV - SP."
 unfoldable pub reckoned : Parameters → Switches → Bool → Mode → Input → Reckoned
-reckoned p s power mode i =
+reckoned p s measuredpower mode i =
     let pv = processVariable p i in
-    let sl = setpointAfter p (s .tracking) mode i pv in
+    let sl = setpointAfter p (s .setpointtracks) mode i pv in
     let rs = ratioAfter p mode i in
-    let sp = setpointOf p s mode sl rs (trimOf p power mode i) i in
+    let sp = setpointOf p s mode sl rs (trimOf p measuredpower mode i) i in
     record {
       parameters = withValue (withValue p 20 (if isRemote mode || isRatio mode then sp else sl)) 21 rs;
-      readings = record { pv = pv; sp = sp; er = pv -ℤ sp; mp = measuredPower p power i };
+      readings = record { pv = pv; sp = sp; er = pv -ℤ sp; mp = measuredPower p measuredpower i };
     }
 
 -- "low alarm (PV < LA or ER < -LD)"

@@ -138,11 +138,11 @@ module _ (p : Parameters) (legal : Legal p) where
       let b = buttonsOf (i .buttons) in
       chosen-inside (b .sp && not (isRatio mode) && not (isRemote mode)) (LS p) (HS p) _ _ (moved-inside (pushOf b) (pos 1) (LS p) (HS p) (SL p) (r .setpoints .order) (r .setpoint)) (r .setpoint)
 
-  pub setpoint-inside : (tracking : Bool) (mode : Mode) (i : Input) (pv : ℤ) → Inside (LS p) (setpointAfter p tracking mode i pv) (HS p)
+  pub setpoint-inside : (setpointtracks : Bool) (mode : Mode) (i : Input) (pv : ℤ) → Inside (LS p) (setpointAfter p setpointtracks mode i pv) (HS p)
   unfolding setpointAfter
-  setpoint-inside tracking mode i pv =
+  setpoint-inside setpointtracks mode i pv =
       let r = ranges p legal in
-      chosen-inside (tracking && not (isAutomatic mode)) (LS p) (HS p) _ _ (chosen-inside (isOpen i) (LS p) (HS p) _ _ (r .setpoint) (limited-inside (LS p) (HS p) pv (r .setpoints .order)))
+      chosen-inside (setpointtracks && not (isAutomatic mode)) (LS p) (HS p) _ _ (chosen-inside (isOpen i) (LS p) (HS p) _ _ (r .setpoint) (limited-inside (LS p) (HS p) pv (r .setpoints .order)))
       (setpoint-moved-inside mode i)
 
   pub limited-setpoint : (s : Switches) (mode : Mode) (sl rs trim : ℤ) (i : Input) → Inside (LS p) (setpointOf p s mode sl rs trim i) (HS p)
@@ -169,10 +169,10 @@ module _ (p : Parameters) (legal : Legal p) where
     unfolding thirdChannel
     third-reading = scaled-reading (range3 p legal _ (sampled .third))
 
-    pub trim-reading : (power : Bool) (mode : Mode) → Reading (trimOf p power mode i)
+    pub trim-reading : (measuredpower : Bool) (mode : Mode) → Reading (trimOf p measuredpower mode i)
     unfolding trimOf
-    trim-reading power mode =
-        by-cases Reading (isTrack mode || power) (pos 0) (thirdChannel p i) (λ e. record { reading = omega arith }) (λ e. third-reading)
+    trim-reading measuredpower mode =
+        by-cases Reading (isTrack mode || measuredpower) (pos 0) (thirdChannel p i) (λ e. record { reading = omega arith }) (λ e. third-reading)
 
     -- q, and s of any sum
     pub ratio-range : (sum : ℤ) → RatioRange (scaled (L2 p) (H2 p) (i .sample2)) (natAbs (limited (LR p) (HR p) sum))
@@ -199,11 +199,11 @@ is-within low high v h =
     let b : leZ v high ≡ true = omega (arith, integers, h .not-above) in
     simp (a, b)
 
-pub reckoned-legal : (p : Parameters) (s : Switches) (power : Bool) (mode : Mode) (i : Input) → Legal p → Legal (reckoned p s power mode i .parameters)
+pub reckoned-legal : (p : Parameters) (s : Switches) (measuredpower : Bool) (mode : Mode) (i : Input) → Legal p → Legal (reckoned p s measuredpower mode i .parameters)
 unfolding reckoned
-reckoned-legal p s power mode i legal =
+reckoned-legal p s measuredpower mode i legal =
     settings-legal p legal _ _
-    (is-within _ _ _ (chosen-inside (isRemote mode || isRatio mode) _ _ _ _ (limited-setpoint p legal s mode _ _ _ i) (setpoint-inside p legal (s .tracking) mode i _)))
+    (is-within _ _ _ (chosen-inside (isRemote mode || isRatio mode) _ _ _ _ (limited-setpoint p legal s mode _ _ _ i) (setpoint-inside p legal (s .setpointtracks) mode i _)))
     (is-within _ _ _ (ratio-inside p legal mode i))
 
 -- a reading is read back from the machine as it is

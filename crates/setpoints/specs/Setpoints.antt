@@ -54,8 +54,8 @@ setpointMoved p mode i =
 
 -- "With S2.6 ON in a non-automatic mode SL isn't moved; if channel 1 isn't open it becomes PV, limited to LS..HS."
 unfoldable pub setpointAfter : Parameters → Bool → Mode → Input → ℤ → ℤ
-setpointAfter p tracking mode i pv =
-    if tracking && not (isAutomatic mode)
+setpointAfter p setpointtracks mode i pv =
+    if setpointtracks && not (isAutomatic mode)
     then (if isOpen i then SL p else limited (LS p) (HS p) pv)
     else setpointMoved p mode i
 
@@ -63,7 +63,7 @@ setpointAfter p tracking mode i pv =
 
 -- "Trim is scaled channel 3, or 0 in Track or with MD bit 4 set."
 unfoldable pub trimOf : Parameters → Bool → Mode → Input → ℤ
-trimOf p power mode i = if isTrack mode || power then pos 0 else thirdChannel p i
+trimOf p measuredpower mode i = if isTrack mode || measuredpower then pos 0 else thirdChannel p i
 
 -- "SP is SL + trim, without trim if S2.1 is ON"
 unfoldable pub localSetpoint : ℤ → Bool → ℤ → ℤ
@@ -97,4 +97,4 @@ setpointOf p s mode sl rs trim i = limited (LS p) (HS p) (setpointIn p s mode sl
 
 -- "MP is scaled channel 3 if MD bit 4 is set, else 0."
 unfoldable pub measuredPower : Parameters → Bool → Input → ℤ
-measuredPower p power i = if power then thirdChannel p i else pos 0
+measuredPower p measuredpower i = if measuredpower then thirdChannel p i else pos 0

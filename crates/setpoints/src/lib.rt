@@ -118,9 +118,9 @@ fn setpoint_moved(p: Parameters, mode: Mode, input: Input) -> i64
 }
 
 // SL after step 4. The contract rules out a setpoint that follows PV in an automatic mode or while channel 1 is open.
-fn setpoint_after(p: Parameters, tracking: bool, mode: Mode, input: Input, pv: i64) -> i64
+fn setpoint_after(p: Parameters, setpointtracks: bool, mode: Mode, input: Input, pv: i64) -> i64
     requires { ⌜ Legal p ⌝ }
-    ensures { λ r. ⌜ r ≡ setpointAfter p tracking mode input pv ⌝ }
+    ensures { λ r. ⌜ r ≡ setpointAfter p setpointtracks mode input pv ⌝ }
 {
     let sl = p.get(parameters::SL);
     let low = p.get(parameters::LS);
@@ -130,16 +130,16 @@ fn setpoint_after(p: Parameters, tracking: bool, mode: Mode, input: Input, pv: i
     let followed = integers::choose(isopen, sl, limited);
     let by_hand = setpoint_moved(p, mode, input);
     let automatic = modes::is_automatic(mode);
-    integers::choose(tracking & !automatic, followed, by_hand)
+    integers::choose(setpointtracks & !automatic, followed, by_hand)
 }
 
-fn trim_of(p: Parameters, power: bool, mode: Mode, input: Input) -> i64
+fn trim_of(p: Parameters, measuredpower: bool, mode: Mode, input: Input) -> i64
     requires { ⌜ Legal p × Sampled input ⌝ }
-    ensures { λ r. ⌜ r ≡ trimOf p power mode input ⌝ }
+    ensures { λ r. ⌜ r ≡ trimOf p measuredpower mode input ⌝ }
 {
     let third = third_channel(p, input);
     let track = modes::is_track(mode);
-    integers::choose(track | power, 0, third)
+    integers::choose(track | measuredpower, 0, third)
 }
 
 fn local_setpoint(sl: i64, ratioswitch: bool, trim: i64) -> i64
@@ -225,27 +225,27 @@ fn setpoint_of(
     integers::limit(low, high, to)
 }
 
-fn measured_power(p: Parameters, power: bool, input: Input) -> i64
+fn measured_power(p: Parameters, measuredpower: bool, input: Input) -> i64
     requires { ⌜ Legal p × Sampled input ⌝ }
-    ensures { λ r. ⌜ r ≡ measuredPower p power input ⌝ }
+    ensures { λ r. ⌜ r ≡ measuredPower p measuredpower input ⌝ }
 {
     let third = third_channel(p, input);
-    integers::choose(power, third, 0)
+    integers::choose(measuredpower, third, 0)
 }
 
 // Steps 1, 4 and 5 of an accepted scan in this mode. The contract rules out a rule of another mode, a limit left out, a trim added twice, and
 // any other parameter changed.
-pub fn reckon(p: Parameters, s: Switches, power: bool, mode: Mode, input: Input) -> Reckoned
+pub fn reckon(p: Parameters, s: Switches, measuredpower: bool, mode: Mode, input: Input) -> Reckoned
     requires { ⌜ Legal p × Sampled input ⌝ }
-    ensures { λ r. ⌜ r ≡ reckoned p s power mode input ⌝ }
+    ensures { λ r. ⌜ r ≡ reckoned p s measuredpower mode input ⌝ }
 {
     let pv = process_variable(p, input);
-    let sl = setpoint_after(p, s.tracking, mode, input, pv);
+    let sl = setpoint_after(p, s.setpointtracks, mode, input, pv);
     let rs = ratio_after(p, mode, input);
-    let trim = trim_of(p, power, mode, input);
+    let trim = trim_of(p, measuredpower, mode, input);
     let sp = setpoint_of(p, s, mode, sl, rs, trim, input);
     let er = integers::minus(pv, sp);
-    let mp = measured_power(p, power, input);
+    let mp = measured_power(p, measuredpower, input);
     let remote = modes::is_remote(mode);
     let ratio = modes::is_ratio(mode);
     let to = integers::choose(remote | ratio, sp, sl);

@@ -16,11 +16,11 @@ unfoldable pub switchesOf : ℕ → Switches
 switchesOf sw =
     record {
       ratio = bit sw 15;
-      inversion = bit sw 14;
+      displayinversion = bit sw 14;
       inverseratio = bit sw 13;
       inverseoutput = bit sw 12;
       powerfail = bit sw 11;
-      tracking = bit sw 10;
+      setpointtracks = bit sw 10;
       minutes = bit sw 8;
       balanceoff = bit sw 7;
     }

@@ -18,11 +18,11 @@ pub struct Input {
 // The used switches, true for ON: S2.1, S2.2, S2.3, S2.4, S2.5, S2.6, S2.8, S1.1.
 pub struct Switches {
     pub ratio: bool,
-    pub inversion: bool,
+    pub displayinversion: bool,
     pub inverseratio: bool,
     pub inverseoutput: bool,
     pub powerfail: bool,
-    pub tracking: bool,
+    pub setpointtracks: bool,
     pub minutes: bool,
     pub balanceoff: bool,
 }
@@ -77,11 +77,11 @@ pub fn switches_of(sw: u16) -> Switches
 {
     Switches {
         ratio: bit(sw, 15),
-        inversion: bit(sw, 14),
+        displayinversion: bit(sw, 14),
         inverseratio: bit(sw, 13),
         inverseoutput: bit(sw, 12),
         powerfail: bit(sw, 11),
-        tracking: bit(sw, 10),
+        setpointtracks: bit(sw, 10),
         minutes: bit(sw, 8),
         balanceoff: bit(sw, 7),
     }

@@ -41,39 +41,39 @@ mdHigh mode c =
 unfoldable pub mdLow : Marks → Shown → ℕ
 mdLow marks shown =
     let b = buttonsOf (shown .buttons) in
-    byteOf (b .lower) (b .raise) false (marks .power) (b .sp) (b .r) (b .a) (b .m)
+    byteOf (b .lower) (b .raise) false (marks .measuredpower) (b .sp) (b .r) (b .a) (b .m)
 
 unfoldable pub MD : Mode → Conditions → Marks → Shown → ℕ
 MD mode c marks shown = 256 * mdHigh mode c + mdLow marks shown
 
 -- ---- "DS: high byte the pin byte; 7, 6 user bits 2, 1; 5 is 0 in Hold, Manual, Forced; 4 is 0 in Remote, Ratio; 3 is 0 for battery low, 2 for a
--- cause, 1 for low alarm, 0 for high" alarm
+-- cause, 1 for low alarm .., 0 for high .."
 
 -- 0 in Hold, Manual, Forced
-abbrev pub bit5 : Mode → Bool
-bit5 Hold = false
-bit5 Track = true
-bit5 Forced = false
-bit5 Manual = false
-bit5 Auto = true
-bit5 Remote = true
-bit5 Ratio = true
-bit5 Fallback = true
+abbrev pub dsBit5 : Mode → Bool
+dsBit5 Hold = false
+dsBit5 Track = true
+dsBit5 Forced = false
+dsBit5 Manual = false
+dsBit5 Auto = true
+dsBit5 Remote = true
+dsBit5 Ratio = true
+dsBit5 Fallback = true
 
 -- 0 in Remote, Ratio
-abbrev pub bit4 : Mode → Bool
-bit4 Hold = true
-bit4 Track = true
-bit4 Forced = true
-bit4 Manual = true
-bit4 Auto = true
-bit4 Remote = false
-bit4 Ratio = false
-bit4 Fallback = true
+abbrev pub dsBit4 : Mode → Bool
+dsBit4 Hold = true
+dsBit4 Track = true
+dsBit4 Forced = true
+dsBit4 Manual = true
+dsBit4 Auto = true
+dsBit4 Remote = false
+dsBit4 Ratio = false
+dsBit4 Fallback = true
 
 unfoldable pub dsLow : Mode → Conditions → Marks → Shown → ℕ
 dsLow mode c marks shown =
-    byteOf (marks .user2) (marks .user1) (bit5 mode) (bit4 mode) (not (shown .batterylow)) (not (isCause (c .fault) (c .opens))) (not (shown .lowalarm)) (not (shown .highalarm))
+    byteOf (marks .user2) (marks .user1) (dsBit5 mode) (dsBit4 mode) (not (shown .batterylow)) (not (isCause (c .fault) (c .opens))) (not (shown .lowalarm)) (not (shown .highalarm))
 
 unfoldable pub DS : Mode → Conditions → Marks → Shown → ℕ
 DS mode c marks shown = 256 * c .pins + dsLow mode c marks shown

@@ -1,7 +1,7 @@
 // The status words MD and DS.
 ghost use mathlib.Core.Path.{_≡_};
 ghost use Prim.Native.Nat.{_≤_};
-ghost use Rattle.words.specs.Words.{weight, byteOf, modeBit, bit5, bit4, mdHigh, mdLow, MD, dsLow, DS};
+ghost use Rattle.words.specs.Words.{weight, byteOf, modeBit, dsBit5, dsBit4, mdHigh, mdLow, MD, dsLow, DS};
 use modes::Conditions;
 use modes::Mode;
 
@@ -9,7 +9,7 @@ use modes::Mode;
 pub struct Marks {
     pub user1: bool,
     pub user2: bool,
-    pub power: bool,
+    pub measuredpower: bool,
 }
 
 // What the last scan leaves to be shown beside PV, SP, ER and MP: the button byte, the battery and the alarms.
@@ -55,8 +55,8 @@ fn mode_bit(mode: Mode) -> u16
     }
 }
 
-fn bit_5(mode: Mode) -> bool
-    ensures { λ r. ⌜ r ≡ bit5 mode ⌝ }
+fn ds_bit_5(mode: Mode) -> bool
+    ensures { λ r. ⌜ r ≡ dsBit5 mode ⌝ }
 {
     match mode {
         Mode::Hold => false,
@@ -70,8 +70,8 @@ fn bit_5(mode: Mode) -> bool
     }
 }
 
-fn bit_4(mode: Mode) -> bool
-    ensures { λ r. ⌜ r ≡ bit4 mode ⌝ }
+fn ds_bit_4(mode: Mode) -> bool
+    ensures { λ r. ⌜ r ≡ dsBit4 mode ⌝ }
 {
     match mode {
         Mode::Hold => true,
@@ -107,7 +107,16 @@ fn md_low(marks: Marks, shown: Shown) -> u16
     ensures { λ r. ⌜ (r ≡ mdLow marks shown) × (r ≤ 255) ⌝ }
 {
     let b = signals::buttons_of(shown.buttons);
-    byte(b.lower, b.raise, false, marks.power, b.sp, b.r, b.a, b.m)
+    byte(
+        b.lower,
+        b.raise,
+        false,
+        marks.measuredpower,
+        b.sp,
+        b.r,
+        b.a,
+        b.m,
+    )
 }
 
 // MD. The contract rules out a mode's bit that is wrong or missing, a fault shown for the other, and a button that is not shown.
@@ -123,8 +132,8 @@ fn ds_low(mode: Mode, c: Conditions, marks: Marks, shown: Shown) -> u16
     ensures { λ r. ⌜ (r ≡ dsLow mode c marks shown) × (r ≤ 255) ⌝ }
 {
     let cause = modes::is_cause(c.fault, c.opens);
-    let b5 = bit_5(mode);
-    let b4 = bit_4(mode);
+    let b5 = ds_bit_5(mode);
+    let b4 = ds_bit_4(mode);
     byte(
         marks.user2,
         marks.user1,

@@ -69,9 +69,9 @@ figures =
     ∷ (isCause false (afterOpenScans 84) ≡ false)
     ∷ (isCause false (afterOpenScans 85) ≡ true)
     -- "Auto with bit 4 is MD 1010h."
-    ∷ (MD Auto (inAuto 0x80) (record { user1 = false; user2 = false; power = true }) startShown ≡ 0x1010)
+    ∷ (MD Auto (inAuto 0x80) (record { user1 = false; user2 = false; measuredpower = true }) startShown ≡ 0x1010)
     -- "Pins 91h in Auto, healthy: DS 913Fh."
-    ∷ (DS Auto (inAuto 0x91) (record { user1 = false; user2 = false; power = false }) startShown ≡ 0x913F)
+    ∷ (DS Auto (inAuto 0x91) (record { user1 = false; user2 = false; measuredpower = false }) startShown ≡ 0x913F)
     -- the same of a whole scan: started fresh with SW 0, pins 91h, PV 500, A pressed
     ∷ (scan (freshController 0) firstScan .answer ≡ words 0x1002 0x913F 0 0)
     ∷ []

@@ -17,8 +17,8 @@ op-of-requires c κs = search needs
 sub-result : tie.Need-sub-result
 sub-result c = search needs
 
-switch-is : (c : tie.After-switches-of) → switchesOf (c .before .args .sw) .inversion ≡ c .switches-of .result .inversion
-switch-is c = ap (λ (s : Switches). s .inversion) (sym (c .switches-of .ensures))
+switch-is : (c : tie.After-switches-of) → switchesOf (c .before .args .sw) .displayinversion ≡ c .switches-of .result .displayinversion
+switch-is c = ap (λ (s : Switches). s .displayinversion) (sym (c .switches-of .ensures))
 
 op-is : (c : tie.After-op-of) → c .op-of .result ≡ opOf (c .before .before .args .output)
 op-is c = c .op-of .ensures .0 ∙ ap opOf (toZ-ofZ (c .before .before .fits .output))

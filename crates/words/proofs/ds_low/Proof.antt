@@ -7,19 +7,19 @@ use Rattle.words.proofs.ds_low.Tie as tie
 is-cause-requires : tie.Need-is-cause-requires
 is-cause-requires c κs = search needs
 
-bit-5-requires : tie.Need-bit-5-requires
-bit-5-requires c κs = search needs
+ds-bit-5-requires : tie.Need-ds-bit-5-requires
+ds-bit-5-requires c κs = search needs
 
-bit-4-requires : tie.Need-bit-4-requires
-bit-4-requires c κs = search needs
+ds-bit-4-requires : tie.Need-ds-bit-4-requires
+ds-bit-4-requires c κs = search needs
 
 byte-requires : tie.Need-byte-requires
 byte-requires c κs = search needs
 
 returns : tie.Need-returns
 unfolding dsLow
-returns c = (simp (c .byte .ensures .0, c .before .before .before .before .bit-4 .ensures, c .before .before .before .before .before .bit-5 .ensures, c .before .before .before .before .before .before .is-cause .ensures), c .byte .ensures .1)
+returns c = (simp (c .byte .ensures .0, c .before .before .before .before .ds-bit-4 .ensures, c .before .before .before .before .before .ds-bit-5 .ensures, c .before .before .before .before .before .before .is-cause .ensures), c .byte .ensures .1)
 
 pub ds-low-spec : {M : Type 1} → statement M
 ds-low-spec =
-    tie.close (tie.spec is-cause-requires bit-5-requires bit-4-requires byte-requires returns)
+    tie.close (tie.spec is-cause-requires ds-bit-5-requires ds-bit-4-requires byte-requires returns)

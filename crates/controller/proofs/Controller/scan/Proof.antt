@@ -3,7 +3,7 @@ use mathlib.Core.Path.{_≡_, sym, ap, _∙_}
 use mathlib.Core.Option.{none, some}
 use borrow.Author.Needs.{needs}
 use Rattle.signals.specs.Refusals.{numberOf, numberIn, declinedBy, scanTests}
-use Rattle.controller.specs.Scan.{accepted, coreAfter, scan, scanCore, refused, stepped, handedBack}
+use Rattle.controller.specs.Scan.{controllerAfter, accepted, coreAfter, scan, scanCore, refused, stepped, handedBack}
 use Rattle.controller.specs.ValidLaws.{sampled, stepped-valid}
 use Rattle.outputs.specs.Instruction.{carriedOut, changed, limitedTo}
 use Rattle.controller.proofs.Controller.scan.Statement.{statement}
@@ -34,11 +34,11 @@ some-declines : (c : tie.After-verdict) → declinedBy (scanTests (c .before .be
 some-declines c = sym (c .before .before .scan-verdict .ensures) ∙ ap numberIn (c .verdict .given .1)
 
 returns : tie.Need-returns
-unfolding scan scanCore handedBack refused carriedOut changed limitedTo
+unfolding scan scanCore handedBack controllerAfter refused carriedOut changed limitedTo
 returns c = simp (some-declines (c .before))
 
 returns-2 : tie.Need-returns-2
-unfolding scan scanCore handedBack stepped accepted coreAfter
+unfolding scan scanCore handedBack controllerAfter stepped accepted coreAfter
 returns-2 c = simp (none-declines (c .before .before), c .words .ensures) (simp (c .before .stepped .ensures))
 
 pub scan-spec : {M : Type 1} → statement M

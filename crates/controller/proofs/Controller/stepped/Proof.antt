@@ -8,7 +8,7 @@ use Rattle.integers.specs.Machine.{back}
 use Rattle.integers.specs.Operations.{number}
 use Rattle.modes.specs.Modes.{counted, conditionsAfter}
 use Rattle.outputs.specs.OutputLaws.{stored-most}
-use Rattle.controller.specs.Scan.{situationOf, accepted, stepped}
+use Rattle.controller.specs.Scan.{controllerAfter, situationOf, accepted, stepped}
 use Rattle.controller.specs.ValidLaws.{read}
 use Rattle.controller.proofs.Controller.stepped.Statement.{statement}
 use Rattle.controller.proofs.Controller.stepped.Tie as tie
@@ -49,7 +49,7 @@ output-after-requires c κs =
     )
 
 returns : tie.Need-returns
-unfolding stepped accepted
+unfolding stepped controllerAfter accepted
 returns c =
     let b = c .before .before .before .before in
     let call = c .output-after in
