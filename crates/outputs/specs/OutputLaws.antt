@@ -7,7 +7,9 @@ use lib.IntN.{ℤ, pos, natAbs, _+ℤ_, _-ℤ_, _*ℤ_}
 use lib.Signed.{_≤ℤ_}
 use Rattle.integers.specs.Choice.{if_then_else_, by-cases}
 use Rattle.integers.specs.Limit.{limited-low, limited-high}
-use Rattle.integers.specs.Machine.{Small}
+use mir.Syntax.{w64}
+use mir.Val.{toZ, ofZ}
+use Rattle.integers.specs.Machine.{Small, back}
 use Rattle.integers.specs.Operations.{Size, number, sum, difference, product, sum-size, difference-size}
 use Rattle.integers.specs.Parts.{integers, apart}
 use Rattle.terms.specs.Fraction.{Fraction, Positive, storedUnits, limitedStored}
@@ -140,6 +142,10 @@ stored-most x h = omega (arith, integers, h .not-below, h .not-above, number x, 
 
 pub stored-small : (x : ℤ) → Stored x → Small x
 stored-small x h = record { small = omega (arith, stored-most x h) }
+
+-- it is read back from the machine as it is
+pub stored-back : {x : ℤ} → Stored x → toZ w64 (ofZ w64 x) ≡ x
+stored-back {x} h = back w64 x (omega (arith, stored-most x h, number x))
 
 pub limited-choice : (t : Bool) (low high x : ℤ) → (if t then limitedStored low high x else x) ≡ limitedTo storedArithmetic (if t then between low high else unlimited) x
 unfolding limitedTo storedArithmetic

@@ -28,7 +28,7 @@ use Rattle.parameters.specs.LegalLaws.{Ordered, Inside, ranges, settings-legal}
 use Rattle.parameters.specs.Table.{H1, L1, H2, L2, H3, L3, HR, LR, HS, LS, SL, RS, RB, IC, LD}
 use Rattle.parameters.specs.declared.Parameters.{Parameters}
 use Rattle.setpoints.specs.Reckoning.{reckoned}
-use Rattle.setpoints.specs.Setpoints.{firstSample, processVariable, thirdChannel, moved, ratioAfter, setpointMoved, setpointAfter, trimOf, quotientOf, setpointOf}
+use Rattle.setpoints.specs.Setpoints.{firstSample, processVariable, thirdChannel, moved, movedByHand, ratioAfter, setpointMoved, setpointAfter, trimOf, quotientOf, setpointOf}
 
 -- the samples of an accepted scan
 pub record Sampled (i : Input) : Type 0 where
@@ -123,20 +123,22 @@ moved-inside Raise by low high v o h = limited-inside low high (v +ℤ by) o
 moved-inside Lower by low high v o h = limited-inside low high (v -ℤ by) o
 moved-inside Neither by low high v o h = h
 
+by-hand-inside : (i : Input) (here : Bool) (by low high v : ℤ) → low ≤ℤ high → Inside low v high → Inside low (movedByHand i here by low high v) high
+unfolding movedByHand
+by-hand-inside i here by low high v o h =
+    let b = buttonsOf (i .buttons) in
+    chosen-inside (b .sp && here) low high _ _ (moved-inside (pushOf b) by low high v o h) h
+
 module _ (p : Parameters) (legal : Legal p) where
   pub ratio-inside : (mode : Mode) (i : Input) → Inside (LR p) (ratioAfter p mode i) (HR p)
   unfolding ratioAfter
-  ratio-inside mode i =
-      let r = ranges p legal in
-      let b = buttonsOf (i .buttons) in
-      chosen-inside (b .sp && isRatio mode) (LR p) (HR p) _ _ (moved-inside (pushOf b) (pos 12) (LR p) (HR p) (RS p) (r .ratios .order) (r .ratio)) (r .ratio)
+  ratio-inside mode i = let r = ranges p legal in by-hand-inside i (isRatio mode) (pos 12) (LR p) (HR p) (RS p) (r .ratios .order) (r .ratio)
 
   setpoint-moved-inside : (mode : Mode) (i : Input) → Inside (LS p) (setpointMoved p mode i) (HS p)
   unfolding setpointMoved
   setpoint-moved-inside mode i =
       let r = ranges p legal in
-      let b = buttonsOf (i .buttons) in
-      chosen-inside (b .sp && not (isRatio mode) && not (isRemote mode)) (LS p) (HS p) _ _ (moved-inside (pushOf b) (pos 1) (LS p) (HS p) (SL p) (r .setpoints .order) (r .setpoint)) (r .setpoint)
+      by-hand-inside i (not (isRatio mode) && not (isRemote mode)) (pos 1) (LS p) (HS p) (SL p) (r .setpoints .order) (r .setpoint)
 
   pub setpoint-inside : (setpointtracks : Bool) (mode : Mode) (i : Input) (pv : ℤ) → Inside (LS p) (setpointAfter p setpointtracks mode i pv) (HS p)
   unfolding setpointAfter

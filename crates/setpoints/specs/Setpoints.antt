@@ -40,17 +40,19 @@ moved Raise by low high v = limited low high (v +ℤ by)
 moved Lower by low high v = limited low high (v -ℤ by)
 moved Neither by low high v = v
 
--- "With SP held, one of them moves RS by 12 in Ratio"
-unfoldable pub ratioAfter : Parameters → Mode → Input → ℤ
-ratioAfter p mode i =
+-- "With SP held, one of them moves" v, in the modes where it is v that they move
+unfoldable pub movedByHand : Input → Bool → ℤ → ℤ → ℤ → ℤ → ℤ
+movedByHand i here by low high v =
     let b = buttonsOf (i .buttons) in
-    if b .sp && isRatio mode then moved (pushOf b) (pos 12) (LR p) (HR p) (RS p) else RS p
+    if b .sp && here then moved (pushOf b) by low high v else v
+
+-- "RS by 12 in Ratio"
+unfoldable pub ratioAfter : Parameters → Mode → Input → ℤ
+ratioAfter p mode i = movedByHand i (isRatio mode) (pos 12) (LR p) (HR p) (RS p)
 
 -- "else SL by 1, .. not in Remote"
 unfoldable pub setpointMoved : Parameters → Mode → Input → ℤ
-setpointMoved p mode i =
-    let b = buttonsOf (i .buttons) in
-    if b .sp && not (isRatio mode) && not (isRemote mode) then moved (pushOf b) (pos 1) (LS p) (HS p) (SL p) else SL p
+setpointMoved p mode i = movedByHand i (not (isRatio mode) && not (isRemote mode)) (pos 1) (LS p) (HS p) (SL p)
 
 -- "With S2.6 ON in a non-automatic mode SL isn't moved; if channel 1 isn't open it becomes PV, limited to LS..HS."
 unfoldable pub setpointAfter : Parameters → Bool → Mode → Input → ℤ → ℤ

@@ -9,7 +9,7 @@ ghost use Rattle.parameters.specs.Legal.{Legal};
 ghost use Rattle.parameters.specs.Table.{value};
 ghost use Rattle.setpoints.specs.Reckoning.{reckoned, lowAlarm, highAlarm};
 ghost use Rattle.setpoints.specs.ReckoningLaws.{Sampled};
-ghost use Rattle.setpoints.specs.Setpoints.{firstSample, processVariable, thirdChannel, moved, ratioAfter, setpointMoved, setpointAfter, trimOf, localSetpoint, remoteSetpoint, quotientOf, ratioSetpoint, setpointIn, setpointOf, measuredPower};
+ghost use Rattle.setpoints.specs.Setpoints.{firstSample, processVariable, thirdChannel, moved, movedByHand, ratioAfter, setpointMoved, setpointAfter, trimOf, localSetpoint, remoteSetpoint, quotientOf, ratioSetpoint, setpointIn, setpointOf, measuredPower};
 use modes::Mode;
 use parameters::Parameters;
 use signals::Input;
@@ -88,33 +88,37 @@ fn moved(push: Push, by: i64, low: i64, high: i64, v: i64) -> i64
     }
 }
 
+fn moved_by_hand(input: Input, here: bool, by: i64, low: i64, high: i64, v: i64) -> i64
+    requires { ⌜ Small by × Small v ⌝ }
+    ensures { λ r. ⌜ r ≡ movedByHand input here by low high v ⌝ }
+{
+    let b = signals::buttons_of(input.buttons);
+    let push = signals::push_of(b);
+    let to = moved(push, by, low, high, v);
+    integers::choose(b.sp & here, to, v)
+}
+
 fn ratio_after(p: Parameters, mode: Mode, input: Input) -> i64
     requires { ⌜ Legal p ⌝ }
     ensures { λ r. ⌜ r ≡ ratioAfter p mode input ⌝ }
 {
-    let b = signals::buttons_of(input.buttons);
     let ratio = modes::is_ratio(mode);
     let rs = p.get(parameters::RS);
     let low = p.get(parameters::LR);
     let high = p.get(parameters::HR);
-    let push = signals::push_of(b);
-    let to = moved(push, 12, low, high, rs);
-    integers::choose(b.sp & ratio, to, rs)
+    moved_by_hand(input, ratio, 12, low, high, rs)
 }
 
 fn setpoint_moved(p: Parameters, mode: Mode, input: Input) -> i64
     requires { ⌜ Legal p ⌝ }
     ensures { λ r. ⌜ r ≡ setpointMoved p mode input ⌝ }
 {
-    let b = signals::buttons_of(input.buttons);
     let ratio = modes::is_ratio(mode);
     let remote = modes::is_remote(mode);
     let sl = p.get(parameters::SL);
     let low = p.get(parameters::LS);
     let high = p.get(parameters::HS);
-    let push = signals::push_of(b);
-    let to = moved(push, 1, low, high, sl);
-    integers::choose(b.sp & !ratio & !remote, to, sl)
+    moved_by_hand(input, !ratio & !remote, 1, low, high, sl)
 }
 
 // SL after step 4. The contract rules out a setpoint that follows PV in an automatic mode or while channel 1 is open.

@@ -31,7 +31,7 @@ _and_ : {A B : Type 0} → A → B → A × B
 a and b = (a, b)
 
 scan-figure : scan (freshController 0) firstScan .answer ≡ words 0x1002 0x913F 0 0
-unfolding s.scan s.scanCore s.accepted s.handedBack s.controllerAfter s.situationOf s.reckonedIn s.shownAfter s.coreAfter s.statusOf s.modeNow State.freshController State.freshCore State.startReadings a.opOf a.electricalOf declinedBy scanTests buttonsOf pinsOf switchesOf pushOf m.counted m.opensAfter m.conditionsAfter m.modeOf m.goesToMinimum byteOf mdHigh mdLow MD dsLow DS value withValue r.reckoned r.lowAlarm r.highAlarm p.firstSample p.processVariable p.thirdChannel p.ratioAfter p.setpointMoved p.setpointAfter p.trimOf p.localSetpoint p.setpointIn p.setpointOf p.measuredPower scaled halfUp Limit.limited Limit.atLeast Limit.atMost d.deviation d.earlierSetpoint d.changeOfDeviation d.secondDifference d.tuningOf o.storedArithmetic o.changed o.limitedTo o.carriedOut u.termsOf u.byTerms u.limitsIn u.instructionOf proportionalTerm integralTerm derivativeTerm limitedTerm storedTerm whole atLeast atMost limited stored storedUnits limitedStored nearestEven halfEven
+unfolding s.scan s.scanCore s.accepted s.handedBack s.controllerAfter s.situationOf s.reckonedIn s.shownAfter s.coreAfter s.statusOf s.modeNow State.freshController State.freshCore State.startReadings a.opOf a.electricalOf declinedBy scanTests buttonsOf pinsOf switchesOf pushOf m.counted m.opensAfter m.conditionsAfter m.modeOf m.goesToMinimum byteOf mdHigh mdLow MD dsLow DS value withValue r.reckoned r.lowAlarm r.highAlarm p.firstSample p.processVariable p.thirdChannel p.movedByHand p.ratioAfter p.setpointMoved p.setpointAfter p.trimOf p.localSetpoint p.setpointIn p.setpointOf p.measuredPower scaled halfUp Limit.limited Limit.atLeast Limit.atMost d.deviation d.earlierSetpoint d.changeOfDeviation d.secondDifference d.tuningOf o.storedArithmetic o.changed o.limitedTo o.carriedOut u.termsOf u.byTerms u.limitsIn u.instructionOf proportionalTerm integralTerm derivativeTerm limitedTerm storedTerm whole atLeast atMost limited stored storedUnits limitedStored nearestEven halfEven
 scan-figure = refl
 
 pub worked : AllHold figures

@@ -1,13 +1,10 @@
 -- `controller::Controller::stepped` meets its contract.
 use mathlib.Core.Path.{_≡_}
-use native.Mathlib.Omega.{arith}
 use mir.Syntax.{w64}
-use mir.Val.{toZ, ofZ}
 use borrow.Author.Needs.{needs}
 use Rattle.integers.specs.Machine.{back}
-use Rattle.integers.specs.Operations.{number}
 use Rattle.modes.specs.Modes.{counted, conditionsAfter}
-use Rattle.outputs.specs.OutputLaws.{stored-most}
+use Rattle.outputs.specs.OutputLaws.{stored-back}
 use Rattle.controller.specs.Scan.{controllerAfter, situationOf, accepted, stepped}
 use Rattle.controller.specs.ValidLaws.{read}
 use Rattle.controller.proofs.Controller.stepped.Statement.{statement}
@@ -18,10 +15,6 @@ after-requires c κs = search needs
 
 situation-requires : tie.Need-situation-requires
 situation-requires c κs = search needs
-
--- the output is read back as it is
-output-back : (c : tie.Start) → toZ w64 (ofZ w64 (c .args .self .output)) ≡ c .args .self .output
-output-back c = back w64 (c .args .self .output) (omega (arith, stored-most (c .args .self .output) (c .pre .0 .stored), number (c .args .self .output)))
 
 situation-is : (c : tie.After-situation) → let start = c .before .before .before .before .before in
     c .situation .result ≡ situationOf (start .args .self .core) (conditionsAfter counted (start .args .self .core .conditions) (start .args .input)) (start .args .input)
@@ -41,7 +34,7 @@ unfolding situationOf
 output-after-requires c κs =
     let b = c .before .before .before in
     let start = b .before .before .before .before .before .before in
-    simp (output-back start) (
+    simp (stored-back (start .pre .0 .stored)) (
       start .pre .0 .legal,
       rw (b .reckon .ensures, situation-is (b .before)) (read (start .args .self .core) _ (start .pre .0 .legal) (start .pre .1)),
       start .pre .0 .kept,
@@ -54,7 +47,7 @@ returns c =
     let b = c .before .before .before .before in
     let call = c .output-after in
     simp (back w64 (call .result) (call .ok))
-    (simp (call .ensures, output-back (b .before .before .before .before .before .before))
+    (simp (call .ensures, stored-back (b .before .before .before .before .before .before .pre .0 .stored))
     (simp (c .before .before .after2 .ensures) (simp (b .reckon .ensures) (simp (situation-is (b .before), b .before .before .after .ensures)))))
 
 pub stepped-spec : {M : Type 1} → statement M

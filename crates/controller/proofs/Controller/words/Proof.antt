@@ -1,12 +1,6 @@
 -- `controller::Controller::words` meets its contract.
-use mathlib.Core.Path.{_≡_}
-use native.Mathlib.Omega.{arith}
-use mir.Syntax.{w64}
-use mir.Val.{toZ, ofZ}
 use borrow.Author.Needs.{needs}
-use Rattle.integers.specs.Machine.{back}
-use Rattle.integers.specs.Operations.{number}
-use Rattle.outputs.specs.OutputLaws.{stored-most}
+use Rattle.outputs.specs.OutputLaws.{stored-back}
 use Rattle.controller.specs.Scan.{statusOf}
 use Rattle.controller.proofs.Controller.words.Statement.{statement}
 use Rattle.controller.proofs.Controller.words.Tie as tie
@@ -26,16 +20,13 @@ op-of-requires c κs = search needs
 electrical-of-requires : tie.Need-electrical-of-requires
 electrical-of-requires c κs = search needs
 
-output-back : (c : tie.Start) → toZ w64 (ofZ w64 (c .args .self .output)) ≡ c .args .self .output
-output-back c = back w64 (c .args .self .output) (omega (arith, stored-most (c .args .self .output) (c .pre), number (c .args .self .output)))
-
 returns : tie.Need-returns
 unfolding statusOf
 returns c =
     let b = c .before .before .before .before in
     let start = b .before .before .before .before .before .before .before in
     simp (c .electrical-of .ensures, c .before .before .op-of .ensures .0, b .ds .ensures, b .before .md .ensures)
-    (simp (b .before .before .mode .ensures, output-back start))
+    (simp (b .before .before .mode .ensures, stored-back (start .pre)))
 
 pub words-spec : {M : Type 1} → statement M
 words-spec =
