@@ -12,6 +12,7 @@ import itertools
 import random
 import subprocess
 import sys
+import textwrap
 import threading
 import time
 
@@ -31,6 +32,7 @@ from state import Stored
 DEFAULT_SEED = 6360
 INPUTS = 4                # the lists are shared out among so many runs of the program
 FAULTS_SHOWN = 10
+WIDTH = 150  # of a printed line
 PROGRAM_SECONDS, SHORT_SECONDS = 60, 10   # for a run over many lists, and over one input
 SHRINKING_RUNS, SHRINKING_SECONDS = 600, 15
 NO_END = "the program didn't run to its end"
@@ -242,7 +244,7 @@ def check_whole_inputs(program, generator, results):
 def print_counts(title, counts, least):
     """What was met, and how often; of pairs of things only the rarest."""
     single = [name for name in least if " in " not in name and " to " not in name]
-    print(f"{title}: " + ", ".join(f"{name} {counts[name]}" for name in single))
+    print(textwrap.fill(f"{title}: " + ", ".join(f"{name} {counts[name]}" for name in single), WIDTH, subsequent_indent="    "))
     rarest = min(least, key=lambda name: counts[name] * 1000 // least[name])
     print(f"{title}: nearest to its least is {rarest!r}, {counts[rarest]} of {least[rarest]}", flush=True)
 

@@ -71,6 +71,7 @@ pub data Status : Type 0 where
   status : (md ds : ℕ) → Status
   declined : ℕ → Status
 
+-- MD and DS of a state
 unfoldable pub statusOf : Core → Status
 statusOf c = status (MD (modeNow c) (c .conditions) (c .marks) (c .shown)) (DS (modeNow c) (c .conditions) (c .marks) (c .shown))
 
@@ -92,10 +93,12 @@ accepted more c i =
 unfoldable pub refused : Core → ℕ → Outcome
 refused c n = record { next = c; answer = declined n; instruction = record { change = keep; limits = unlimited } }
 
+-- declined with a number, or else the outcome
 abbrev pub unless : Option ℕ → Core → Outcome → Outcome
 unless none c o = o
 unless (some n) c o = refused c n
 
+-- a scan, declined or accepted
 unfoldable pub scanCore : (ℕ → ℕ) → Core → Input → Outcome
 scanCore more c i = unless (declinedBy (scanTests i)) c (accepted more c i)
 
@@ -118,5 +121,6 @@ handedBack c o = let next = controllerAfter c o in record { next = next; answer 
 unfoldable pub stepped : Controller → Input → Controller
 stepped c i = controllerAfter c (accepted counted (c .core) i)
 
+-- what `Controller::scan` hands back
 unfoldable pub scan : Controller → Input → Handed
 scan c i = handedBack c (scanCore counted (c .core) i)

@@ -11,6 +11,7 @@ use lib.IntN.{ℤ, pos, _*ℤ_}
 use lib.Signed.{_≤ℤ_, _<ℤ_}
 use Rattle.integers.specs.Choice.{if_then_else_}
 use Rattle.signals.specs.Bits.{bit}
+use Rattle.signals.specs.declared.Input.{Input}
 use Rattle.modes.specs.declared.Mode.{Mode}
 use Rattle.modes.specs.declared.Mode.the-variants.{Hold, Track, Forced, Manual, Auto, Remote, Ratio, Fallback}
 use Rattle.modes.specs.declared.Request.{Request}
@@ -22,7 +23,7 @@ use Rattle.controller.specs.declared.Controller.{Controller}
 use Rattle.controller.specs.declared.Core.{Core}
 use Rattle.guarantee.specs.Exact.{Call, scan, Calls, none, _then_, exact, exactAnswer}
 
--- ---- "the mode is the first in the priority order whose condition is present"
+-- ---- the mode is the first in the priority order whose condition is present
 
 unfoldable pub requests : Request → Request → Bool
 requests request.Manual request.Manual = true
@@ -58,7 +59,7 @@ first present (m ∷ ms) = if present m then some m else first present ms
 abbrev pub modeIn : Core → Option Mode
 modeIn c = first (condition c) priority
 
--- ---- "outside Hold and Track the stored output is within its limits"
+-- ---- outside Hold and Track the stored output is within its limits
 
 abbrev pub isHoldOrTrack : Mode → Bool
 isHoldOrTrack Hold = true
@@ -75,7 +76,7 @@ pub record WithinLimits (c : Controller) : Type 0 where
   pub least : (value (c .core .parameters) 16 *ℤ pos 65536) ≤ℤ c .output
   pub most : c .output ≤ℤ (value (c .core .parameters) 15 *ℤ pos 65536)
 
--- ---- "apart from the output, the whole state and every answer equal those of document 01's exact controller"
+-- ---- apart from the output, the whole state and every answer equal those of the exact controller
 
 -- "open counts above 85 taken as 85"
 unfoldable pub capped : Core → Core
@@ -133,4 +134,4 @@ pub data SameAnswers (word : ℕ) : Calls → List Handed → Type 0 where
 
 -- a scan leaves it as it is; the calls that bring and clear it are not built yet, and each will be a case here
 pub data FaultStands : Calls → Type 0 where
-  after-scan : {xs : Calls} {i : _} → FaultStands xs → FaultStands (xs then scan i)
+  after-scan : {xs : Calls} {i : Input} → FaultStands xs → FaultStands (xs then scan i)

@@ -1,4 +1,5 @@
--- Document 01, "The exact controller": n, "the automatic scans since the output was last set outright", read from the exact controller.
+-- Document 01, "The exact controller": n, the automatic scans since the output was last set outright; and the consecutive open scans. "In demand 3 the conditions of
+-- step 3, the accepted automatic scans and the outright settings are read from the exact controller."
 use mathlib.Core.Path.{_≡_}
 use mathlib.Core.Logic.{_↔_}
 use mathlib.Core.Bool.{Bool, true, false, not, _&&_, _||_}
@@ -32,6 +33,7 @@ automatic (some Forced) = false
 automatic (some Manual) = false
 automatic Option.none = false
 
+-- the mode Track
 abbrev pub tracks : Option Mode → Bool
 tracks (some Track) = true
 tracks (some Hold) = false
@@ -43,6 +45,7 @@ tracks (some Ratio) = false
 tracks (some Fallback) = false
 tracks Option.none = false
 
+-- "Manual and Forced"
 abbrev pub manualOrForced : Option Mode → Bool
 manualOrForced (some Manual) = true
 manualOrForced (some Forced) = true

@@ -65,5 +65,6 @@ changeIn Fallback p x r h = byTerms p x r h
 unfoldable pub limitsIn : Mode → Parameters → Limits
 limitsIn mode p = if isLimiting mode then between (LO p) (HO p) else unlimited
 
+-- what a scan in this situation does to the output: the change of its mode, and "then" the limits
 unfoldable pub instructionOf : Parameters → Situation → Readings → History → Instruction
 instructionOf p x r h = record { change = changeIn (x .mode) p x r h; limits = limitsIn (x .mode) p }
