@@ -212,6 +212,7 @@ impl Controller {
         ensures { λ r. ⌜ r ≡ stepped self input ⌝ }
     {
         let core = self.core;
+        let earlier = self.output;
         let before = core.conditions;
         let p = core.parameters;
         let history = core.history;
@@ -220,7 +221,7 @@ impl Controller {
         let r = core.reckon(x);
         let readings = r.readings;
         let next = core.after(conditions, x, r);
-        let output = outputs::output_after(p, x, readings, history, self.output);
+        let output = outputs::output_after(p, x, readings, history, earlier);
         Controller { core: next, output }
     }
 

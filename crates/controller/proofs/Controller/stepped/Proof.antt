@@ -16,14 +16,14 @@ after-requires c κs = search needs
 situation-requires : tie.Need-situation-requires
 situation-requires c κs = search needs
 
-situation-is : (c : tie.After-situation) → let start = c .before .before .before .before .before in
+situation-is : (c : tie.After-situation) → let start = c .before .before .before .before .before .before in
     c .situation .result ≡ situationOf (start .args .self .core) (conditionsAfter counted (start .args .self .core .conditions) (start .args .input)) (start .args .input)
 situation-is c = simp (c .situation .ensures) (simp (c .before .after .ensures))
 
 reckon-requires : tie.Need-reckon-requires
 unfolding situationOf
 reckon-requires c κs =
-    let start = c .before .before .before .before .before in
+    let start = c .before .before .before .before .before .before in
     (start .pre .0 .legal, rw (situation-is c) (start .pre .1))
 
 after-requires-2 : tie.Need-after-requires-2
@@ -32,8 +32,8 @@ after-requires-2 c κs = search needs
 output-after-requires : tie.Need-output-after-requires
 unfolding situationOf
 output-after-requires c κs =
-    let b = c .before .before .before in
-    let start = b .before .before .before .before .before .before in
+    let b = c .before .before in
+    let start = b .before .before .before .before .before .before .before in
     simp (stored-back (start .pre .0 .stored)) (
       start .pre .0 .legal,
       rw (b .reckon .ensures, situation-is (b .before)) (read (start .args .self .core) _ (start .pre .0 .legal) (start .pre .1)),
@@ -44,11 +44,11 @@ output-after-requires c κs =
 returns : tie.Need-returns
 unfolding stepped controllerAfter accepted
 returns c =
-    let b = c .before .before .before .before in
+    let b = c .before .before .before in
     let call = c .output-after in
     simp (back w64 (call .result) (call .ok))
-    (simp (call .ensures, stored-back (b .before .before .before .before .before .before .pre .0 .stored))
-    (simp (c .before .before .after2 .ensures) (simp (b .reckon .ensures) (simp (situation-is (b .before), b .before .before .after .ensures)))))
+    (simp (call .ensures, stored-back (b .before .before .before .before .before .before .before .pre .0 .stored))
+    (simp (c .before .after2 .ensures) (simp (b .reckon .ensures) (simp (situation-is (b .before), b .before .before .after .ensures)))))
 
 pub stepped-spec : {M : Type 1} → statement M
 stepped-spec =
