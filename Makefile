@@ -1,4 +1,4 @@
-# Two commands: `make run` proves, builds and plays the figures and a drying session; `make test` is the gate.
+# Two commands: `make run` proves, builds and plays figures and a drying session; `make test` is the gate.
 .PHONY: run test
 
 run:

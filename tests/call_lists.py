@@ -269,9 +269,9 @@ def call_list(generator, kind, number):
     return list(entries(operator, [("fresh", SW), *kind(operator)]))
 
 
-def all_lists(generator, share=1):
-    """Pairs of a list's kind and the list, in any order; with a share of 10 a tenth of them."""
-    lists = [(kind.__name__, call_list(generator, kind, number)) for kind, count in KINDS for number in range(-(-count // share))]
+def all_lists(generator):
+    """Pairs of a list's kind and the list, in any order."""
+    lists = [(kind.__name__, call_list(generator, kind, number)) for kind, count in KINDS for number in range(count)]
     generator.shuffle(lists)
     return lists
 

@@ -18,7 +18,7 @@ TEXTS = ("crates/**/*.rt", "crates/**/*.antt", "crates/*/std*", "crates/*/must-f
 CODE_MARKS = re.compile(r"`([^`\n]+)`")
 NAME = re.compile(r"[A-Za-z][\w-]*")
 TOOLS = {"rt", "make", "git", "omega"}  # programs and tactics of the kit and the machine
-PLACEHOLDERS = {"N", "F", "NAME"}
+PLACEHOLDERS = {"N", "F"}
 
 
 def known_names():

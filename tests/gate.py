@@ -24,6 +24,7 @@ STEPS = (
     ("names in the documents", [*PYTHON, "tests/docs.py"]),
     ("the gate's own tests", [*PYTHON, "tests/gate_test.py"]),
     ("arithmetic against the reckoner", [*PYTHON, "tests/arithmetic.py", "target/bin/calculator"]),
+    ("the reckoner's scans that the rules are proved to give", [*PYTHON, "tests/reckoned_scans.py"]),
     ("scans against the reckoner", [*PYTHON, "tests/scans.py", "target/bin/console"]),
     ("the console's speed", [*PYTHON, "tests/speed.py", "target/bin/console"]),
 )

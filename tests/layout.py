@@ -4,7 +4,7 @@ Usage: python3 tests/layout.py
 
 - every file of Rattle, antt and Python has fewer than 300 lines, and Rattle and antt files are as `rt fmt` lays them out;
 - every function of Rattle has fewer than 40 lines, branches at most three deep and at most one loop;
-- no tracked file names a path outside the repository.
+- no file names a path in one of the usual folders outside the repository.
 
 The last line printed is 'N passed, M failed', one count for each file and each function.
 """

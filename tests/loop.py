@@ -1,6 +1,6 @@
 """The controller of document 01: its calls, its scan and its words, one text of the rules for both arithmetics.
 
-Made from document 01 (01-scope.md) and never from the code, so that a comparison of the two is a comparison with the paper.
+Made from document 01 and never from the code, so that a comparison of the two is a comparison with the paper.
 """
 
 from functools import lru_cache

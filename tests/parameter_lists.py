@@ -111,6 +111,5 @@ def parameter_list(generator, number):
     return as_written(draw_parameters(generator), generator.getrandbits(2), generator.random() < 0.2), calls
 
 
-def all_lists(generator, share=1):
-    """All of them; with a share of 10 a tenth."""
-    return [parameter_list(generator, number) for number in range(ENOUGH_LISTS // share)]
+def all_lists(generator):
+    return [parameter_list(generator, number) for number in range(ENOUGH_LISTS)]

@@ -1,6 +1,6 @@
 """The arithmetic of document 01, reckoned exactly.
 
-Made from document 01 (01-scope.md) alone and never from the code, so that a
+Made from document 01 alone and never from the code, so that a
 comparison of the two is a comparison with the paper.  Whole numbers and
 fractions only; nothing here is a floating-point number.
 

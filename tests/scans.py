@@ -3,7 +3,7 @@
 Usage: python3 tests/scans.py [--seed N] PROGRAM
 
 The program reads one call a line and writes one answer line for each.  The last line printed is "N passed, M failed": one count for each answer,
-for each call after which the claim was checked, for each figure worked by hand, each whole input and each thing that the lists must meet.
+for each run of the program, for each call after which the claim was checked, for each figure worked by hand, each whole input and each thing that the lists must meet.
 """
 
 import argparse

@@ -1,6 +1,6 @@
 """The controller of document 01: its two arithmetics, its parameters and its other state items.
 
-Made from document 01 (01-scope.md) and never from the code, so that a comparison of the two is a comparison with the paper.
+Made from document 01 and never from the code, so that a comparison of the two is a comparison with the paper.
 
 The arithmetic given with a call decides what the output is.  Stored: a whole number of 1/65,536 units, to which rounded terms are added.
 Exact: a fraction, in units, to which the limited terms are added unrounded.  Everything else is the same for both.

@@ -1,5 +1,4 @@
 // What a line asks of the controller, and what comes of it. Every controller that is handed on is valid, so that the next call may be made.
-ghost use Prim.Native.Nat.{_≤_};
 ghost use Rattle.controller.specs.Valid.{Valid};
 use controller::Answer;
 use controller::Controller;
@@ -80,7 +79,7 @@ fn scanned(controller: Controller, input: Input) -> Step
     }
 }
 
-// The input of a scan; where a number is too large for its type, ok is false.
+// The input of a scan; where a number is below zero or too large for its type, ok is false.
 struct Given {
     ok: bool,
     input: Input,
@@ -133,7 +132,7 @@ fn of_call(controller: Controller, name: &[u8], a: Arguments) -> Step
     no_call(controller)
 }
 
-// A line that fills the whole buffer is too long.
+// What a line asks. One that fills the whole buffer is too long. The contract rules out a controller that the next call could not take.
 pub fn of_line(controller: Controller, line: &[u8], len: usize) -> Step
     requires { ⌜ Valid controller ⌝ }
     ensures { λ r. ⌜ Valid (r .controller) ⌝ }

@@ -2,8 +2,6 @@
 //     fresh SW                               ok
 //     scan PINS S1 S2 S3 BUTTONS SENSORS     scan MD DS OP ELECTRICAL, or refused N
 // A line that is no such call gets `error` and changes nothing. Before the first `fresh` the controller is fresh with SW 0.
-ghost use mathlib.Core.Path.{_≡_};
-ghost use lib.ListN.{length};
 ghost use Rattle.controller.specs.Valid.{Valid};
 use controller::Controller;
 use lines::Place;

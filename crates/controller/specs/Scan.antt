@@ -26,7 +26,7 @@ use Rattle.controller.specs.declared.Core.{Core}
 unfoldable pub modeNow : Core → Mode
 modeNow c = modeOf (c .conditions) (switchesOf (c .sw) .ratio)
 
--- ---- steps 2 and 3: the mode of this scan, by what it leaves of the conditions; whether it goes to minimum, by those before it
+-- ---- step 3: the mode of this scan, by what it leaves of the conditions; and of step 6 whether it goes to minimum, by those before it
 unfoldable pub situationOf : Core → Conditions → Input → Situation
 situationOf c after i =
     let s = switchesOf (c .sw) in

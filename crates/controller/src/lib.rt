@@ -6,7 +6,7 @@ ghost use Rattle.setpoints.specs.ReckoningLaws.{Sampled};
 ghost use Rattle.outputs.specs.OutputLaws.{Stored};
 ghost use Rattle.controller.specs.Answers.{said, handed, opOf, electricalOf};
 ghost use Rattle.controller.specs.Scan.{modeNow, situationOf, reckonedIn, shownAfter, coreAfter, statusOf, withOutput, stepped, scan};
-ghost use Rattle.controller.specs.State.{startConditions, startReadings, freshCore, freshController};
+ghost use Rattle.controller.specs.State.{startConditions, startReadings, freshController};
 ghost use Rattle.controller.specs.Valid.{Valid};
 use modes::Conditions;
 use modes::Mode;
@@ -103,7 +103,7 @@ impl Core {
         conditions.mode(s.ratio)
     }
 
-    // Steps 2 and 3, and whether the scan goes to minimum.
+    // Step 3, and of step 6 whether the scan goes to minimum.
     fn situation(self, after: Conditions, input: Input) -> Situation
         ensures { λ r. ⌜ r ≡ situationOf self after input ⌝ }
     {

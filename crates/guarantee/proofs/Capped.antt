@@ -1,4 +1,4 @@
--- The rules look at the open count only up to 85: a controller that stops counting there goes the same way as one that counts on.
+-- The rules look at the open count only up to 85: a controller that stops counting there has the same outcomes as one that counts on.
 use mathlib.Core.Path.{_≡_, refl, sym, ap, _∙_}
 use mathlib.Core.Bool.{Bool, true, false, _||_}
 use mathlib.Core.Option.{Option, some, none}

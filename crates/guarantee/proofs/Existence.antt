@@ -1,4 +1,4 @@
--- For every switch word and every list of calls there are controllers and answers that the contracts link: the guarantee speaks of something.
+-- For every switch word and every list of calls there are controllers and answers that the contracts link, so the guarantee isn't empty.
 use mathlib.Core.Path.{_≡_, refl}
 use mathlib.Core.Bool.{Bool, true, false, _||_}
 use mathlib.Core.List.{List, [], _∷_}

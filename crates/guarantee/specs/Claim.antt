@@ -1,6 +1,6 @@
--- The parts of demand 3, written out again from document 01's words. Of the rules only the state's types, the bits of a word and the exact controller
--- are used: the conditions, their order, 85, the limits and what a word shows of the mode stand here a second time, so that a wrong rule does not pass with
--- its own measure.
+-- The parts of demand 3, written out again from document 01's words. Shared with the rules are the types of the state and of the answers, the bits of a word, the value
+-- of a parameter, and the exact controller. The conditions, their order, 85, the limits and what a word shows of the mode stand here a second time, so that a
+-- rule isn't judged by itself.
 use mathlib.Core.Path.{_≡_}
 use mathlib.Core.Bool.{Bool, true, false, not, _&&_, _||_}
 use mathlib.Core.List.{List, [], _∷_}
@@ -71,7 +71,7 @@ isHoldOrTrack Remote = false
 isHoldOrTrack Ratio = false
 isHoldOrTrack Fallback = false
 
--- LO is parameter 16 and HO parameter 15, in units, of which the stored output has 65,536 to one
+-- LO is parameter 16 and HO parameter 15, in units; a unit is 65,536 of the stored output
 pub record WithinLimits (c : Controller) : Type 0 where
   pub least : (value (c .core .parameters) 16 *ℤ pos 65536) ≤ℤ c .output
   pub most : c .output ≤ℤ (value (c .core .parameters) 15 *ℤ pos 65536)

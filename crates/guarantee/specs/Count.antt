@@ -1,22 +1,16 @@
 -- Document 01, "The exact controller": n, the automatic scans since the output was last set outright; and the consecutive open scans. "In demand 3 the conditions of
 -- step 3, the accepted automatic scans and the outright settings are read from the exact controller."
-use mathlib.Core.Path.{_≡_}
-use mathlib.Core.Logic.{_↔_}
 use mathlib.Core.Bool.{Bool, true, false, not, _&&_, _||_}
-use mathlib.Core.List.{List}
 use mathlib.Core.Option.{Option, some}
-use Prim.Native.Nat.{ℕ, _+_, _*_}
+use Prim.Native.Nat.{ℕ, _+_}
 use lib.Dec.{eqb}
 use Rattle.integers.specs.Choice.{if_then_else_}
-use Rattle.terms.specs.Near.{Near}
 use Rattle.signals.specs.Bits.{bit}
 use Rattle.modes.specs.declared.Mode.{Mode}
 use Rattle.modes.specs.declared.Mode.the-variants.{Hold, Track, Forced, Manual, Auto, Remote, Ratio, Fallback}
-use Rattle.controller.specs.Answers.{Handed}
-use Rattle.controller.specs.Scan.{modeNow, Status, status, declined}
-use Rattle.controller.specs.declared.Controller.{Controller}
+use Rattle.controller.specs.Scan.{Status, status, declined}
 use Rattle.controller.specs.declared.Core.{Core}
-use Rattle.guarantee.specs.Claim.{modeIn, isHoldOrTrack, WithinLimits, capped, SameAnswers, FaultStands}
+use Rattle.guarantee.specs.Claim.{modeIn}
 use Rattle.guarantee.specs.Exact.{Call, scan, Calls, none, _then_, exact, exactAnswer}
 
 -- ---- by the mode, as its conditions give it
@@ -63,7 +57,7 @@ abbrev pub isAccepted : Status → Bool
 isAccepted (status md ds) = true
 isAccepted (declined n) = false
 
--- consecutive open scans, told by the calls alone: an accepted open scan is one more, an accepted scan that isn't open starts anew, a declined one counts as none
+-- consecutive open scans, told by the calls and by which of them were accepted: an accepted open scan is one more, an accepted scan that isn't open starts anew, a declined one counts as none
 unfoldable pub openAfter : Call → Status → ℕ → ℕ
 openAfter (scan i) answer n = if not (isAccepted answer) then n else if bit (i .sensors) 0 then n + 1 else 0
 

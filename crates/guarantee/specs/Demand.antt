@@ -16,7 +16,7 @@ use Rattle.guarantee.specs.Exact.{Calls, exact}
 pub record Demand3 (word : ℕ) (calls : Calls) (hs : List Handed) (c : Controller) : Type 0 where
   -- the mode is the first in the priority order whose condition is present; conditions are read from the exact controller
   pub mode-first : modeIn (exact word calls .core) ≡ some (modeNow (c .core))
-  -- and the count of open scans behind Forced Manual is the one that the list itself gives
+  -- and the count of open scans behind Forced Manual is the one that the accepted calls of the list give
   pub opens-counted : exact word calls .core .conditions .opens ≡ openScans word calls
   -- the memory fault stands exactly when document 01 says so
   pub fault-stands : (c .core .conditions .fault ≡ true) ↔ FaultStands calls

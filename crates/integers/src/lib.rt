@@ -44,7 +44,7 @@ pub fn less(a: i64, b: i64) -> bool
     a < b
 }
 
-// x where the test holds, else y.
+// x where the test holds, else y. The contract rules out the two exchanged.
 pub fn choose(test: bool, x: i64, y: i64) -> i64
     ensures { λ r. ⌜ r ≡ if test then x else y ⌝ }
 {

@@ -123,6 +123,7 @@ pub struct Natural {
     pub value: u64,
 }
 
+// The contract rules out a value beyond the range, whatever was given.
 pub fn natural_in(value: i64, least: u64, most: u64) -> Natural
     requires { ⌜ least ≤ most ⌝ }
     ensures { λ r. ⌜ (least ≤ r .value) × (r .value ≤ most) ⌝ }
@@ -156,6 +157,7 @@ fn taken(ok: bool, count: usize, values: [i64; 6]) -> Arguments {
     Arguments { ok, count, values }
 }
 
+// The numbers of a line from a place on, to its end.
 pub fn arguments_of(line: &[u8], start: usize) -> Arguments
     requires { ⌜ start ≤ length (now line) ⌝ }
 {

@@ -1,7 +1,6 @@
 // What decides the mode, and the mode: causes, the request, the priority order.
 ghost use mathlib.Core.Path.{_≡_};
 ghost use mathlib.Core.Bool.{true};
-ghost use Prim.Native.Nat.{_≤_};
 ghost use Rattle.signals.specs.declared.Input.{Input};
 ghost use Rattle.modes.specs.Modes.{isOpenCause, isCause, counted, opensAfter, requestBy, requestAfter, conditionsAfter, modeBy, inPriority, modeOf, isAutomatic, isTrack, isRemote, isRatio, isAutoOrFallback, isLimiting, goesToMinimum};
 use signals::Buttons;
@@ -133,6 +132,7 @@ pub fn is_automatic(mode: Mode) -> bool
     }
 }
 
+// The contract rules out any mode but Track.
 pub fn is_track(mode: Mode) -> bool
     ensures { λ r. ⌜ r ≡ isTrack mode ⌝ }
 {
@@ -148,6 +148,7 @@ pub fn is_track(mode: Mode) -> bool
     }
 }
 
+// The contract rules out any mode but Remote.
 pub fn is_remote(mode: Mode) -> bool
     ensures { λ r. ⌜ r ≡ isRemote mode ⌝ }
 {
@@ -163,6 +164,7 @@ pub fn is_remote(mode: Mode) -> bool
     }
 }
 
+// The contract rules out any mode but Ratio.
 pub fn is_ratio(mode: Mode) -> bool
     ensures { λ r. ⌜ r ≡ isRatio mode ⌝ }
 {
@@ -178,6 +180,7 @@ pub fn is_ratio(mode: Mode) -> bool
     }
 }
 
+// The contract rules out Remote and Ratio, which keep the previous SP within c1.
 pub fn is_auto_or_fallback(mode: Mode) -> bool
     ensures { λ r. ⌜ r ≡ isAutoOrFallback mode ⌝ }
 {
@@ -193,6 +196,7 @@ pub fn is_auto_or_fallback(mode: Mode) -> bool
     }
 }
 
+// Whether the output is limited in this mode. The contract rules out Hold and Track, and that another is left out.
 pub fn is_limiting(mode: Mode) -> bool
     ensures { λ r. ⌜ r ≡ isLimiting mode ⌝ }
 {
@@ -225,7 +229,7 @@ impl Conditions {
         }
     }
 
-    // The mode. The contract rules out another order, and a mode for ever.
+    // The mode. The contract rules out another order, and one mode for ever.
     pub fn mode(self, ratioswitch: bool) -> Mode
         ensures { λ r. ⌜ r ≡ modeOf self ratioswitch ⌝ }
     {
@@ -236,7 +240,8 @@ impl Conditions {
         in_priority(p.hold, p.track, cause, requested)
     }
 
-    // Whether a scan of this input, made now, sets the output to minimum if its mode is Manual or Forced Manual.
+    // Whether a scan of this input, made now, sets the output to minimum if its mode is Manual or Forced Manual. The contract rules out any but the 85th open
+    // scan, and the mode of this scan taken for the one before.
     pub fn goes_to_minimum(self, input: Input, ratioswitch: bool, powerfail: bool) -> bool
         ensures { λ r. ⌜ r ≡ goesToMinimum self input ratioswitch powerfail ⌝ }
     {

@@ -1,11 +1,10 @@
 // Step 6 of a scan: the output in each mode, the terms and what they are made of, the limits; and what is remembered of earlier scans.
 ghost use mathlib.Core.Path.{_≡_};
 ghost use Prim.Native.Nat.{_≤_, min};
-ghost use lib.IntN.{natAbs, pos, _*ℤ_};
+ghost use lib.IntN.{natAbs, pos};
 ghost use Rattle.integers.specs.Machine.{Small};
 ghost use Rattle.terms.specs.Fraction.{storedUnits};
 ghost use Rattle.parameters.specs.Legal.{Legal};
-ghost use Rattle.setpoints.specs.ReckoningLaws.{Reading};
 ghost use Rattle.outputs.specs.Deviation.{deviation, earlierSetpoint, changeOfDeviation, secondDifference, tuningOf};
 ghost use Rattle.outputs.specs.History.{remembered, historyAfter, recalled};
 ghost use Rattle.outputs.specs.Instruction.{storedArithmetic, changed, limitedTo, carriedOut};
@@ -33,7 +32,7 @@ pub struct Past {
     pub before: i64,
 }
 
-// What step 6 goes by: the switches, this scan's mode, whether it goes to minimum in Manual or Forced Manual, and its input.
+// What a scan is reckoned by: the switches, its mode, whether it goes to minimum in Manual or Forced Manual, and its input.
 pub struct Situation {
     pub switches: Switches,
     pub mode: Mode,

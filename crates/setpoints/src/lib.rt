@@ -1,7 +1,6 @@
 // Steps 1, 4 and 5 of a scan: PV, the setpoint and the ratio moved by hand, trim, SP, ER and MP; and the alarms.
 ghost use mathlib.Core.Path.{_≡_};
 ghost use Prim.Native.Nat.{_≤_};
-ghost use lib.IntN.{natAbs};
 ghost use Rattle.integers.specs.Machine.{Small};
 ghost use Rattle.scaling.specs.Ratio.{RatioRange};
 ghost use Rattle.scaling.specs.Scale.{scaled, ChannelRange};

@@ -87,6 +87,7 @@ pub fn switches_of(sw: u16) -> Switches
     }
 }
 
+// The contract rules out pins that are exchanged or turned.
 pub fn pins_of(byte: u8) -> Pins
     ensures { λ r. ⌜ r ≡ pinsOf byte ⌝ }
 {
@@ -98,6 +99,7 @@ pub fn pins_of(byte: u8) -> Pins
     }
 }
 
+// The contract rules out buttons that are exchanged.
 pub fn buttons_of(byte: u8) -> Buttons
     ensures { λ r. ⌜ r ≡ buttonsOf byte ⌝ }
 {
@@ -112,6 +114,7 @@ pub fn buttons_of(byte: u8) -> Buttons
     }
 }
 
+// The contract rules out a push while both are pressed.
 pub fn push_of(b: Buttons) -> Push
     ensures { λ r. ⌜ r ≡ pushOf b ⌝ }
 {
@@ -122,12 +125,14 @@ pub fn push_of(b: Buttons) -> Push
     }
 }
 
+// Whether channel 1 is open. The contract rules out the battery's bit.
 pub fn is_open(input: Input) -> bool
     ensures { λ r. ⌜ r ≡ isOpen input ⌝ }
 {
     bit(input.sensors as u16, 0)
 }
 
+// The contract rules out channel 1's bit.
 pub fn battery_low(input: Input) -> bool
     ensures { λ r. ⌜ r ≡ batteryLow input ⌝ }
 {
@@ -135,7 +140,7 @@ pub fn battery_low(input: Input) -> bool
 }
 
 impl Refusal {
-    // The paper's number.
+    // The paper's number. The contract rules out another.
     pub fn number(self) -> u8
         ensures { λ r. ⌜ r ≡ numberOf self ⌝ }
     {

@@ -119,7 +119,7 @@ fn md_low(marks: Marks, shown: Shown) -> u16
     )
 }
 
-// MD. The contract rules out a mode's bit that is wrong or missing, a fault shown for the other, and a button that is not shown.
+// MD. The contract rules out a mode's bit that is wrong or missing, one fault shown for the other, and a button that is not shown.
 pub fn md(mode: Mode, c: Conditions, marks: Marks, shown: Shown) -> u16
     ensures { λ r. ⌜ r ≡ MD mode c marks shown ⌝ }
 {
@@ -146,7 +146,7 @@ fn ds_low(mode: Mode, c: Conditions, marks: Marks, shown: Shown) -> u16
     )
 }
 
-// DS. The contract rules out an alarm that is shown for one cause only, one that is turned about, and a pin byte that is another scan's.
+// DS. The contract rules out an alarm that is shown for one cause only, a bit that is 1 where it should be 0, and the pin byte of another scan.
 pub fn ds(mode: Mode, c: Conditions, marks: Marks, shown: Shown) -> u16
     ensures { λ r. ⌜ r ≡ DS mode c marks shown ⌝ }
 {

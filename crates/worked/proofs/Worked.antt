@@ -27,7 +27,7 @@ use Rattle.terms.specs.Terms.{proportionalTerm, integralTerm, derivativeTerm, l
 use Rattle.worked.specs.Figures.{AllHold, firstScan, figures}
 
 infixr 5 _and_
-_and_ : {A B : Type 0} → A → B → A × B
+pub _and_ : {A B : Type 0} → A → B → A × B
 a and b = (a, b)
 
 scan-figure : scan (freshController 0) firstScan .answer ≡ words 0x1002 0x913F 0 0

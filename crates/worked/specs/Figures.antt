@@ -1,4 +1,5 @@
--- Document 01, "Worked by hand (all to be proved)": one list of statements about the rules, in the paper's order. proofs/Worked.antt proves it.
+-- Document 01, "Worked by hand (all to be proved)": one list of statements about the rules, in the paper's order, but for those on writes and the image, which come
+-- with them. proofs/Worked.antt proves it.
 use mathlib.Core.Bool.{true, false}
 use mathlib.Core.List.{List, [], _∷_}
 use mathlib.Core.Path.{_≡_}

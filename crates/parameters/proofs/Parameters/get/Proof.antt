@@ -1,30 +1,22 @@
 use mathlib.Core.Path.{_≡_, sym}
-use Prim.Native.Nat.{_≤_}
 use native.Mathlib.Omega.{arith}
 use lib.IntN.{pos}
 use lib.ListN.{length, List·getD-eq-default}
-use lib.Seq.{set-out}
 use Rattle.parameters.specs.Table.{value}
 use borrow.Author.Needs.{needs}
 use Rattle.parameters.proofs.Parameters.get.Statement.{statement}
 use Rattle.parameters.proofs.Parameters.get.Tie as tie
-use Rattle.parameters.proofs.Parameters.get.Reads as reads
-use Rattle.parameters.proofs.Parameters.get.Lts as lts
 
--- src/lib.rt:54:26
 mul-result : tie.Need-mul-result
 mul-result c = search needs
 
--- src/lib.rt:54:26
 element-copy-out-result : tie.Need-element-copy-out-result
 element-copy-out-result c = search needs
 
--- src/lib.rt:51:5
 returns : tie.Need-returns
 unfolding value
 returns c = search needs
 
--- src/lib.rt:51:5
 returns-2 : tie.Need-returns-2
 unfolding value
 returns-2 c =
