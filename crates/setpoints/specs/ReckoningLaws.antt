@@ -147,9 +147,12 @@ module _ (p : Parameters) (legal : Legal p) where
       chosen-inside (setpointtracks && not (isAutomatic mode)) (LS p) (HS p) _ _ (chosen-inside (isOpen i) (LS p) (HS p) _ _ (r .setpoint) (limited-inside (LS p) (HS p) pv (r .setpoints .order)))
       (setpoint-moved-inside mode i)
 
+  pub setpoint-limited : (x : ℤ) → Inside (LS p) (limited (LS p) (HS p) x) (HS p)
+  setpoint-limited x = limited-inside (LS p) (HS p) x (ranges p legal .setpoints .order)
+
   pub limited-setpoint : (s : Switches) (mode : Mode) (sl rs trim : ℤ) (i : Input) → Inside (LS p) (setpointOf p s mode sl rs trim i) (HS p)
   unfolding setpointOf
-  limited-setpoint s mode sl rs trim i = limited-inside (LS p) (HS p) _ (ranges p legal .setpoints .order)
+  limited-setpoint s mode sl rs trim i = setpoint-limited _
 
   pub setpoint-read : {v : ℤ} → Inside (LS p) v (HS p) → Reading v
   setpoint-read {v} h = let r = ranges p legal in inside-reading _ _ v _ _ (r .setpoints) (omega (arith, integers)) (omega (arith, integers)) h

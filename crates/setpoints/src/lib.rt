@@ -1,14 +1,15 @@
 // Steps 1, 4 and 5 of a scan: PV, the setpoint and the ratio moved by hand, trim, SP, ER and MP; and the alarms.
 ghost use mathlib.Core.Path.{_≡_};
 ghost use Prim.Native.Nat.{_≤_};
+ghost use Rattle.integers.specs.Limit.{limited};
 ghost use Rattle.integers.specs.Machine.{Small};
 ghost use Rattle.scaling.specs.Ratio.{RatioRange};
 ghost use Rattle.scaling.specs.Scale.{scaled, ChannelRange};
 ghost use Rattle.parameters.specs.Legal.{Legal};
-ghost use Rattle.parameters.specs.Table.{value};
+ghost use Rattle.parameters.specs.Table.{value, HS, LS};
 ghost use Rattle.setpoints.specs.Reckoning.{reckoned, lowAlarm, highAlarm};
 ghost use Rattle.setpoints.specs.ReckoningLaws.{Sampled};
-ghost use Rattle.setpoints.specs.Setpoints.{firstSample, processVariable, thirdChannel, moved, movedByHand, ratioAfter, setpointMoved, setpointAfter, trimOf, localSetpoint, remoteSetpoint, quotientOf, ratioSetpoint, setpointIn, setpointOf, measuredPower};
+ghost use Rattle.setpoints.specs.Setpoints.{firstSample, processVariable, thirdChannel, moved, movedByHand, ratioAfter, setpointMoved, setpointAfter, trimOf, localSetpoint, remoteSetpoint, quotientOf, ratioSetpoint, setpointIn, measuredPower};
 use modes::Mode;
 use parameters::Parameters;
 use signals::Input;
@@ -126,10 +127,8 @@ fn setpoint_after(p: Parameters, setpointtracks: bool, mode: Mode, input: Input,
     ensures { λ r. ⌜ r ≡ setpointAfter p setpointtracks mode input pv ⌝ }
 {
     let sl = p.get(parameters::SL);
-    let low = p.get(parameters::LS);
-    let high = p.get(parameters::HS);
     let isopen = signals::is_open(input);
-    let limited = integers::limit(low, high, pv);
+    let limited = limited_setpoint(p, pv);
     let followed = integers::choose(isopen, sl, limited);
     let by_hand = setpoint_moved(p, mode, input);
     let automatic = modes::is_automatic(mode);
@@ -210,22 +209,13 @@ fn setpoint_in(
     local_setpoint(sl, s.ratio, trim)
 }
 
-fn setpoint_of(
-    p: Parameters,
-    s: Switches,
-    mode: Mode,
-    sl: i64,
-    rs: i64,
-    trim: i64,
-    input: Input,
-) -> i64
-    requires { ⌜ Legal p × Sampled input × Small sl × Small rs × Small trim ⌝ }
-    ensures { λ r. ⌜ r ≡ setpointOf p s mode sl rs trim input ⌝ }
+// A setpoint limited to LS..HS.
+fn limited_setpoint(p: Parameters, v: i64) -> i64
+    ensures { λ r. ⌜ r ≡ limited (LS p) (HS p) v ⌝ }
 {
     let low = p.get(parameters::LS);
     let high = p.get(parameters::HS);
-    let to = setpoint_in(p, s, mode, sl, rs, trim, input);
-    integers::limit(low, high, to)
+    integers::limit(low, high, v)
 }
 
 fn measured_power(p: Parameters, measuredpower: bool, input: Input) -> i64
@@ -246,7 +236,8 @@ pub fn reckon(p: Parameters, s: Switches, measuredpower: bool, mode: Mode, input
     let sl = setpoint_after(p, s.setpointtracks, mode, input, pv);
     let rs = ratio_after(p, mode, input);
     let trim = trim_of(p, measuredpower, mode, input);
-    let sp = setpoint_of(p, s, mode, sl, rs, trim, input);
+    let unlimited = setpoint_in(p, s, mode, sl, rs, trim, input);
+    let sp = limited_setpoint(p, unlimited);
     let er = integers::minus(pv, sp);
     let mp = measured_power(p, measuredpower, input);
     let remote = modes::is_remote(mode);

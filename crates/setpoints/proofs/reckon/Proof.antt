@@ -1,7 +1,8 @@
 -- `setpoints::reckon` meets its contract.
 use mir.Syntax.{w64}
 use borrow.Author.Needs.{needs}
-use Rattle.setpoints.specs.ReckoningLaws.{reading-small, setpoint-read, ratio-read, setpoint-inside, ratio-inside, trim-reading, pv-reading, limited-setpoint}
+use Rattle.setpoints.specs.ReckoningLaws.{reading-small, setpoint-read, ratio-read, setpoint-inside, ratio-inside, trim-reading, pv-reading, setpoint-limited}
+use Rattle.setpoints.specs.Setpoints.{setpointOf}
 use Rattle.integers.specs.Machine.{back}
 use Rattle.setpoints.specs.Reckoning.{reckoned}
 use Rattle.setpoints.proofs.reckon.Statement.{statement}
@@ -19,8 +20,8 @@ ratio-after-requires c κs = search needs
 trim-of-requires : tie.Need-trim-of-requires
 trim-of-requires c κs = search needs
 
-setpoint-of-requires : tie.Need-setpoint-of-requires
-setpoint-of-requires c κs =
+setpoint-in-requires : tie.Need-setpoint-in-requires
+setpoint-in-requires c κs =
     let trim = c .trim-of in
     let rs = c .before .ratio-after in
     let sl = c .before .before .setpoint-after in
@@ -35,15 +36,18 @@ setpoint-of-requires c κs =
       rw (trim .ensures) (reading-small _ (trim-reading p legal _ (start .pre .1) _ _)),
     )
 
+limited-setpoint-requires : tie.Need-limited-setpoint-requires
+limited-setpoint-requires c κs = search needs
+
 minus-requires : tie.Need-minus-requires
 minus-requires c κs =
-    let sp = c .setpoint-of in
-    let pv = c .before .before .before .before .process-variable in
-    let start = c .before .before .before .before .before in
+    let sp = c .limited-setpoint in
+    let pv = c .before .before .before .before .before .process-variable in
+    let start = c .before .before .before .before .before .before in
     let p = start .args .p in
     let legal = start .pre .0 in
     simp (back w64 (sp .result) (sp .ok), back w64 (pv .result) (pv .ok))
-    (rw (pv .ensures) (reading-small _ (pv-reading p legal _ (start .pre .1))), rw (sp .ensures) (reading-small _ (setpoint-read p legal (limited-setpoint p legal _ _ _ _ _ _))))
+    (rw (pv .ensures) (reading-small _ (pv-reading p legal _ (start .pre .1))), rw (sp .ensures) (reading-small _ (setpoint-read p legal (setpoint-limited p legal _))))
 
 measured-power-requires : tie.Need-measured-power-requires
 measured-power-requires c κs = search needs
@@ -64,7 +68,7 @@ with-requires-2 : tie.Need-with-requires-2
 with-requires-2 c κs = search needs
 
 returns : tie.Need-returns
-unfolding reckoned
+unfolding reckoned setpointOf
 returns c =
     let with2 = c .with2 in
     let with-call = c .before .with in
@@ -76,26 +80,29 @@ returns c =
     let measured-power = b2 .before .measured-power in
     let b3 = b2 .before .before in
     let minus = b3 .minus in
-    let setpoint-of = b3 .before .setpoint-of in
+    let limited-setpoint = b3 .before .limited-setpoint in
     let b4 = b3 .before .before in
-    let trim-of = b4 .trim-of in
-    let ratio-after = b4 .before .ratio-after in
+    let setpoint-in = b4 .setpoint-in in
+    let trim-of = b4 .before .trim-of in
     let b5 = b4 .before .before in
-    let setpoint-after = b5 .setpoint-after in
-    let process-variable = b5 .before .process-variable in
-    simp (back w64 (measured-power .result) (measured-power .ok), back w64 (minus .result) (minus .ok), back w64 (setpoint-of .result) (setpoint-of .ok), back w64 (process-variable .result) (process-variable .ok))
+    let ratio-after = b5 .ratio-after in
+    let setpoint-after = b5 .before .setpoint-after in
+    let b6 = b5 .before .before in
+    let process-variable = b6 .process-variable in
+    simp (back w64 (measured-power .result) (measured-power .ok), back w64 (minus .result) (minus .ok), back w64 (limited-setpoint .result) (limited-setpoint .ok), back w64 (process-variable .result) (process-variable .ok))
     (simp (with2 .ensures, back w64 (ratio-after .result) (ratio-after .ok))
     (simp (with-call .ensures, back w64 (choose .result) (choose .ok))
-    (simp (choose .ensures, back w64 (setpoint-of .result) (setpoint-of .ok), back w64 (setpoint-after .result) (setpoint-after .ok))
+    (simp (choose .ensures, back w64 (limited-setpoint .result) (limited-setpoint .ok), back w64 (setpoint-after .result) (setpoint-after .ok))
     (simp (is-ratio .ensures)
     (simp (is-remote .ensures)
     (simp (measured-power .ensures)
-    (simp (minus .ensures, back w64 (setpoint-of .result) (setpoint-of .ok), back w64 (process-variable .result) (process-variable .ok))
-    (simp (setpoint-of .ensures, back w64 (trim-of .result) (trim-of .ok), back w64 (ratio-after .result) (ratio-after .ok), back w64 (setpoint-after .result) (setpoint-after .ok))
+    (simp (minus .ensures, back w64 (limited-setpoint .result) (limited-setpoint .ok), back w64 (process-variable .result) (process-variable .ok))
+    (simp (limited-setpoint .ensures, back w64 (setpoint-in .result) (setpoint-in .ok))
+    (simp (setpoint-in .ensures, back w64 (trim-of .result) (trim-of .ok), back w64 (ratio-after .result) (ratio-after .ok), back w64 (setpoint-after .result) (setpoint-after .ok))
     (simp (trim-of .ensures)
     (simp (ratio-after .ensures)
     (simp (setpoint-after .ensures, back w64 (process-variable .result) (process-variable .ok))
-    (simp (process-variable .ensures)))))))))))))
+    (simp (process-variable .ensures))))))))))))))
 
 pub reckon-spec : {M : Type 1} → statement M
 reckon-spec =
@@ -105,7 +112,8 @@ reckon-spec =
     setpoint-after-requires
     ratio-after-requires
     trim-of-requires
-    setpoint-of-requires
+    setpoint-in-requires
+    limited-setpoint-requires
     minus-requires
     measured-power-requires
     is-remote-requires

@@ -10,17 +10,11 @@ use Rattle.setpoints.proofs.setpoint_after.Tie as tie
 get-requires : tie.Need-get-requires
 get-requires c κs = search needs
 
-get-requires-2 : tie.Need-get-requires-2
-get-requires-2 c κs = search needs
-
-get-requires-3 : tie.Need-get-requires-3
-get-requires-3 c κs = search needs
-
 is-open-requires : tie.Need-is-open-requires
 is-open-requires c κs = search needs
 
-limit-requires : tie.Need-limit-requires
-limit-requires c κs = search needs
+limited-setpoint-requires : tie.Need-limited-setpoint-requires
+limited-setpoint-requires c κs = search needs
 
 choose-requires : tie.Need-choose-requires
 choose-requires c κs = search needs
@@ -43,34 +37,27 @@ returns c =
     let setpoint-moved = b1 .setpoint-moved in
     let choose = b1 .before .choose in
     let b2 = b1 .before .before in
-    let limit = b2 .limit in
+    let limited-setpoint = b2 .limited-setpoint in
     let is-open = b2 .before .is-open in
     let b3 = b2 .before .before in
-    let get3 = b3 .get3 in
-    let get2 = b3 .before .get2 in
-    let b4 = b3 .before .before in
-    let get = b4 .get in
-    let start = b4 .before in
+    let get = b3 .get in
+    let start = b3 .before in
     simp (back w64 (choose2 .result) (choose2 .ok))
     (simp (choose2 .ensures, back w64 (setpoint-moved .result) (setpoint-moved .ok), back w64 (choose .result) (choose .ok))
     (simp (is-automatic .ensures)
     (simp (setpoint-moved .ensures)
-    (simp (choose .ensures, back w64 (limit .result) (limit .ok), back w64 (get .result) (get .ok))
-    (simp (limit .ensures, back w64 (get3 .result) (get3 .ok), back w64 (get2 .result) (get2 .ok), toZ-ofZ (start .fits .pv))
+    (simp (choose .ensures, back w64 (limited-setpoint .result) (limited-setpoint .ok), back w64 (get .result) (get .ok))
+    (simp (limited-setpoint .ensures, toZ-ofZ (start .fits .pv))
     (simp (is-open .ensures)
-    (simp (get3 .ensures)
-    (simp (get2 .ensures)
-    (simp (get .ensures))))))))))
+    (simp (get .ensures))))))))
 
 pub setpoint-after-spec : {M : Type 1} → statement M
 setpoint-after-spec =
     tie.close
     (tie.spec
     get-requires
-    get-requires-2
-    get-requires-3
     is-open-requires
-    limit-requires
+    limited-setpoint-requires
     choose-requires
     setpoint-moved-requires
     is-automatic-requires
