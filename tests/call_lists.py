@@ -1,12 +1,12 @@
 """Call lists for the console, drawn from a seed: every mode, switch, button, pin, refusal, open run, and lines that are no call.
 
-A list is a sequence of entries; an entry is a line and its kind: "call" for a call's plainest line, else the name of the other form or of the
-line error.  Each list begins with a fresh start, except those that are to stand at the beginning of an input.
+A list is a sequence of entries; an entry is a line, its kind and the word of its call: the kind is "call" for a call's plainest line, else the name
+of the other form or of the line error made of the call.  Each list begins with a fresh start, except those that are to stand at the beginning of an input.
 """
 
 from typing import NamedTuple
 
-from console_lines import LINE_ERRORS, OTHER_FORMS, line_of
+from console_lines import LINE_ERRORS, OTHER_FORMS, line_errors_of, line_of
 from reckoner import limit
 
 LOWER, RAISE, SP, R, A, M = 0x80, 0x40, 0x08, 0x04, 0x02, 0x01
@@ -26,6 +26,7 @@ TOO_GREAT = (10001, 10002, 16384, 32767, 32768, 65535)
 class Entry(NamedTuple):
     line: str
     kind: str
+    word: str
 
 
 def channel(generator):
@@ -250,12 +251,12 @@ def entries(operator, calls):
     generator = operator.generator
     for call in calls:
         if generator.random() < 0.02:
-            yield Entry(line_of(operator.spoiled()), "call")
+            yield Entry(line_of(operator.spoiled()), "call", "scan")
         if generator.random() < 0.03:
-            kind = generator.choice(tuple(LINE_ERRORS))
-            yield Entry(LINE_ERRORS[kind](generator, call), kind)
+            kind = generator.choice(line_errors_of(call))
+            yield Entry(LINE_ERRORS[kind](generator, call), kind, call[0])
         kind = generator.choice(tuple(OTHER_FORMS)) if generator.random() < 0.03 else "call"
-        yield Entry(line_of(call) if kind == "call" else OTHER_FORMS[kind](generator, call), kind)
+        yield Entry(line_of(call) if kind == "call" else OTHER_FORMS[kind](generator, call), kind, call[0])
 
 
 def call_list(generator, kind, number):

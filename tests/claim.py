@@ -1,13 +1,17 @@
-"""The claim over every list of calls (document 01, "The exact controller", demand 3), checked after every call.
+"""The claim over every list of calls (document 01, "The exact controller", demand 3), checked after every call, and what no write or read may change.
 
-It is written apart from the rules in loop.py: the conditions of the modes, the causes, the accepted automatic scans and the outright settings are
-written out here again from the paper's words, and are read from the exact controller.  Nothing of loop.py is called.
+It is written apart from the rules: the conditions of the modes, the causes, the accepted automatic scans and the outright settings are
+written out here again from the paper's words, and are read from the exact controller.  Nothing of the rules is called.
 """
 
 STEPS_IN_A_UNIT = 65536
 AUTOMATIC_MODES = {"Auto", "Remote", "Ratio", "Fall-back"}
 # Words: "15 Hold, 14 Track, 13 Manual or Forced, 12 Auto or Fall-back, 11 Remote or Ratio"
 MODES_BY_MD_BIT = {15: {"Hold"}, 14: {"Track"}, 13: {"Manual", "Forced Manual"}, 12: {"Auto", "Fall-back"}, 11: {"Remote", "Ratio"}}
+MD, OP = 24, 28
+# What no write may touch: "of these only scans and restarts change any", the switch word and what scans remember
+UNTOUCHED = ("SW", "open_count", "pins", "buttons", "PV", "SP", "ER", "MP", "battery_low", "low_alarm", "high_alarm",
+             "previous_PV", "PV_before_previous", "previous_SP")
 
 
 def bit(number, place):
@@ -42,34 +46,40 @@ class Claim:
 
     def __init__(self):
         self.automatic_scans = 0
-        self.memory_fault = False  # no restart has brought it
+        self.restart_brought_fault = False  # whether the last accepted restart brought the memory fault; there is no restart yet
+        self.cleared_since = False          # an accepted write of MD with bit 8 zero came after that restart
 
     def broken(self, call, before, after, answers, mode_shown):
         """The parts of the claim that this call has broken.
 
-        Before and after are pairs of controllers, answers is the pair of answers, ours first and the exact one's second; mode_shown is the
-        mode that our controller is in after the call.
+        Before and after are pairs of controllers, answers is the pair of answers, ours first and the exact one's second; mode_shown tells
+        the mode that a controller of ours is in.
         """
         stored, exact = after
-        mode = first_mode_present(exact)
-        self.count(call, before[1], exact, answers[1], mode)
-        return [*self.broken_states(before, after, answers),
-                *broken_answers(stored, mode, answers),
+        is_to_leave = call[0] == "read" or answers[0][0] == "refused"
+        if is_to_leave and stored is before[0] and exact is before[1]:  # all that was found of them still holds
+            return [*broken_answers(call, stored, None, answers)]
+        mode, shown = first_mode_present(exact), mode_shown(stored)
+        self.follow(call, before[1], exact, answers[1], mode)
+        return [*self.broken_states(after), *broken_leaving(call, before, after, answers),
+                *broken_answers(call, stored, mode, answers),
                 *self.broken_output(stored, exact, mode),
-                *([] if mode_shown == mode else [f"the mode is {mode_shown}, the first condition present is that of {mode}"])]
+                *([] if shown == mode else [f"the mode is {shown}, the first condition present is that of {mode}"])]
 
-    def count(self, call, exact_before, exact, exact_answer, mode):
-        """The outright settings, "Track, minimum, start fresh", and the accepted automatic scans: automatic mode, not open."""
+    def follow(self, call, exact_before, exact, exact_answer, mode):
+        """The outright settings, "Track, minimum, start fresh", the accepted automatic scans: automatic mode, not open; and what clears the fault."""
         if call[0] == "fresh":
-            self.automatic_scans = 0
+            self.automatic_scans, self.restart_brought_fault, self.cleared_since = 0, False, False
         elif exact_answer[0] == "scan":
             if mode == "Track" or is_minimum(exact_before, exact, mode):
                 self.automatic_scans = 0
             elif mode in AUTOMATIC_MODES and exact.open_count == 0:
                 self.automatic_scans += 1
+        elif call[0] == "write" and exact_answer == ("ok",) and call[1] == MD and bit(call[2], 8) == 0:
+            self.cleared_since = True
 
-    def broken_states(self, before, after, answers):
-        """Compared: "all items but the output equal, open counts above 85 taken as 85"; a declined call leaves the controller."""
+    def broken_states(self, after):
+        """Compared: "all items but the output equal, open counts above 85 taken as 85"; and when "the memory fault stands"."""
         stored, exact = after
         if exact._replace(output=stored.output, open_count=stored.open_count) != stored:
             for item, ours, others in zip(stored._fields, stored, exact, strict=True):
@@ -77,10 +87,8 @@ class Claim:
                     yield f"{item} is {ours}, the exact controller's {others}"
         if min(stored.open_count, 85) != min(exact.open_count, 85):
             yield f"the open count is {stored.open_count}, the exact controller's {exact.open_count}"
-        if stored.memory_fault != self.memory_fault:
+        if stored.memory_fault != (self.restart_brought_fault and not self.cleared_since):
             yield f"the memory fault is {stored.memory_fault}"
-        if answers[0][0] == "refused" and after != before:
-            yield "a declined call has changed a controller"
 
     def broken_output(self, stored, exact, mode):
         """Compared: "outputs within the bound", 3/2 x n x 1/65,536 units; outside Hold and Track ours is within its limits."""
@@ -90,20 +98,35 @@ class Claim:
                 yield f"the output {stored.output} is not within {lowest}..{highest} in {mode}"
         if not isinstance(stored.output, int):
             yield f"the output {stored.output} is not a whole number of 1/65,536 units"
-        if 2 * abs(stored.output - STEPS_IN_A_UNIT * exact.output) > 3 * self.automatic_scans:
+        above, below = exact.output.as_integer_ratio()
+        if 2 * abs(stored.output * below - STEPS_IN_A_UNIT * above) > 3 * self.automatic_scans * below:
             yield f"the output {stored.output}, exactly {STEPS_IN_A_UNIT * exact.output}, is out of bound, n is {self.automatic_scans}"
 
 
-def broken_answers(stored, mode, answers):
+def broken_leaving(call, before, after, answers):
+    """A declined call and a read leave the controller; a write leaves all that only scans and restarts change."""
+    if (answers[0][0] == "refused" or call[0] == "read") and after != before:
+        yield f"a declined call or a read has changed a controller: {call}"
+    if call[0] == "write":
+        for item in UNTOUCHED:
+            if any(getattr(now, item) != getattr(earlier, item) for earlier, now in zip(before, after, strict=True)):
+                yield f"a write has changed {item}"
+
+
+def broken_answers(call, stored, mode, answers):
     """Compared: "all answers equal, save OP and electrical output, which are those of our own stored output"."""
     ours, others = answers
+    whole_units = stored.output // STEPS_IN_A_UNIT
+    if call == ("read", OP):
+        if ours != ("value", whole_units):
+            yield f"OP reads {ours}, that of the output {stored.output} is {whole_units}"
+        return
     if ours[0] != "scan":
         if ours != others:
             yield f"the answer is {ours}, the exact controller's {others}"
         return
     if ours[:3] != others[:3]:
         yield f"the words are {ours[:3]}, the exact controller's {others[:3]}"
-    whole_units = stored.output // STEPS_IN_A_UNIT
     electrical = 9999 - whole_units if bit(stored.SW, 14) else whole_units
     if ours[3:] != (whole_units, electrical):
         yield f"OP and electrical output are {ours[3:]}, those of the output {stored.output} are {(whole_units, electrical)}"

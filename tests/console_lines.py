@@ -8,9 +8,11 @@ Texts here have one character for each byte of the line.
 import re
 
 LONGEST_LINE = 700
-# The greatest of each number: SW and samples have 16 bits, pins, buttons and sensors 8; further kinds of call are to be added here.
-GREATEST = {"fresh": (65535,), "scan": (255, 65535, 65535, 65535, 255, 255)}
 NUMBER = re.compile("-?[0-9]{1,18}")
+# The least and the greatest of each number: SW and samples have 16 bits, pins, buttons and sensors 8, a value to be written 32 and a sign;
+# a parameter number may be any.  Further kinds of call are to be added here.
+BYTE, WORD, VALUE, ANY = (0, 255), (0, 65535), (-1 << 31, (1 << 31) - 1), (1 - 10 ** 18, 10 ** 18 - 1)
+RANGES = {"fresh": (WORD,), "scan": (BYTE, WORD, WORD, WORD, BYTE, BYTE), "write": (ANY, VALUE), "read": (ANY,)}
 
 
 def call_of(line):
@@ -18,11 +20,11 @@ def call_of(line):
     if len(line) > LONGEST_LINE:
         return None
     word, *texts = [part for part in line.split(" ") if part] or [""]
-    greatest = GREATEST.get(word)
-    if greatest is None or len(texts) != len(greatest) or not all(map(NUMBER.fullmatch, texts)):
+    ranges = RANGES.get(word)
+    if ranges is None or len(texts) != len(ranges) or not all(map(NUMBER.fullmatch, texts)):
         return None
     numbers = tuple(map(int, texts))
-    if any(not 0 <= number <= most for number, most in zip(numbers, greatest, strict=True)):
+    if any(not least <= number <= greatest for number, (least, greatest) in zip(numbers, ranges, strict=True)):
         return None
     return (word, *numbers)
 
@@ -40,12 +42,17 @@ def lines_in(text):
 
 # Other forms of the same call ----------------------------------------------
 
+def of_digits(number, digits):
+    """A number with leading zeros to so many digits at least."""
+    return f"{'-' if number < 0 else ''}{abs(number):0{digits}}"
+
+
 def with_leading_zeros(generator, call):
-    return line_of((call[0], *("0" * generator.randint(1, 18 - len(str(number))) + str(number) for number in call[1:])))
+    return line_of((call[0], *(of_digits(number, generator.randint(min(18, len(str(abs(number))) + 1), 18)) for number in call[1:])))
 
 
 def with_eighteen_digits(generator, call):
-    return line_of((call[0], *(f"{number:018}" for number in call[1:])))
+    return line_of((call[0], *(of_digits(number, 18) for number in call[1:])))
 
 
 def with_minus_zeros(generator, call):
@@ -72,14 +79,19 @@ OTHER_FORMS = {"leading zeros": with_leading_zeros, "eighteen digits": with_eigh
 # Lines that are no call ----------------------------------------------------
 
 NO_NUMBERS = ("+5", "--5", "-", "5-", "1-2", "12x", "x12", "1.0", "1e3", "0x5", "80h", "1_0", "1,0", "\u00b2", "\xff")
-NO_WORDS = ("scam", "sca", "scann", "scan,", "scans", "freshen", "fres", "ok", "refused", "error", "x", "-", "128", "scan128")
+NO_WORDS = ("scam", "sca", "scann", "scan,", "scans", "freshen", "fres", "writ", "writes", "rewrite", "rea", "reads", "ok", "value", "refused", "error", "x",
+            "-", "128", "scan128", "read5")
 OTHER_BLANKS = ("\t", "\v", "\f", "\r", "\0", "\xa0", ",")
+
+
+def with_number(call, place, number):
+    """The call with another number, or with other text, at this place."""
+    return line_of((*call[:place], number, *call[place + 1:]))
 
 
 def changed(generator, call, text):
     """The call with one of its numbers put otherwise."""
-    place = generator.randrange(1, len(call))
-    return line_of((*call[:place], text, *call[place + 1:]))
+    return with_number(call, generator.randrange(1, len(call)), text)
 
 
 def number_missing(generator, call):
@@ -93,11 +105,13 @@ def number_too_many(generator, call):
 
 
 def number_beyond_its_type(generator, call):
-    """One more than the greatest, or far more: among them numbers that come out right in 8, 16, 32 bits if only the low bits are kept."""
-    place = generator.randrange(1, len(call))
-    most = GREATEST[call[0]][place - 1]
-    beyond = generator.choice([most + 1, most + 1 + call[place], (1 << 16) + call[place], (1 << 32) + call[place], 10 ** 18 - 1])
-    return line_of((*call[:place], max(beyond, most + 1), *call[place + 1:]))
+    """One beyond an end, or far beyond: among them numbers that come out right in 8, 16, 32 bits if only the low bits are kept."""
+    place = generator.choice([place for place, ends in enumerate(RANGES[call[0]], 1) if ends != ANY])
+    least, greatest = RANGES[call[0]][place - 1]
+    beyond = [greatest + 1, greatest + 1 + call[place], (1 << 16) + call[place], (1 << 32) + call[place], 10 ** 18 - 1]
+    if least < 0:
+        beyond += [least - 1, call[place] - (1 << 32), 1 - 10 ** 18]
+    return with_number(call, place, generator.choice([number for number in beyond if not least <= number <= greatest]))
 
 
 def number_below_zero(generator, call):
@@ -106,8 +120,8 @@ def number_below_zero(generator, call):
 
 def nineteen_digits(generator, call):
     place = generator.randrange(1, len(call))
-    text = generator.choice([f"{call[place]:019}", "0" * 19, f"-{0:019}", str((1 << 64) + call[place]), "9" * 40, "0" * 300 + "5"])
-    return line_of((*call[:place], text, *call[place + 1:]))
+    text = generator.choice([of_digits(call[place], 19), "0" * 19, f"-{0:019}", str((1 << 64) + call[place]), "9" * 40, "0" * 300 + "5"])
+    return with_number(call, place, text)
 
 
 def no_number(generator, call):
@@ -163,3 +177,9 @@ LINE_ERRORS = {"number missing": number_missing, "number too many": number_too_m
                "unknown word": unknown_word, "word in capitals": word_in_capitals, "no word": no_word, "word twice": word_twice,
                "empty line": empty_line, "blanks only": blanks_only, "other blank": other_blank, "two calls": two_calls,
                "overlong line": overlong_line}
+NOT_OF = {"write": ("number below zero",), "read": ("number below zero", "number beyond its type")}  # such lines are calls all the same
+
+
+def line_errors_of(call):
+    """The kinds of line error that can be made of a call."""
+    return [kind for kind in LINE_ERRORS if kind not in NOT_OF.get(call[0], ())]

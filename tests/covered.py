@@ -1,9 +1,10 @@
-"""What the call lists have met, counted scan by scan, and how often each thing must be met at least."""
+"""What the lists of scans have met, counted call by call, and how often each thing must be met at least."""
 
 import collections
+from functools import lru_cache
 
 from console_lines import LINE_ERRORS, OTHER_FORMS
-from loop import AUTOMATIC, MODES, mode_of
+from words import AUTOMATIC, MODES, mode_of
 
 SWITCHES = {"S2.1": 15, "S2.2": 14, "S2.3": 13, "S2.4": 12, "S2.5": 11, "S2.6": 10, "S2.8": 8, "S1.1": 7}
 BUTTONS = {"Lower": 7, "Raise": 6, "SP": 3, "R": 2, "A": 1, "M": 0}
@@ -42,15 +43,30 @@ def leasts():
     return least
 
 
+@lru_cache(maxsize=1 << 17)
+def switches_in(SW, mode):
+    """The position of each switch, by itself and in the mode."""
+    positions = [f"{switch} {'ON' if on(SW, place) else 'OFF'}" for switch, place in SWITCHES.items()]
+    return (*positions, *(f"{position} in {mode}" for position in positions))
+
+
 class Covered:
+    """Counts what each call of some lists meets; other lists have classes of their own after this one."""
+    title, leasts = "scans", staticmethod(leasts)
+
     def __init__(self):
         self.counts = collections.Counter()
 
-    def line(self, kind):
-        self.counts[f"line: {kind}"] += 1
+    def line(self, entry):
+        self.counts[f"line: {entry.kind}"] += 1
 
-    def call(self, call, before, after, answer):
-        """One call, the pairs of controllers before and after it, and our answer; the open count is read from the exact controller."""
+    def too_few(self):
+        """The names of what was too rarely met, with the count and the least."""
+        return [f"too few, {self.title}: {name}: {self.counts[name]}, at least {least} are due" for name, least in self.leasts().items()
+                if self.counts[name] < least]
+
+    def call(self, call, before, after, answer, automatic_scans):
+        """One call, the pairs of controllers before and after it, our answer and the claim's n; the open count is read from the exact controller."""
         if call[0] == "scan":
             self.counts["scans"] += 1
             self.scan_given(call)
@@ -79,9 +95,7 @@ class Covered:
     def accepted(self, before, after):
         was, mode = mode_of(before), mode_of(after)
         names = ["scans, accepted", f"mode {mode}", f"{was} to {mode}"]
-        for switch, place in SWITCHES.items():
-            position = "ON" if on(after.SW, place) else "OFF"
-            names += (f"{switch} {position}", f"{switch} {position} in {mode}")
+        names += switches_in(after.SW, mode)
         pressed = [name for name, place in BUTTONS.items() if on(after.buttons, place)]
         names += [f"button {pressed[0]} alone"] if len(pressed) == 1 else ["two buttons or more"] if pressed else []
         names += ["battery low"] if after.battery_low else []
@@ -117,59 +131,3 @@ class Covered:
             for name, value in (("LS", new.SL), ("HS", new.SL), ("LR", new.RS), ("HR", new.RS)):
                 if value == getattr(new, name):
                     self.counts[f"{name} reached"] += 1
-
-
-# Lists with drawn parameters --------------------------------------------------
-
-TERMS = [f"{term} {switch}" for term in ("TI", "TD") for switch in ("S2.8 ON", "S2.8 OFF", "S2.4 ON", "S2.4 OFF")]
-
-
-def parameter_leasts():
-    least = {"scans": 20000, "output off the exact one": 4000, "n at least 20, output off": 500, "output off by more than n / 2 steps": 20,
-             "refused": 200}
-    least.update({f"mode {mode}": 40 if mode == "Forced Manual" else 800 for mode in MODES})
-    least.update({f"{term}, automatic": 500 for term in TERMS})
-    least.update({"low alarm": 1000, "high alarm": 1000, "both alarms": 200, "no alarm": 500, "measured power": 500, "root": 2000,
-                  "output outside its limits in Hold or Track": 200, "output at LO": 500, "output at HO": 500, "minimum": 2})
-    return least
-
-
-def met_with_parameters(before, after, answer, automatic_scans):
-    """What one call met: the pairs of controllers before and after it, our answer, and the claim's n."""
-    stored, exact = after
-    yield "scans"
-    off = abs(stored.output - 65536 * exact.output)
-    if off:
-        yield "output off the exact one"
-        if 2 * off > automatic_scans:
-            yield "output off by more than n / 2 steps"
-        if automatic_scans >= 20:
-            yield "n at least 20, output off"
-    if answer[0] == "refused":
-        yield "refused"
-    else:
-        mode = mode_of(exact)
-        yield f"mode {mode}"
-        yield {0: "no alarm", 1: "one alarm", 2: "both alarms"}[exact.low_alarm + exact.high_alarm]
-        yield from (name for name, present in (("low alarm", exact.low_alarm), ("high alarm", exact.high_alarm),
-                                               ("measured power", exact.measured_power), ("root", exact.parameters.IC)) if present)
-        if mode in AUTOMATIC and not exact.open_count:
-            yield from (f"{term} {switch} {'ON' if on(exact.SW, SWITCHES[switch]) else 'OFF'}, automatic"
-                        for term in ("TI", "TD") if getattr(exact.parameters, term) for switch in ("S2.8", "S2.4"))
-        yield from met_at_the_limits(before[1], exact, mode)
-
-
-def met_at_the_limits(before, exact, mode):
-    if mode in ("Hold", "Track") and not exact.parameters.LO <= exact.output <= exact.parameters.HO:
-        yield "output outside its limits in Hold or Track"
-    if exact.output == exact.parameters.LO > 0:
-        yield "output at LO"
-    if exact.output == exact.parameters.HO < 9999:
-        yield "output at HO"
-    if exact.open_count == 85 and mode == "Forced Manual" and mode_of(before) in AUTOMATIC and on(exact.SW, 11):
-        yield "minimum"
-
-
-def too_few(counts, least):
-    """The names of what was too rarely met, with the count and the least."""
-    return [f"too few: {name}: {counts[name]}, at least {number} are due" for name, number in least.items() if counts[name] < number]

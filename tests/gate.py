@@ -25,7 +25,9 @@ STEPS = (
     ("the gate's own tests", [*PYTHON, "tests/gate_test.py"]),
     ("arithmetic against the reckoner", [*PYTHON, "tests/arithmetic.py", "target/bin/calculator"]),
     ("the reckoner's scans that the rules are proved to give", [*PYTHON, "tests/reckoned_scans.py"]),
-    ("scans against the reckoner", [*PYTHON, "tests/scans.py", "target/bin/console"]),
+    ("the reckoner's writes that the rules are proved to give", [*PYTHON, "tests/reckoned_writes.py"]),
+    ("calls against the reckoner", [*PYTHON, "tests/console.py", "target/bin/console"]),
+    ("the recorded sessions of two dryers", [*PYTHON, "demo/record.py", "--check"]),
     ("the console's speed", [*PYTHON, "tests/speed.py", "target/bin/console"]),
 )
 

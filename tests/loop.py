@@ -1,4 +1,4 @@
-"""The controller of document 01: its calls, its scan and its words, one text of the rules for both arithmetics.
+"""The controller of document 01: its calls and its scan, one text of the rules for both arithmetics.
 
 Made from document 01 and never from the code, so that a comparison of the two is a comparison with the paper.
 """
@@ -8,18 +8,9 @@ from functools import lru_cache
 import reckoner
 from reckoner import limit
 from state import OPEN_CAUSE, Controller, Input, Parameters
-
-# "SW bits 15 to 8 are switches S2.1 to S2.8 and bit 7 is S1.1, 1 = ON"
-S2_1, S2_2, S2_3, S2_4, S2_5, S2_6, S2_8, S1_1 = (1 << bit for bit in (15, 14, 13, 12, 11, 10, 8, 7))
-# "a pin byte (7 Hold, 6 Track, 5 Remote, 4 Computer, 3..0 unit address; 1 is 15 V)"
-HOLD_PIN, TRACK_PIN, REMOTE_PIN = 0x80, 0x40, 0x20
-# "a button byte laid out as MD bits 7..0": "7 Lower, 6 Raise, 5 zero, 4 measured power, 3 SP, 2 R, 1 A, 0 M"
-LOWER, RAISE, SP_BUTTON, R_BUTTON, A_BUTTON, M_BUTTON = 0x80, 0x40, 0x08, 0x04, 0x02, 0x01
-# "a sensor byte (0 channel 1 open, 1 battery low)"
-OPEN_SENSOR, BATTERY_SENSOR = 0x01, 0x02
-
-MODES = ("Hold", "Track", "Forced Manual", "Manual", "Auto", "Remote", "Ratio", "Fall-back")
-AUTOMATIC = ("Auto", "Remote", "Ratio", "Fall-back")
+from words import (A_BUTTON, AUTOMATIC, BATTERY_SENSOR, LOWER, M_BUTTON, OPEN_SENSOR, R_BUTTON, RAISE, S1_1, S2_1, S2_2, S2_3, S2_4, S2_5, S2_6,
+                   S2_8, SP_BUTTON, has_cause, mode_of, scan_words)
+from writes import read, write
 
 # The same numbers come again and again: what the reckoner answered is kept, to save time.
 scale = lru_cache(maxsize=1 << 17)(reckoner.scale)
@@ -60,6 +51,10 @@ def make(controller, call, arithmetic):
     word, *numbers = call
     if word == "fresh":
         return fresh(*numbers, arithmetic), ("ok",)
+    if word == "write":
+        return write(controller, *numbers, arithmetic)
+    if word == "read":
+        return read(controller, *numbers, arithmetic)
     assert word == "scan"
     return scan(controller, Input(*numbers), arithmetic)
 
@@ -86,15 +81,6 @@ def process_value(parameters, sample, is_open):
     return scale(parameters.channel_1L, parameters.channel_1H, sample)
 
 
-def has_open_cause(controller):
-    return controller.open_count >= OPEN_CAUSE
-
-
-def has_cause(controller):
-    """Step 2: "A cause is the memory fault, or the 85th and later consecutive open scan"."""
-    return controller.memory_fault or has_open_cause(controller)
-
-
 def requested(now):
     """Step 2: "With a cause the request becomes Manual in any mode.  Otherwise the first pressed of M, A, R sets the request"."""
     if has_cause(now):
@@ -103,23 +89,6 @@ def requested(now):
         if now.buttons & button:
             return request
     return now.request
-
-
-def mode_of(controller):
-    """Step 3: the mode, in priority order; "Mode and cause always follow the present state"."""
-    if not controller.pins & HOLD_PIN:
-        return "Hold"
-    if controller.pins & TRACK_PIN:
-        return "Track"
-    if has_cause(controller):
-        return "Forced Manual"
-    if controller.request == "M":
-        return "Manual"
-    if controller.request == "A":
-        return "Auto"
-    if not controller.pins & REMOTE_PIN:
-        return "Fall-back"
-    return "Ratio" if controller.SW & S2_1 else "Remote"
 
 
 def direction(buttons):
@@ -215,26 +184,3 @@ def remembering(before, now, is_open):
     if is_open:
         return now._replace(previous_PV=None, PV_before_previous=None, previous_SP=None)
     return now._replace(previous_PV=now.PV, PV_before_previous=before.previous_PV, previous_SP=now.SP)
-
-
-# Words ---------------------------------------------------------------------
-
-def MD(controller):
-    """Words: "MD: 15 Hold, 14 Track, 13 Manual or Forced, 12 Auto or Fall-back, 11 Remote or Ratio, 10 Remote pin, ..."."""
-    bit = {"Hold": 15, "Track": 14, "Manual": 13, "Forced Manual": 13, "Auto": 12, "Fall-back": 12, "Remote": 11, "Ratio": 11}
-    return (1 << bit[mode_of(controller)] | bool(controller.pins & REMOTE_PIN) << 10 | has_open_cause(controller) << 9
-            | controller.memory_fault << 8 | controller.buttons | controller.measured_power << 4)
-
-
-def DS(controller):
-    """Words: "DS: high byte the pin byte; 7, 6 user bits 2, 1; 5 is 0 in Hold, Manual, Forced; 4 is 0 in Remote, Ratio; 3 is 0 ..."."""
-    mode = mode_of(controller)
-    return (controller.pins << 8 | controller.user_bits << 6 | (mode not in ("Hold", "Manual", "Forced Manual")) << 5
-            | (mode not in ("Remote", "Ratio")) << 4 | (not controller.battery_low) << 3 | (not has_cause(controller)) << 2
-            | (not controller.low_alarm) << 1 | (not controller.high_alarm))
-
-
-def scan_words(controller, arithmetic):
-    """Words: "A scan answers MD, DS, OP and electrical output"; the last is OP, "or 9999 - OP with S2.2 ON"."""
-    OP = arithmetic.whole_units(controller.output)
-    return MD(controller), DS(controller), OP, 9999 - OP if controller.SW & S2_2 else OP

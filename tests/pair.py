@@ -2,7 +2,9 @@
 
 import loop
 from claim import Claim
+from console_lines import call_of, line_of
 from state import Exact, Stored
+from words import mode_of
 
 
 class Pair:
@@ -12,10 +14,10 @@ class Pair:
         self.claim = Claim()
         self.controllers = loop.fresh(0, Stored), loop.fresh(0, Exact)
 
-    def begin_with(self, change):
-        """Both controllers changed, each with its own arithmetic, before any call."""
-        stored, exact = self.controllers
-        self.controllers = change(stored, Stored), change(exact, Exact)
+    def bring_fault(self):
+        """The memory fault and the request Manual in both, as an accepted restart with the fault would bring them; no call does so yet."""
+        self.controllers = tuple(controller._replace(memory_fault=True, request="M") for controller in self.controllers)
+        self.claim.restart_brought_fault, self.claim.cleared_since = True, False
 
     def make(self, call):
         """Makes the call; our answer and the parts of the claim that were broken."""
@@ -23,4 +25,15 @@ class Pair:
         stored, answer = loop.make(before[0], call, Stored)
         exact, exact_answer = loop.make(before[1], call, Exact)
         self.controllers = stored, exact
-        return answer, self.claim.broken(call, before, self.controllers, (answer, exact_answer), loop.mode_of(stored))
+        return answer, self.claim.broken(call, before, self.controllers, (answer, exact_answer), mode_of)
+
+
+def answers_of(lines):
+    """The reckoner's answers to the lines, from the controller that is fresh with SW 0."""
+    controller, answers = loop.fresh(0, Stored), []
+    for line in lines:
+        call = call_of(line)
+        if call:
+            controller, answer = loop.make(controller, call, Stored)
+        answers.append(line_of(answer) if call else "error")
+    return answers

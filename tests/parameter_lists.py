@@ -1,14 +1,15 @@
-"""Call lists for controllers with other parameters than the defaults, drawn from a seed.
+"""Call lists for controllers with other parameters than the defaults, drawn from a seed and written right after a fresh start.
 
-The console has no write yet, so these lists are for the reckoner alone: the parameters are set before the first call as accepted writes right
-after a fresh start would leave them.  With such parameters the terms are really rounded, and the claim's bound has something to bound.
+With such parameters the terms are really rounded, and the claim's bound has something to bound.
 """
 
 import itertools
+import random
 
 import call_lists
 from reckoner import limit
 from state import Parameters
+from table import NUMBER, assert_legal, in_an_accepted_order
 
 ENOUGH_LISTS = 112
 
@@ -48,24 +49,18 @@ def draw_parameters(generator):
                       generator.choice((0, 0, 1)))
 
 
-def assert_legal(parameters):
-    """The table again, by number: ranges, and pairs in order."""
-    pairs = zip(parameters[0:12:2] + parameters[14:15], parameters[1:12:2] + parameters[15:16])
-    assert all(low < high if place < 3 else low <= high for place, (high, low) in enumerate(pairs))
-    assert all(-9999 <= number <= 9999 for number in parameters)
-    assert all(number >= 0 for number in parameters[12:19]) and min(parameters.HR, parameters.LR, parameters.XP) >= 1
-    assert parameters.LS <= parameters.SL <= parameters.HS and parameters.LR <= parameters.RS <= parameters.HR and parameters.IC in (0, 1)
+def writes_of(parameters, request, user_bits, measured_power, order=0):
+    """Writes right after a fresh start, each accepted, that leave these parameters, request (M or A), user bits and MD bit 4.
 
-
-def as_written(parameters, user_bits, measured_power):
-    """What writes do to a fresh controller: "HO or LO limits the output"; SL and RS are drawn within their limits."""
+    They come in an order drawn from the number given; SL is written in Auto, where S2.6 doesn't forbid it.
+    """
     assert_legal(parameters)
-
-    def change(controller, arithmetic):
-        lowest, highest = arithmetic.of_units(parameters.LO), arithmetic.of_units(parameters.HO)
-        return controller._replace(parameters=parameters, user_bits=user_bits, measured_power=measured_power,
-                                   output=limit(lowest, highest, controller.output))
-    return change
+    names = random.Random(order).sample(parameters._fields, len(parameters))
+    yield "write", NUMBER["MD"], 0x1000
+    for number, value in in_an_accepted_order(Parameters(), parameters._asdict(), names):
+        yield "write", number, value
+    yield "write", NUMBER["DS"], user_bits << 6
+    yield "write", NUMBER["MD"], {"M": 0x2000, "A": 0x1000}[request] | measured_power << 4
 
 
 def small_steps(operator):
@@ -101,15 +96,22 @@ def with_declined(operator, scans):
 
 
 def parameter_list(generator, number):
-    """What is set before the first call, and the calls: a fresh start, then scans; S2.5 is ON in most open runs."""
+    """The calls: a fresh start, writes, then scans; S2.5 is ON in most open runs."""
     operator = call_lists.Operator(generator, number)
     kind, length = ((small_steps, 170), (quick_and_long, 170), (small_steps, 170), (open_runs, 400))[number % 4]
     SW = call_lists.switch_word(generator)
     if kind is open_runs and generator.random() < 0.6:
         SW |= call_lists.POWER_FAIL
-    calls = [("fresh", SW), *itertools.islice(with_declined(operator, kind(operator)), length)]
-    return as_written(draw_parameters(generator), generator.getrandbits(2), generator.random() < 0.2), calls
+    scans = list(itertools.islice(with_declined(operator, kind(operator)), length))
+    writes = writes_of(draw_parameters(generator), "M", generator.getrandbits(2), generator.random() < 0.2, number)
+    return [("fresh", SW), *writes, *scans]
+
+
+def all_calls(generator):
+    """The calls of each list."""
+    return [parameter_list(generator, number) for number in range(ENOUGH_LISTS)]
 
 
 def all_lists(generator):
-    return [parameter_list(generator, number) for number in range(ENOUGH_LISTS)]
+    """Pairs of a list's kind and the list, in the form of tests/call_lists.py."""
+    return [("drawn parameters", list(call_lists.entries(call_lists.Operator(generator), calls))) for calls in all_calls(generator)]

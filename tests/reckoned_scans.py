@@ -2,7 +2,7 @@
 
 Usage: python3 tests/reckoned_scans.py [--write]
 
-The console can't be given parameters yet, so it shows nothing of alarms, root, bias, power or of the integral and derivative terms within a scan. These scans
+They show alarms, root, bias, power and all three terms within a scan, which the default parameters don't, and the memory fault. These scans
 are chosen until each thing of `things_met` is met by one, and crates/worked/specs/Reckoned.antt states of each that the rules give the reckoner's whole
 next state and answer. Without --write the test fails if that file isn't what the reckoner gives. The last line printed is 'N passed, M failed'.
 """
@@ -17,6 +17,7 @@ import parameter_lists
 import tally
 from reckoner import scale
 from state import Stored
+from words import mode_of
 
 FILE = pathlib.Path(__file__).resolve().parent.parent / "crates/worked/specs/Reckoned.antt"
 SEED = 6360
@@ -92,10 +93,13 @@ def things_met(before, given, after, mode):
 def scans_drawn():
     """Scans of the drawn lists, and each once more with the memory fault standing before it; declined ones left out."""
     generator = random.Random(SEED)
-    for change, calls in parameter_lists.all_lists(generator):
-        controller = change(loop.fresh(calls[0][1], Stored), Stored)
-        for _, *numbers in calls[1:]:
-            given = loop.Input(*numbers)
+    for calls in parameter_lists.all_calls(generator):
+        controller = None  # each list begins with a fresh start
+        for call in calls:
+            if call[0] != "scan":
+                controller = loop.make(controller, call, Stored)[0]
+                continue
+            given = loop.Input(*call[1:])
             if controller.parameters.IC and given.sample_1 <= 10000:
                 given = given._replace(sample_1=9900 + given.sample_1 % 100)  # the definition counts a root down from 10000
             faulty = controller._replace(memory_fault=True)
@@ -110,7 +114,7 @@ def chosen():
     """The first scan that meets something new, and so on."""
     met = set()
     for before, given, after, answer in scans_drawn():
-        new = things_met(before, given, after, loop.mode_of(after)) - met
+        new = things_met(before, given, after, mode_of(after)) - met
         if new:
             met |= new
             yield before, given, after, answer

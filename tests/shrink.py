@@ -3,7 +3,7 @@
 import collections
 import time
 
-from console_lines import GREATEST, call_of, line_of
+from console_lines import RANGES, call_of, line_of, with_number
 
 MANY_LINES = 300  # more than this are first made fewer
 
@@ -55,7 +55,7 @@ class Shrinking:
     def with_simple_columns(self, lines):
         """Plain lines for all other forms at once; then in all calls, or all but the last, something simpler at one place."""
         lines = self.still_wrong([line_of(call_of(line) or (line,)) for line in lines]) or lines
-        for place in range(1, 1 + max(map(len, GREATEST.values()))):
+        for place in range(1, 1 + max(map(len, RANGES.values()))):
             for simpler in simpler_columns([call_of(line)[place] for line in lines if has_number(line, place)]):
                 changed = [with_number(call_of(line), place, simpler(call_of(line)[place])) if has_number(line, place) else line for line in lines]
                 for candidate in (changed, changed[:-1] + lines[-1:]):
@@ -74,7 +74,7 @@ class Shrinking:
             for number_place in range(1, len(call_of(lines[place]))):
                 for number in simpler_numbers(call_of(lines[place])[number_place]):
                     call = call_of(lines[place])
-                    if number < call[number_place]:
+                    if abs(number) < abs(call[number_place]):
                         lines = self.still_wrong([*lines[:place], with_number(call, number_place, number), *lines[place + 1:]]) or lines
                     if place >= len(lines):
                         return lines
@@ -82,7 +82,7 @@ class Shrinking:
 
 
 def has_number(line, place):
-    """Whether the line is a scan with a number at this place; fresh starts are made simpler one by one."""
+    """Whether the line is a scan with a number at this place; the other calls are made simpler one by one."""
     call = call_of(line)
     return call is not None and call[0] == "scan" and place < len(call)
 
@@ -95,12 +95,9 @@ def simpler_columns(numbers):
         yield lambda number, bit=bit: number & ~(1 << bit)
 
 
-def with_number(call, place, number):
-    return line_of((*call[:place], number, *call[place + 1:]))
-
-
 def simpler_numbers(number):
-    """Zero, the number without one of its bits, and rounder numbers; the simplest first."""
-    fewer_bits = [number & ~(1 << bit) for bit in range(15, -1, -1) if number >> bit & 1]
-    rounder = [number - number % step for step in (5000, 1000, 100, 10)]
-    return list(dict.fromkeys(simpler for simpler in (0, *(rounder if number > 255 else []), *fewer_bits) if simpler < number))
+    """Zero, the number without one of its bits, and rounder numbers, with its sign; the simplest first."""
+    size, sign = abs(number), -1 if number < 0 else 1
+    fewer_bits = [size & ~(1 << bit) for bit in range(size.bit_length() - 1, -1, -1) if size >> bit & 1]
+    rounder = [size - size % step for step in (5000, 1000, 100, 10)]
+    return list(dict.fromkeys(sign * simpler for simpler in (0, *(rounder if size > 255 else []), *fewer_bits) if simpler < size))

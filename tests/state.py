@@ -6,6 +6,7 @@ The arithmetic given with a call decides what the output is.  Stored: a whole nu
 Exact: a fraction, in units, to which the limited terms are added unrounded.  Everything else is the same for both.
 """
 
+from collections import namedtuple
 from fractions import Fraction
 from functools import lru_cache
 from math import floor
@@ -13,6 +14,7 @@ from typing import NamedTuple
 
 import reckoner
 from reckoner import STEPS_IN_A_UNIT, TERM_LIMIT, limit
+from table import ROWS
 
 OPEN_CAUSE = 85  # "the 85th and later consecutive open scan"
 
@@ -42,6 +44,7 @@ class Exact:
     """The exact controller: "its output is a fraction of two whole numbers and its limited terms are added unrounded"."""
 
     @staticmethod
+    @lru_cache(maxsize=1 << 17)
     def of_units(units):
         return Fraction(units)
 
@@ -59,31 +62,8 @@ class Exact:
         return open_scans  # counts on
 
 
-class Parameters(NamedTuple):
-    """Parameters 1 to 23 in the order of their numbers, with the table's defaults."""
-    channel_1H: int = 1000
-    channel_1L: int = 0
-    channel_2H: int = 1000
-    channel_2L: int = 0
-    channel_3H: int = 1
-    channel_3L: int = 0
-    HR: int = 9999
-    LR: int = 1
-    HS: int = 1000
-    LS: int = 0
-    HA: int = 9999
-    LA: int = -9999
-    HD: int = 9999
-    LD: int = 9999
-    HO: int = 9999
-    LO: int = 0
-    XP: int = 1000
-    TI: int = 0
-    TD: int = 0
-    SL: int = 0
-    RS: int = 100
-    RB: int = 0
-    IC: int = 0
+# Parameters 1 to 23 in the order of their numbers, with the table's defaults
+Parameters = namedtuple("Parameters", [row.name for row in ROWS], defaults=[row.default for row in ROWS])
 
 
 class Controller(NamedTuple):

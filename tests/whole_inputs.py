@@ -25,6 +25,14 @@ BY_HAND = (
     ("a call after a line with NULs", f"\0\0\0\n{FIRST_SCAN}\n", f"error\n{FIRST_ANSWER}\n"),
     ("the greatest numbers", "fresh 65535\nscan 255 10000 10000 10000 207 3\n", "ok\nscan 17615 65335 9999 0\n"),
     ("one beyond the greatest", "fresh 65536\nscan 256 0 0 0 0 0\nscan 0 65536 0 0 0 0\nscan 0 65535 0 0 0 0\n", "error\n" * 3 + "refused 1\n"),
+    ("a write and reads", "write 20 5\nread 20\nread 29\n", "ok\nvalue 5\nvalue 0\n"),
+    ("a value below zero", "write 22 -5\nread 22\nwrite 022 -0006\nread 0022", "ok\nvalue -5\nok\nvalue -6\n"),
+    ("a fresh start ends what was written", "write 20 5\nfresh 0\nread 20\n", "ok\nok\nvalue 0\n"),
+    ("numbers outside 1 to 32", "write 0 0\nwrite 33 0\nwrite -5 0\nread 0\nread -1\nread 33\n", "refused 4\n" * 6),
+    ("the farthest numbers", f"read {'9' * 18}\nread -{'9' * 18}\nwrite {'9' * 18} 1\nread {'9' * 19}\nwrite -{'9' * 19} 1\n", "refused 4\n" * 3 + "error\n" * 2),
+    ("the ends of 32 bits", "write 22 2147483647\nwrite 22 2147483648\nwrite 22 -2147483648\nwrite 22 -2147483649\nwrite 0 2147483648\n",
+     "refused 6\nerror\nrefused 6\nerror\nerror\n"),
+    ("no writes and no reads", "write\nread\nwrite 20\nwrite 20 5 5\nread 20 5\nread\t20\nwrite 20 +5\nWrite 20 5\nwrite20 5\nread 20\n", "error\n" * 9 + "value 0\n"),
     ("the lowest refusal wins", "scan 0 10001 0 0 48 255\nscan 0 0 0 0 16 4\nscan 0 0 0 0 0 4\n", "refused 1\nrefused 2\nrefused 3\n"),
 )
 
@@ -45,9 +53,9 @@ def overlong():
 
 def cut_short(answers_of):
     """An input that ends after any byte of its last line."""
-    text = "fresh 1024\nscan 192 4990 20 5000 4 0\nscan 0160  10001 -0 070 66 03"
-    for length in range(text.index("\n") + 1, len(text) + 1):
-        yield f"cut after {length} bytes", text[:length], "".join(answer + "\n" for answer in answers_of(lines_in(text[:length])))
+    for text in ("fresh 1024\nscan 192 4990 20 5000 4 0\nscan 0160  10001 -0 070 66 03", "write 22 -7\nwrite 0022  -2147483649", "write 22 -7\nread 0022"):
+        for length in range(text.index("\n") + 1, len(text) + 1):
+            yield f"cut after {length} bytes", text[:length], "".join(answer + "\n" for answer in answers_of(lines_in(text[:length])))
 
 
 def whole(answers_of):

@@ -2,11 +2,14 @@
 ghost use Rattle.controller.specs.Valid.{Valid};
 use controller::Answer;
 use controller::Controller;
+use controller::ReadAnswer;
 use lines::Arguments;
 use signals::Input;
+use signals::Verdict;
 
 pub enum Reply {
     Accepted,
+    Value(i32),
     Words {
         md: u16,
         ds: u16,
@@ -37,6 +40,20 @@ fn reply_of(answer: Answer) -> Reply {
             electrical,
         },
         Answer::Refused(refusal) => Reply::Refused(refusal.number()),
+    }
+}
+
+fn reply_to_write(verdict: Verdict) -> Reply {
+    match verdict {
+        Verdict::Accepted => Reply::Accepted,
+        Verdict::Refused(refusal) => Reply::Refused(refusal.number()),
+    }
+}
+
+fn reply_to_read(answer: ReadAnswer) -> Reply {
+    match answer {
+        ReadAnswer::Value(v) => Reply::Value(v),
+        ReadAnswer::Refused(refusal) => Reply::Refused(refusal.number()),
     }
 }
 
@@ -118,6 +135,52 @@ fn scan(controller: Controller, values: [i64; 6]) -> Step
     no_call(controller)
 }
 
+// The number of a parameter, as a line has it: one below zero is no parameter's, and 0 stands for it.
+fn number_in(value: i64) -> u64 {
+    let size = integers::magnitude(value);
+    if integers::negative(value) { 0 } else { size }
+}
+
+fn written(controller: Controller, number: u64, value: i32) -> Step
+    requires { ⌜ Valid controller ⌝ }
+    ensures { λ r. ⌜ Valid (r .controller) ⌝ }
+{
+    let r = controller.write(number, value);
+    let next = r.controller;
+    let verdict = r.verdict;
+    Step {
+        controller: next,
+        reply: reply_to_write(verdict),
+    }
+}
+
+// write NUMBER VALUE: a value that 32 bits don't hold is no call
+fn write(controller: Controller, values: [i64; 6]) -> Step
+    requires { ⌜ Valid controller ⌝ }
+    ensures { λ r. ⌜ Valid (r .controller) ⌝ }
+{
+    let number = number_in(values[0]);
+    let v = values[1];
+    if integers::not_above(-2147483648, v) & integers::not_above(v, 2147483647) {
+        let value = integers::narrow(v);
+        return written(controller, number, value);
+    }
+    no_call(controller)
+}
+
+// read NUMBER
+fn read(controller: Controller, values: [i64; 6]) -> Step
+    requires { ⌜ Valid controller ⌝ }
+    ensures { λ r. ⌜ Valid (r .controller) ⌝ }
+{
+    let number = number_in(values[0]);
+    let answer = controller.read(number);
+    Step {
+        controller,
+        reply: reply_to_read(answer),
+    }
+}
+
 fn of_call(controller: Controller, name: &[u8], a: Arguments) -> Step
     requires { ⌜ Valid controller ⌝ }
     ensures { λ r. ⌜ Valid (r .controller) ⌝ }
@@ -125,6 +188,12 @@ fn of_call(controller: Controller, name: &[u8], a: Arguments) -> Step
     let values = a.values;
     if check::same(name, b"scan") && lines::has(a, 6) {
         return scan(controller, values);
+    }
+    if check::same(name, b"write") && lines::has(a, 2) {
+        return write(controller, values);
+    }
+    if check::same(name, b"read") && lines::has(a, 1) {
+        return read(controller, values);
     }
     if check::same(name, b"fresh") && lines::has(a, 1) {
         return fresh(controller, values);

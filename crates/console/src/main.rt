@@ -1,6 +1,8 @@
 // Reads calls of the controller on standard input, one to a line, and answers each with one line, until the end of the input:
 //     fresh SW                               ok
 //     scan PINS S1 S2 S3 BUTTONS SENSORS     scan MD DS OP ELECTRICAL, or refused N
+//     write NUMBER VALUE                     ok, or refused N
+//     read NUMBER                            value V, or refused N
 // A line that is no such call gets `error` and changes nothing. Before the first `fresh` the controller is fresh with SW 0.
 ghost use Rattle.controller.specs.Valid.{Valid};
 use controller::Controller;

@@ -19,9 +19,15 @@ fn refused(out: &mut [u8], used: usize, number: u8) -> usize {
     word(out, name, number as u16)
 }
 
+fn value(out: &mut [u8], used: usize, v: i32) -> usize {
+    let name = lines::bytes(out, used, b"value ");
+    lines::signed(out, name, integers::wide(v))
+}
+
 fn content(out: &mut [u8], used: usize, reply: Reply) -> usize {
     match reply {
         Reply::Accepted => lines::bytes(out, used, b"ok"),
+        Reply::Value(v) => value(out, used, v),
         Reply::Words {
             md,
             ds,

@@ -4,14 +4,26 @@ use lib.IntN.{ℤ, natAbs}
 use Rattle.integers.specs.Choice.{if_then_else_}
 use Rattle.signals.specs.Refusals.{numberOf}
 use Rattle.signals.specs.Signals.{switchesOf}
+use Rattle.signals.specs.declared.Verdict.{Verdict}
+use Rattle.signals.specs.declared.Verdict.the-variants.{Accepted}
+use Rattle.signals.specs.declared.Verdict.the-variants as verdict
 use Rattle.controller.specs.declared.Answer.{Answer}
 use Rattle.controller.specs.declared.Answer.the-variants.{Words, Refused}
 use Rattle.controller.specs.declared.Controller.{Controller}
 use Rattle.controller.specs.declared.Scanned.{Scanned}
+use Rattle.controller.specs.declared.Written.{Written}
+use Rattle.controller.specs.declared.ReadAnswer.{ReadAnswer}
+use Rattle.controller.specs.declared.ReadAnswer.the-variants.{Value}
+use Rattle.controller.specs.declared.ReadAnswer.the-variants as readanswer
 
--- "A scan answers MD, DS, OP and electrical output"; a call that is declined answers "the number alone"
 pub data Said : Type 0 where
+  -- "A scan answers MD, DS, OP and electrical output"
   words : (md ds op electrical : ℕ) → Said
+  -- "a read answers the value"
+  reading : ℤ → Said
+  -- "an accepted write, restart or save says only that it was accepted"
+  acceptance : Said
+  -- a call that is declined answers "the number alone"
   number : ℕ → Said
 
 -- the paper's number and values for each case of our answer
@@ -26,6 +38,19 @@ pub record Handed : Type 0 where
 
 abbrev pub handed : Scanned → Handed
 handed r = record { next = r .controller; answer = said (r .answer) }
+
+-- of a write
+abbrev pub saidOfWrite : Verdict → Said
+saidOfWrite Accepted = acceptance
+saidOfWrite (verdict.Refused refusal) = number (numberOf refusal)
+
+abbrev pub handedOfWrite : Written → Handed
+handedOfWrite r = record { next = r .controller; answer = saidOfWrite (r .verdict) }
+
+-- of a read, which hands back no controller: it changes nothing
+abbrev pub saidOfRead : ReadAnswer → Said
+saidOfRead (Value v) = reading v
+saidOfRead (readanswer.Refused refusal) = number (numberOf refusal)
 
 -- "OP is its floor in units": of a stored output, which is never below zero
 unfoldable pub opOf : ℤ → ℕ

@@ -1,5 +1,9 @@
 pub mod Answers
+pub mod Read
+pub mod ReadLaws
 pub mod Scan
 pub mod State
 pub mod Valid
 pub mod ValidLaws
+pub mod Write
+pub mod WriteLaws

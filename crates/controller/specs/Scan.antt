@@ -18,7 +18,7 @@ use Rattle.outputs.specs.History.{historyAfter}
 use Rattle.outputs.specs.Instruction.{keep, unlimited, Instruction, storedArithmetic, carriedOut}
 use Rattle.outputs.specs.Outputs.{instructionOf}
 use Rattle.outputs.specs.declared.Situation.{Situation}
-use Rattle.controller.specs.Answers.{Said, words, number, Handed, opOf, electricalOf}
+use Rattle.controller.specs.Answers.{Said, words, acceptance, number, Handed, opOf, electricalOf}
 use Rattle.controller.specs.declared.Controller.{Controller}
 use Rattle.controller.specs.declared.Core.{Core}
 
@@ -69,11 +69,18 @@ coreAfter c after x r =
 -- the answer but for OP and electrical output
 pub data Status : Type 0 where
   status : (md ds : ℕ) → Status
+  accepts : Status
   declined : ℕ → Status
 
 -- MD and DS of a state
+abbrev pub mdNow : Core → ℕ
+mdNow c = MD (modeNow c) (c .conditions) (c .marks) (c .shown)
+
+abbrev pub dsNow : Core → ℕ
+dsNow c = DS (modeNow c) (c .conditions) (c .marks) (c .shown)
+
 unfoldable pub statusOf : Core → Status
-statusOf c = status (MD (modeNow c) (c .conditions) (c .marks) (c .shown)) (DS (modeNow c) (c .conditions) (c .marks) (c .shown))
+statusOf c = status (mdNow c) (dsNow c)
 
 pub record Outcome : Type 0 where
   pub next : Core
@@ -107,6 +114,7 @@ scanCore more c i = unless (declinedBy (scanTests i)) c (accepted more c i)
 -- an answer with the OP and electrical output of a stored output
 abbrev pub withOutput : Status → ℕ → ℤ → Said
 withOutput (status md ds) sw output = words md ds (opOf output) (electricalOf sw output)
+withOutput accepts sw output = acceptance
 withOutput (declined n) sw output = number n
 
 -- the controller after a call whose outcome this is

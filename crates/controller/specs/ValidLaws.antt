@@ -3,27 +3,31 @@ use mathlib.Core.Path.{_≡_, refl}
 use mathlib.Core.Bool.{Bool, true, false, _||_}
 use mathlib.Core.List.{List, [], _∷_}
 use mathlib.Core.Option.{Option, some, none}
-use Prim.Native.Nat.{ℕ}
+use Prim.Native.Nat.{ℕ, _≤_}
 use native.Mathlib.Omega.{arith}
 use lib.Dec.{ltb}
+use lib.IntN.{ℤ, pos, natAbs, _-ℤ_}
 use borrow.Author.Tests.{ltb-false}
 use Rattle.integers.specs.Choice.{if_then_else_}
+use Rattle.integers.specs.Operations.{number, difference}
 use Rattle.integers.specs.Parts.{integers}
-use Rattle.terms.specs.Fraction.{storedUnits}
 use Rattle.signals.specs.Refusals.{declinedBy, scanTests}
 use Rattle.signals.specs.Signals.{isOpen}
 use Rattle.signals.specs.declared.Input.{Input}
 use Rattle.modes.specs.Modes.{counted, conditionsAfter}
 use Rattle.parameters.specs.Legal.{Legal}
 use Rattle.parameters.specs.LegalLaws.{defaults-legal}
+use Rattle.parameters.specs.Table.{L1, SL}
+use Rattle.parameters.specs.declared.Parameters.{Parameters}
 use Rattle.setpoints.specs.Reckoning.{reckoned}
-use Rattle.setpoints.specs.ReckoningLaws.{Sampled, reckoned-legal, pv-reading, setpoint-read, limited-setpoint}
+use Rattle.setpoints.specs.ReckoningLaws.{Reading, Sampled, reckoned-legal, pv-reading, setpoint-read, setpoint-reading, low-reading, power-reading, limited-setpoint}
+use Rattle.terms.specs.Fraction.{storedUnits}
 use Rattle.outputs.specs.Instruction.{carriedOut, changed, limitedTo}
 use Rattle.outputs.specs.OutputLaws.{Read, history-kept, output-stored}
 use Rattle.outputs.specs.declared.Situation.{Situation}
 use Rattle.controller.specs.Scan.{controllerAfter, situationOf, reckonedIn, coreAfter, Outcome, accepted, refused, unless, scanCore, handedBack, stepped, scan}
-use Rattle.controller.specs.State.{freshCore, freshController}
-use Rattle.controller.specs.Valid.{Valid}
+use Rattle.controller.specs.State.{startReadings, freshParameters, freshCore, freshController}
+use Rattle.controller.specs.Valid.{Valid, Readable}
 use Rattle.controller.specs.declared.Controller.{Controller}
 use Rattle.controller.specs.declared.Core.{Core}
 
@@ -64,25 +68,49 @@ read c x legal s =
       sp-read = setpoint-read (c .parameters) legal (limited-setpoint (c .parameters) legal (x .switches) (x .mode) _ _ _ (x .input));
     }
 
+difference-most : (a b : ℤ) → Reading a → Reading b → natAbs (a -ℤ b) ≤ 19998
+difference-most a b h k = omega (arith, difference a b, number a, number b, h .reading, k .reading)
+
+readable : (pv sp mp : ℤ) → Reading pv → Reading sp → Reading mp → Readable (record { pv = pv; sp = sp; er = pv -ℤ sp; mp = mp })
+readable pv sp mp h k l =
+    record {
+      pv-most = omega (arith, h .reading);
+      sp-most = omega (arith, k .reading);
+      er-most = difference-most pv sp h k;
+      mp-most = omega (arith, l .reading);
+    }
+
 -- ---- valid
+
+start-readable : (p : Parameters) → Legal p → Readable (startReadings p)
+unfolding startReadings
+start-readable p legal = readable (L1 p) (SL p) (pos 0) (low-reading p legal) (setpoint-reading p legal) (record { reading = omega arith })
 
 pub valid-fresh : (sw : ℕ) → Valid (freshController sw)
 unfolding freshController freshCore storedUnits
-valid-fresh sw = record { legal = defaults-legal; kept = tt; stored = record { not-below = omega (arith, integers); not-above = omega (arith, integers) } }
+valid-fresh sw =
+    record {
+      legal = defaults-legal;
+      kept = tt;
+      readable = start-readable freshParameters defaults-legal;
+      stored = record { not-below = omega (arith, integers); not-above = omega (arith, integers) };
+    }
 
 pub stepped-valid : (c : Controller) (i : Input) → Valid c → Sampled i → Valid (stepped c i)
-unfolding stepped controllerAfter accepted coreAfter situationOf reckonedIn
+unfolding stepped controllerAfter accepted coreAfter situationOf reckonedIn reckoned
 stepped-valid c i v s =
     let after = conditionsAfter counted (c .core .conditions) i in
     let x = situationOf (c .core) after i in
     let readings = reckonedIn (c .core) x .readings in
+    let r = read (c .core) x (v .legal) s in
     record {
       legal = reckoned-legal (c .core .parameters) (x .switches) (c .core .marks .measuredpower) (x .mode) i (v .legal);
-      kept = history-kept (c .core .history) (isOpen i) readings (v .kept) (read (c .core) x (v .legal) s);
+      kept = history-kept (c .core .history) (isOpen i) readings (v .kept) r;
+      readable = readable _ _ _ (r .pv-read) (r .sp-read) (power-reading (c .core .parameters) (v .legal) i s (c .core .marks .measuredpower));
       stored = output-stored (c .core .parameters) (v .legal) x readings (c .core .history) (c .output) (v .stored);
     }
 
--- the two ways a scan can go
+-- the two ways a call can go
 pub by-verdict : (P : Outcome → Type 0) (d : Option ℕ) (c : Core) (o : Outcome) → (d ≡ none → P o) → ((n : ℕ) → P (refused c n)) → P (unless d c o)
 by-verdict P none c o f g = f refl
 by-verdict P (some n) c o f g = g n

@@ -1,5 +1,5 @@
 -- Our answers are the exact controller's, with the OP and electrical output of our own stored output.
-use mathlib.Core.Path.{_≡_, refl}
+use mathlib.Core.Path.{_≡_, refl, ap, _∙_}
 use mathlib.Core.Bool.{Bool, true, false}
 use Prim.Native.Nat.{ℕ, _+_, _*_, _/_, _≤_, _<_}
 use native.Mathlib.Omega.{arith}
@@ -16,12 +16,15 @@ use Rattle.words.specs.declared.Marks.{Marks}
 use Rattle.words.specs.declared.Shown.{Shown}
 use Rattle.outputs.specs.OutputLaws.{Stored}
 use Rattle.controller.specs.Answers.{opOf, electricalOf}
-use Rattle.controller.specs.Scan.{modeNow, Status, status, declined, statusOf, accepted, refused, scanCore, withOutput}
+use Rattle.controller.specs.Read.{readIn, read}
+use Rattle.controller.specs.Scan.{modeNow, Status, status, accepts, declined, statusOf, accepted, refused, scanCore, withOutput}
 use Rattle.controller.specs.ValidLaws.{by-verdict}
+use Rattle.controller.specs.Write.{writeTests, writeAccepted, writeCore}
 use Rattle.controller.specs.declared.Controller.{Controller}
 use Rattle.controller.specs.declared.Core.{Core}
-use Rattle.guarantee.specs.Claim.{OwnOutput, shownAs, ShowsMode, SameAnswer, same-words, same-number}
-use Rattle.guarantee.specs.Exact.{Call, scan, oneMore, outcomeOf}
+use Rattle.guarantee.specs.Claim.{capped, OwnOutput, shownAs, ShowsMode, SameAnswer, same-words, same-acceptance, same-number, SameReading}
+use Rattle.guarantee.specs.Exact.{Call, scan, write, oneMore, outcomeOf}
+use Rattle.guarantee.proofs.Capped.{read-capped}
 use Rattle.guarantee.proofs.Modes.{mode-is-first}
 
 own-output : (c : Controller) → Stored (c .output) → OwnOutput c (opOf (c .output)) (electricalOf (c .core .sw) (c .output))
@@ -86,6 +89,7 @@ module _ (k : Conditions) (marks : Marks) (shown : Shown) where
 -- a status shows the mode of the state that it stands for
 abbrev pub StatusShows : Status → Core → Type 0
 StatusShows (status md ds) now = ShowsMode md now
+StatusShows accepts now = Unit
 StatusShows (declined n) now = Unit
 
 now-shows : (now : Core) → StatusShows (statusOf now) now
@@ -93,10 +97,25 @@ unfolding statusOf
 now-shows now = record { mode = modeNow now; present = mode-is-first now; shown = md-shows (now .conditions) (now .marks) (now .shown) (modeNow now) }
 
 pub outcome-shows : (c : Core) (x : Call) → let o = outcomeOf oneMore c x in StatusShows (o .answer) (o .next)
-unfolding outcomeOf scanCore refused accepted
+unfolding outcomeOf scanCore writeCore writeAccepted refused accepted
 outcome-shows c (scan i) =
     by-verdict (λ o. StatusShows (o .answer) (o .next)) (declinedBy (scanTests i)) c (accepted oneMore c i) (λ e. now-shows (accepted oneMore c i .next)) (λ n. tt)
+outcome-shows c (write number v) =
+    by-verdict (λ o. StatusShows (o .answer) (o .next)) (declinedBy (writeTests c number v)) c (writeAccepted c number v) (λ e. tt) (λ n. tt)
 
 pub same-answer : (c : Controller) (now : Core) (s : Status) → StatusShows s now → Stored (c .output) → SameAnswer c now (withOutput s (c .core .sw) (c .output)) s
 same-answer c now (status md ds) shows h = same-words shows (own-output c h)
+same-answer c now accepts shows h = same-acceptance
 same-answer c now (declined n) shows h = same-number
+
+-- ---- reads
+
+pub same-reading : (c : Controller) (now : Core) (n : ℕ) → c .core ≡ capped now → Stored (c .output) → SameReading c now n (read c n)
+unfolding read
+same-reading c now n e h =
+    record {
+      op = opOf (c .output);
+      electrical = electricalOf (c .core .sw) (c .output);
+      own = own-output c h;
+      same = ap (λ (k : Core). readIn k (opOf (c .output)) n) e ∙ read-capped now (opOf (c .output)) n;
+    }

@@ -5,7 +5,9 @@ use mathlib.Core.Option.{Option, some, none}
 use Prim.Native.Nat.{ℕ, min}
 use native.Mathlib.Omega.{arith}
 use lib.Dec.{leb, eqb}
+use lib.IntN.{ℤ}
 use borrow.Author.Tests.{leb-true, leb-false, le-leb, lt-leb, eqb-true, eqb-false, eq-eqb, ne-eqb}
+use Rattle.integers.specs.Choice.{if_then_else_}
 use Rattle.signals.specs.Refusals.{declinedBy, scanTests}
 use Rattle.signals.specs.Signals.{isOpen, buttonsOf}
 use Rattle.signals.specs.declared.Input.{Input}
@@ -13,15 +15,18 @@ use Rattle.modes.specs.Modes.{isCause, counted, opensAfter, requestAfter, condi
 use Rattle.modes.specs.declared.Conditions.{Conditions}
 use Rattle.modes.specs.declared.Mode.{Mode}
 use Rattle.words.specs.Words.{MD, DS, mdHigh, dsLow}
+use Rattle.words.specs.Written.{conditionsWritten, mdTests}
 use Rattle.words.specs.declared.Marks.{Marks}
 use Rattle.words.specs.declared.Shown.{Shown}
 use Rattle.outputs.specs.Instruction.{Instruction}
 use Rattle.outputs.specs.Outputs.{instructionOf}
 use Rattle.outputs.specs.declared.Situation.{Situation}
+use Rattle.controller.specs.Read.{readIn}
 use Rattle.controller.specs.Scan.{modeNow, situationOf, reckonedIn, shownAfter, coreAfter, Status, statusOf, Outcome, accepted, refused, unless, scanCore}
+use Rattle.controller.specs.Write.{wordOf, setpointTests, stateTests, writeTests, coreWith, mdWritten, dsWritten, parameterWritten, coreWritten, limitsWritten, writeAccepted, writeCore}
 use Rattle.controller.specs.declared.Core.{Core}
 use Rattle.guarantee.specs.Claim.{capped}
-use Rattle.guarantee.specs.Exact.{Call, scan, oneMore, outcomeOf}
+use Rattle.guarantee.specs.Exact.{Call, scan, write, oneMore, outcomeOf}
 
 abbrev pub cappedConditions : Conditions → Conditions
 cappedConditions k = record { request = k .request; fault = k .fault; opens = min 85 (k .opens); pins = k .pins }
@@ -91,6 +96,10 @@ status-capped : (c : Core) → statusOf (capped c) ≡ statusOf c
 unfolding statusOf capped
 status-capped c = rw (now-capped c, md-capped, ds-capped) refl
 
+pub read-capped : (c : Core) (op n : ℕ) → readIn (capped c) op n ≡ readIn c op n
+unfolding readIn capped
+read-capped c op n = rw (now-capped c, md-capped, ds-capped) refl
+
 -- what an accepted scan gives, by what it leaves of the conditions and by its situation
 outcomeIn : Core → Conditions → Situation → Outcome
 outcomeIn c after x =
@@ -126,15 +135,46 @@ accepted-capped c i =
     ap (λ (k : Conditions). outcomeIn (capped c) k (situationOf (capped c) k i)) (conditions-capped c i) ∙
     ap (λ (x : Situation). outcomeIn (capped c) (cappedConditions after) x) (situation-capped c after i) ∙ in-capped c after (situationOf c after i)
 
+-- ---- a write
+
+md-tests-capped : (k : Conditions) (word : ℕ) → mdTests (cappedConditions k) word ≡ mdTests k word
+unfolding mdTests
+md-tests-capped k word = rw late-capped refl
+
+tests-capped : (c : Core) (n : ℕ) (v : ℤ) → writeTests (capped c) n v ≡ writeTests c n v
+unfolding writeTests stateTests setpointTests capped
+tests-capped c n v = rw (now-capped c, md-tests-capped) refl
+
+written-capped : (c : Core) (n : ℕ) (v : ℤ) → coreWritten (capped c) n v ≡ capped (coreWritten c n v)
+unfolding coreWritten mdWritten dsWritten parameterWritten coreWith conditionsWritten capped
+written-capped c n v = go (eqb n 24) (eqb n 25)
+  where
+    go : (t u : Bool) → (if t then mdWritten (capped c) (wordOf v) else if u then dsWritten (capped c) (wordOf v) else parameterWritten (capped c) n v)
+        ≡ capped (if t then mdWritten c (wordOf v) else if u then dsWritten c (wordOf v) else parameterWritten c n v)
+    go true u = refl
+    go false true = refl
+    go false false = refl
+
+limits-capped : (c : Core) (n : ℕ) (v : ℤ) → limitsWritten (capped c) n v ≡ limitsWritten c n v
+unfolding limitsWritten capped
+limits-capped c n v = rw (now-capped c) refl
+
+write-capped : (c : Core) (n : ℕ) (v : ℤ) → writeAccepted (capped c) n v ≡ cappedOutcome (writeAccepted c n v)
+unfolding writeAccepted cappedOutcome
+write-capped c n v = rw (written-capped c n v, limits-capped c n v) refl
+
+-- ---- any call
+
 unless-capped : (d : Option ℕ) (c : Core) (o : Outcome) → unless d (capped c) (cappedOutcome o) ≡ cappedOutcome (unless d c o)
 unfolding refused cappedOutcome
 unless-capped none c o = refl
 unless-capped (some n) c o = refl
 
 pub outcome-capped : (c : Core) (x : Call) → outcomeOf counted (capped c) x ≡ cappedOutcome (outcomeOf oneMore c x)
-unfolding outcomeOf scanCore
+unfolding outcomeOf scanCore writeCore
 outcome-capped c (scan i) =
     ap (λ (o : Outcome). unless (declinedBy (scanTests i)) (capped c) o) (accepted-capped c i) ∙ unless-capped (declinedBy (scanTests i)) c (accepted oneMore c i)
+outcome-capped c (write n v) = rw (tests-capped c n v, write-capped c n v) (unless-capped (declinedBy (writeTests c n v)) c (writeAccepted c n v))
 
 pub capped-twice : (c : Core) → capped (capped c) ≡ capped c
 unfolding capped

@@ -1,30 +1,37 @@
 -- The long guarantee, for every switch word and every list of calls, over the contracts of the calls themselves.
 use mathlib.Core.Path.{_≡_, sym, ap, subst, _∙_}
-use mathlib.Core.List.{List}
+use mathlib.Core.List.{List, _∷_}
 use mathlib.Core.Option.{some}
 use Prim.Native.Nat.{ℕ}
-use Rattle.modes.specs.Modes.{counted}
+use lib.IntN.{ℤ}
 use Rattle.signals.specs.declared.Input.{Input}
-use Rattle.controller.specs.Answers.{Handed, handed}
+use Rattle.modes.specs.Modes.{counted}
+use Rattle.controller.specs.Answers.{Said, Handed, handed, handedOfWrite}
 use Rattle.controller.specs.Scan.{controllerAfter, modeNow, Status, Outcome, withOutput, handedBack}
 use Rattle.controller.specs.Scan as rules
+use Rattle.controller.specs.Valid.{Valid}
+use Rattle.controller.specs.Write as writes
 use Rattle.controller.specs.declared.Controller.{Controller}
 use Rattle.controller.specs.declared.Scanned.{Scanned}
-use Rattle.guarantee.specs.Claim.{capped, SameAnswer, SameAnswers, no-answer, and-answer}
+use Rattle.controller.specs.declared.Written.{Written}
+use Rattle.guarantee.specs.Claim.{capped, SameReading, SameAnswer, SameAnswers, no-answer, and-answer}
 use Rattle.guarantee.specs.Demand.{Demand3}
-use Rattle.guarantee.specs.Exact.{Call, scan, Calls, _then_, outcomeOf, exactAfter, exact, exactAnswer}
-use Rattle.guarantee.specs.Linked.{ScanEnsures, Linked, started, scanned, Ready}
-use Rattle.guarantee.proofs.Answers.{outcome-shows, same-answer}
+use Rattle.guarantee.specs.Exact.{Call, scan, write, Calls, _then_, outcomeOf, exactAfter, exact, exactAnswer}
+use Rattle.guarantee.specs.Linked.{ScanEnsures, WriteEnsures, Linked, started, scanned, wrote, Ready}
+use Rattle.guarantee.proofs.Answers.{outcome-shows, same-answer, same-reading}
 use Rattle.guarantee.proofs.Capped.{cappedOutcome, capped-twice, now-capped}
+use Rattle.guarantee.proofs.Faults.{fault-after}
+use Rattle.guarantee.proofs.Limits.{within-after}
 use Rattle.guarantee.proofs.Modes.{mode-is-first}
-use Rattle.guarantee.proofs.Ours.{ours, cores, outcomes, switch-word, opens-after, valid-after, bound-after, within-after, fault-after}
+use Rattle.guarantee.proofs.Ours.{ours, cores, outcomes, switch-word, opens-after, valid-after, bound-after}
 
 -- ---- what the contracts hand on is what the rules give
 
 pub linked : {word : ℕ} {xs : Calls} {hs : List Handed} {c : Controller} → Linked word xs hs c → c ≡ ours word xs
-unfolding ours rules.scan outcomeOf rules.scanCore
+unfolding ours rules.scan writes.write outcomeOf rules.scanCore
 linked (started r e) = e
 linked (scanned i r l e) = ap (λ (h : Handed). h .next) e ∙ ap (λ (k : Controller). rules.scan k i .next) (linked l)
+linked (wrote n v r l e) = ap (λ (h : Handed). h .next) e ∙ ap (λ (k : Controller). writes.write k n v .next) (linked l)
 
 -- what a call hands back, in the exact controller's answer and our own output
 handed-answer : (word : ℕ) (xs : Calls) (x : Call) → let h = handedBack (ours word xs) (outcomeOf counted (ours word xs .core) x) in
@@ -39,17 +46,28 @@ handed-answer word xs x =
     subst (λ (s : Status). SameAnswer next now (withOutput s (ours word xs .core .sw) (next .output)) (exactAnswer word xs x)) answers-are
     (subst (λ (sw : ℕ). SameAnswer next now (withOutput (exactAnswer word xs x) sw (next .output)) (exactAnswer word xs x)) (switch-word (ours word xs .core) x) answer)
 
--- the contract of a scan, made after these calls
+-- the contract of a scan, made after these calls, and that of a write
 scan-is : {word : ℕ} {xs : Calls} {hs : List Handed} {c : Controller} (i : Input) (r : Scanned) → Linked word xs hs c → ScanEnsures c i r →
     handed r ≡ handedBack (ours word xs) (outcomeOf counted (ours word xs .core) (scan i))
 unfolding rules.scan outcomeOf
 scan-is i r l e = e ∙ ap (λ (k : Controller). rules.scan k i) (linked l)
 
+write-is : {word : ℕ} {xs : Calls} {hs : List Handed} {c : Controller} (n : ℕ) (v : ℤ) (r : Written) → Linked word xs hs c → WriteEnsures c n v r →
+    handedOfWrite r ≡ handedBack (ours word xs) (outcomeOf counted (ours word xs .core) (write n v))
+unfolding writes.write outcomeOf
+write-is n v r l e = e ∙ ap (λ (k : Controller). writes.write k n v) (linked l)
+
+-- one answer more
+answered : {word : ℕ} {xs : Calls} {hs : List Handed} (x : Call) (h : Handed) → h ≡ handedBack (ours word xs) (outcomeOf counted (ours word xs .core) x) →
+    SameAnswers word xs hs → SameAnswers word (xs then x) (h ∷ hs)
+answered {word} {xs} x h e earlier =
+    and-answer earlier
+    (subst (λ (k : Handed). SameAnswer (k .next) (exact word (xs then x) .core) (k .answer) (exactAnswer word xs x)) (sym e) (handed-answer word xs x))
+
 answers : {word : ℕ} {xs : Calls} {hs : List Handed} {c : Controller} → Linked word xs hs c → SameAnswers word xs hs
-answers {word} (started r e) = no-answer
-answers {word} (scanned {xs = xs} i r l e) =
-    and-answer (answers l)
-    (subst (λ (h : Handed). SameAnswer (h .next) (exact word (xs then scan i) .core) (h .answer) (exactAnswer word xs (scan i))) (sym (scan-is i r l e)) (handed-answer word xs (scan i)))
+answers (started r e) = no-answer
+answers (scanned i r l e) = answered (scan i) (handed r) (scan-is i r l e) (answers l)
+answers (wrote n v r l e) = answered (write n v) (handedOfWrite r) (write-is n v r l e) (answers l)
 
 -- ---- demand 3
 
@@ -64,9 +82,14 @@ guarantee word calls hs c l =
       within-limits = rw e (within-after word calls);
       same-state = ap capped core-is ∙ capped-twice (exact word calls .core);
       same-answers = answers l;
+      same-reads = λ n r h.
+          subst (λ (said : Said). SameReading c (exact word calls .core) n said) (sym h)
+          (same-reading c (exact word calls .core) n core-is (rw e (valid-after word calls .stored)));
       bound = rw e (bound-after word calls);
     }
 
 -- every call's `requires` holds at every controller that the calls hand back: it shuts no call out
 pub ready : (word : ℕ) (calls : Calls) (hs : List Handed) (c : Controller) → Linked word calls hs c → Ready c
-ready word calls hs c l = λ i. rw (linked l) (valid-after word calls)
+ready word calls hs c l =
+    let valid : Valid c = rw (linked l) (valid-after word calls) in
+    record { scan-ready = λ i. valid; write-ready = λ n v. valid; read-ready = λ n. valid }

@@ -3,6 +3,8 @@ pub mod Bound
 pub mod Capped
 pub mod Counting
 pub mod Existence
+pub mod Faults
 pub mod Guarantee
+pub mod Limits
 pub mod Modes
 pub mod Ours

@@ -11,17 +11,17 @@ use lib.IntN.{ℤ, pos, _*ℤ_}
 use lib.Signed.{_≤ℤ_, _<ℤ_}
 use Rattle.integers.specs.Choice.{if_then_else_}
 use Rattle.signals.specs.Bits.{bit}
-use Rattle.signals.specs.declared.Input.{Input}
 use Rattle.modes.specs.declared.Mode.{Mode}
 use Rattle.modes.specs.declared.Mode.the-variants.{Hold, Track, Forced, Manual, Auto, Remote, Ratio, Fallback}
 use Rattle.modes.specs.declared.Request.{Request}
 use Rattle.modes.specs.declared.Request.the-variants as request
 use Rattle.parameters.specs.Table.{value}
-use Rattle.controller.specs.Answers.{Said, words, number, Handed}
-use Rattle.controller.specs.Scan.{Status, status, declined}
+use Rattle.controller.specs.Answers.{Said, words, acceptance, number, Handed}
+use Rattle.controller.specs.Read.{readIn}
+use Rattle.controller.specs.Scan.{Status, status, accepts, declined}
 use Rattle.controller.specs.declared.Controller.{Controller}
 use Rattle.controller.specs.declared.Core.{Core}
-use Rattle.guarantee.specs.Exact.{Call, scan, Calls, none, _then_, exact, exactAnswer}
+use Rattle.guarantee.specs.Exact.{Call, Calls, none, _then_, exact, exactAnswer}
 
 -- ---- the mode is the first in the priority order whose condition is present
 
@@ -122,6 +122,7 @@ pub record ShowsMode (md : ℕ) (now : Core) : Type 0 where
 -- an answer that was handed back with the controller c, beside that of the exact controller, which this call left in the state `now`
 pub data SameAnswer (c : Controller) (now : Core) : Said → Status → Type 0 where
   same-words : {md ds op electrical : ℕ} → ShowsMode md now → OwnOutput c op electrical → SameAnswer c now (words md ds op electrical) (status md ds)
+  same-acceptance : SameAnswer c now acceptance accepts
   same-number : {n : ℕ} → SameAnswer c now (number n) (declined n)
 
 -- every answer of the list, the latest first
@@ -130,8 +131,9 @@ pub data SameAnswers (word : ℕ) : Calls → List Handed → Type 0 where
   and-answer : {xs : Calls} {hs : List Handed} {x : Call} {h : Handed} →
       SameAnswers word xs hs → SameAnswer (h .next) (exact word (xs then x) .core) (h .answer) (exactAnswer word xs x) → SameAnswers word (xs then x) (h ∷ hs)
 
--- ---- "The memory fault stands exactly when the last accepted restart brought it and no accepted write of MD with bit 8 zero came after that restart."
-
--- a scan leaves it as it is; the calls that bring and clear it are not built yet, and each will be a case here
-pub data FaultStands : Calls → Type 0 where
-  after-scan : {xs : Calls} {i : Input} → FaultStands xs → FaultStands (xs then scan i)
+-- ---- reads: of a controller c, beside the exact controller's state `now`; OP is that of our own stored output
+pub record SameReading (c : Controller) (now : Core) (n : ℕ) (said : Said) : Type 0 where
+  pub op : ℕ
+  pub electrical : ℕ
+  pub own : OwnOutput c op electrical
+  pub same : said ≡ readIn now op n

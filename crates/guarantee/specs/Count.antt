@@ -8,10 +8,10 @@ use Rattle.integers.specs.Choice.{if_then_else_}
 use Rattle.signals.specs.Bits.{bit}
 use Rattle.modes.specs.declared.Mode.{Mode}
 use Rattle.modes.specs.declared.Mode.the-variants.{Hold, Track, Forced, Manual, Auto, Remote, Ratio, Fallback}
-use Rattle.controller.specs.Scan.{Status, status, declined}
+use Rattle.controller.specs.Scan.{Status, status, accepts, declined}
 use Rattle.controller.specs.declared.Core.{Core}
 use Rattle.guarantee.specs.Claim.{modeIn}
-use Rattle.guarantee.specs.Exact.{Call, scan, Calls, none, _then_, exact, exactAnswer}
+use Rattle.guarantee.specs.Exact.{Call, scan, write, Calls, none, _then_, exact, exactAnswer}
 
 -- ---- by the mode, as its conditions give it
 
@@ -55,11 +55,14 @@ manualOrForced Option.none = false
 
 abbrev pub isAccepted : Status → Bool
 isAccepted (status md ds) = true
+isAccepted accepts = true
 isAccepted (declined n) = false
 
--- consecutive open scans, told by the calls and by which of them were accepted: an accepted open scan is one more, an accepted scan that isn't open starts anew, a declined one counts as none
+-- consecutive open scans, told by the calls and by which of them were accepted: an accepted open scan is one more, an accepted scan that isn't open starts anew, a declined one counts as none, and so does
+-- a write
 unfoldable pub openAfter : Call → Status → ℕ → ℕ
 openAfter (scan i) answer n = if not (isAccepted answer) then n else if bit (i .sensors) 0 then n + 1 else 0
+openAfter (write number value) answer n = n
 
 unfoldable pub openScans : ℕ → Calls → ℕ
 openScans word none = 0
@@ -72,10 +75,12 @@ toMinimum before now = eqb (now .conditions .opens) 85 && automatic (modeIn befo
 -- "Track, minimum, start fresh and accepted restart set the output outright": an accepted scan in Track, or one in Manual or Forced that goes to minimum
 unfoldable pub setsOutright : Core → Core → Call → Bool
 setsOutright before now (scan i) = tracks (modeIn now) || manualOrForced (modeIn now) && toMinimum before now
+setsOutright before now (write number value) = false
 
 -- step 6: "Automatic and open: kept. Automatic otherwise, an automatic scan"
 unfoldable pub isAutomaticScan : Core → Call → Bool
 isAutomaticScan now (scan i) = automatic (modeIn now) && not (bit (i .sensors) 0)
+isAutomaticScan now (write number value) = false
 
 -- n after one call more
 unfoldable pub countAfter : Core → Core → Call → Status → ℕ → ℕ

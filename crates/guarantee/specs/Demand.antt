@@ -1,17 +1,19 @@
 -- Demand 3, the long guarantee, as README.md has it: after these calls, with these controllers and answers handed back, of the controller c.
 use mathlib.Core.Path.{_≡_}
-use mathlib.Core.Logic.{_↔_}
-use mathlib.Core.Bool.{true, false}
+use mathlib.Core.Bool.{false}
 use mathlib.Core.List.{List}
 use mathlib.Core.Option.{some}
 use Prim.Native.Nat.{ℕ, _*_}
 use Rattle.terms.specs.Near.{Near}
-use Rattle.controller.specs.Answers.{Handed}
+use Rattle.controller.specs.Answers.{Handed, saidOfRead}
 use Rattle.controller.specs.Scan.{modeNow}
 use Rattle.controller.specs.declared.Controller.{Controller}
-use Rattle.guarantee.specs.Claim.{modeIn, isHoldOrTrack, WithinLimits, capped, SameAnswers, FaultStands}
+use Rattle.controller.specs.declared.ReadAnswer.{ReadAnswer}
+use Rattle.guarantee.specs.Claim.{modeIn, isHoldOrTrack, WithinLimits, capped, SameAnswers, SameReading}
 use Rattle.guarantee.specs.Count.{openScans, automaticScans}
 use Rattle.guarantee.specs.Exact.{Calls, exact}
+use Rattle.guarantee.specs.Fault.{faultStands}
+use Rattle.guarantee.specs.Linked.{ReadEnsures}
 
 pub record Demand3 (word : ℕ) (calls : Calls) (hs : List Handed) (c : Controller) : Type 0 where
   -- the mode is the first in the priority order whose condition is present; conditions are read from the exact controller
@@ -19,11 +21,13 @@ pub record Demand3 (word : ℕ) (calls : Calls) (hs : List Handed) (c : Controll
   -- and the count of open scans behind Forced Manual is the one that the accepted calls of the list give
   pub opens-counted : exact word calls .core .conditions .opens ≡ openScans word calls
   -- the memory fault stands exactly when document 01 says so
-  pub fault-stands : (c .core .conditions .fault ≡ true) ↔ FaultStands calls
+  pub fault-stands : c .core .conditions .fault ≡ faultStands word calls
   -- outside Hold and Track the stored output is within its limits
   pub within-limits : isHoldOrTrack (modeNow (c .core)) ≡ false → WithinLimits c
   -- apart from the output, the whole state and every answer equal those of the exact controller, OP and electrical output being our own
   pub same-state : capped (c .core) ≡ capped (exact word calls .core)
   pub same-answers : SameAnswers word calls hs
+  -- and so does every read that is made now, which changes nothing
+  pub same-reads : (n : ℕ) (r : ReadAnswer) → ReadEnsures c n r → SameReading c (exact word calls .core) n (saidOfRead r)
   -- the stored output is within 3/2 × n × 1/65,536 unit of the exact controller's: `Near` counts halves of 1/65,536 unit
   pub bound : Near (c .output) (exact word calls .output) (3 * automaticScans word calls)

@@ -1,19 +1,22 @@
 -- Document 01, "The exact controller": the same steps and rules, its own copy of every state item, the output a fraction, the terms unrounded. It is fed
 -- the switch word and the calls, and nothing of ours.
 use Prim.Native.Nat.{ℕ, _+_}
-use lib.IntN.{pos}
-use Rattle.terms.specs.Fraction.{Fraction, whole}
+use lib.IntN.{ℤ, pos}
 use Rattle.signals.specs.declared.Input.{Input}
+use Rattle.terms.specs.Fraction.{Fraction, whole}
 use Rattle.outputs.specs.Instruction.{exactArithmetic, carriedOut}
 use Rattle.controller.specs.Scan.{Status, Outcome, scanCore}
 use Rattle.controller.specs.State.{freshCore}
+use Rattle.controller.specs.Write.{writeCore}
 use Rattle.controller.specs.declared.Core.{Core}
 
 -- ---- calls, and lists of them, the latest last
 
--- one kind of call so far; a further kind is a further case here, in `outcomeOf`, and in `Linked`
+-- a further kind of call is a further case here, in `outcomeOf`, and in `Linked`
 pub data Call : Type 0 where
   scan : Input → Call
+  -- of a value to the parameter with a number, any two numbers
+  write : ℕ → ℤ → Call
 
 infixl 20 _then_
 pub data Calls : Type 0 where
@@ -23,6 +26,7 @@ pub data Calls : Type 0 where
 -- what a call does, by the rules. `more` counts one more open scan
 unfoldable pub outcomeOf : (ℕ → ℕ) → Core → Call → Outcome
 outcomeOf more c (scan i) = scanCore more c i
+outcomeOf more c (write n v) = writeCore c n v
 
 -- ---- the exact controller
 

@@ -2,4 +2,5 @@ pub mod Claim
 pub mod Count
 pub mod Demand
 pub mod Exact
+pub mod Fault
 pub mod Linked

@@ -2,8 +2,10 @@
 use mathlib.Core.Path.{_≡_}
 use mathlib.Core.Bool.{true, false, cond}
 use Prim.Native.Nat.{ℕ, _^_, _<_, _≤_}
-use lib.IntN.{ℤ, pos, natAbs}
-use lib.Signed.{mag, ltZ}
+use native.Mathlib.Omega.{arith}
+use lib.IntN.{ℤ, pos, negsuc, negℤ, natAbs}
+use lib.Signed.{mag, leZ, ltZ}
+use borrow.Author.Tests.{leb-true}
 use mir.Syntax.{Width}
 use mir.Val.{SFits, toZ, ofZ, hbits}
 use mir.Facts.{toZ-ofZ}
@@ -33,3 +35,9 @@ module _ {w : Width} {a b : ℤ} (x y : ℤ) (fa : SFits w a) (fb : SFits w b) w
 
   pub choice-left : SFits w y → ltZ (toZ w (ofZ w a)) (toZ w (ofZ w b)) ≡ false → toZ w (ofZ w y) ≡ cond (ltZ a b) x y
   choice-left fy e = simp (toZ-ofZ fy, simp (toZ-ofZ fa, toZ-ofZ fb) at e)
+
+-- ---- a number that 32 bits hold
+
+pub held : (z : ℤ) → leZ (negℤ (pos 2147483648)) z ≡ true → leZ z (pos 2147483647) ≡ true → mag z < 2147483648
+held (pos n) low high = let h = leb-true n 2147483647 high in omega arith
+held (negsuc n) low high = let h = leb-true n 2147483647 low in omega arith

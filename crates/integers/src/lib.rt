@@ -3,7 +3,7 @@
 ghost use mathlib.Core.Path.{_≡_};
 ghost use Prim.Native.Nat.{_<_};
 ghost use lib.IntN.{natAbs, _+ℤ_, _-ℤ_};
-ghost use lib.Signed.{ltZ};
+ghost use lib.Signed.{leZ, ltZ, mag};
 ghost use Rattle.integers.specs.Choice.{if_then_else_};
 ghost use Rattle.integers.specs.Machine.{Small};
 ghost use Rattle.integers.specs.Sign.{fromSign, isNegative};
@@ -42,6 +42,13 @@ pub fn less(a: i64, b: i64) -> bool
     ensures { λ r. ⌜ r ≡ ltZ a b ⌝ }
 {
     a < b
+}
+
+// a ≤ b. The contract rules out < for ≤.
+pub fn not_above(a: i64, b: i64) -> bool
+    ensures { λ r. ⌜ r ≡ leZ a b ⌝ }
+{
+    a <= b
 }
 
 // x where the test holds, else y. The contract rules out the two exchanged.
@@ -115,4 +122,19 @@ pub fn nearest_even(n: u64, d: u64) -> u64
     } else {
         quotient + 1
     }
+}
+
+// A 32-bit number in 64 bits. The contract rules out a sign that is lost.
+pub fn wide(x: i32) -> i64
+    ensures { λ r. ⌜ r ≡ x ⌝ }
+{
+    x as i64
+}
+
+// A number that 32 bits hold, in 32 bits. The contract rules out a number that is cut.
+pub fn narrow(x: i64) -> i32
+    requires { ⌜ mag x < 2147483648 ⌝ }
+    ensures { λ r. ⌜ r ≡ x ⌝ }
+{
+    x as i32
 }

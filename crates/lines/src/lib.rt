@@ -219,6 +219,15 @@ pub fn decimal(out: &mut [u8], used: usize, n: u64) -> usize {
     bytes(out, used, &text[..k])
 }
 
+pub fn signed(out: &mut [u8], used: usize, x: i64) -> usize {
+    let size = integers::magnitude(x);
+    if integers::negative(x) {
+        let n = push(out, used, b'-');
+        return decimal(out, n, size);
+    }
+    decimal(out, used, size)
+}
+
 pub fn flush(out: &[u8], used: usize) {
     if used <= out.len() {
         io::write_all(STDOUT_FILENO, &out[0..used]);

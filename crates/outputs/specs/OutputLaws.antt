@@ -5,16 +5,13 @@ use Prim.Native.Nat.{ℕ, _+_, _≤_, min}
 use native.Mathlib.Omega.{arith}
 use lib.IntN.{ℤ, pos, natAbs, _+ℤ_, _-ℤ_, _*ℤ_}
 use lib.Signed.{_≤ℤ_}
-use Rattle.integers.specs.Choice.{if_then_else_, by-cases}
-use Rattle.integers.specs.Limit.{limited-low, limited-high}
 use mir.Syntax.{w64}
 use mir.Val.{toZ, ofZ}
+use Rattle.integers.specs.Choice.{if_then_else_, by-cases}
+use Rattle.integers.specs.Limit.{limited-low, limited-high}
 use Rattle.integers.specs.Machine.{Small, back}
 use Rattle.integers.specs.Operations.{Size, number, sum, difference, product, sum-size, difference-size}
 use Rattle.integers.specs.Parts.{integers, apart}
-use Rattle.terms.specs.Fraction.{Fraction, Positive, storedUnits, limitedStored}
-use Rattle.terms.specs.TermLaws.{term-size}
-use Rattle.terms.specs.Terms.{storedTerm, TuningRange}
 use Rattle.signals.specs.declared.Switches.{Switches}
 use Rattle.modes.specs.Modes.{isLimiting, isAutoOrFallback}
 use Rattle.modes.specs.declared.Mode.{Mode}
@@ -25,6 +22,9 @@ use Rattle.parameters.specs.Table.{H1, L1, HO, LO, XP, TI, TD}
 use Rattle.parameters.specs.declared.Parameters.{Parameters}
 use Rattle.setpoints.specs.ReckoningLaws.{Reading}
 use Rattle.setpoints.specs.declared.Readings.{Readings}
+use Rattle.terms.specs.Fraction.{Fraction, Positive, storedUnits, limitedStored}
+use Rattle.terms.specs.TermLaws.{term-size}
+use Rattle.terms.specs.Terms.{storedTerm, TuningRange}
 use Rattle.outputs.specs.Deviation.{deviation, earlierSetpoint, changeOfDeviation, secondDifference, tuningOf}
 use Rattle.outputs.specs.History.{remembered, historyAfter, recalled}
 use Rattle.outputs.specs.Instruction.{unlimited, between, storedArithmetic, changed, limitedTo, carriedOut}
@@ -225,6 +225,14 @@ module _ (p : Parameters) (legal : Legal p) where
   limited-stored mode y e =
       let r = ranges p legal in
       in-units-stored (LO p) (HO p) _ (r .outputs .not-below) (r .outputs .not-above) (output-in-units mode y e)
+
+  pub limited-still-stored : (mode : Mode) (y : ℤ) → Stored y → Stored (limitedTo storedArithmetic (limitsIn mode p) y)
+  unfolding limitsIn limitedTo
+  limited-still-stored mode y h = go (isLimiting mode) refl
+    where
+      go : (t : Bool) → isLimiting mode ≡ t → Stored (limitedTo storedArithmetic (limitsIn mode p) y)
+      go true e = limited-stored mode y e
+      go false e = rw e h
 
   stored-in : (mode : Mode) (x : Situation) (r : Readings) (h : History) (output : ℤ) → Stored output →
       Stored (limitedTo storedArithmetic (limitsIn mode p) (changed storedArithmetic (changeIn mode p x r h) output))

@@ -246,7 +246,8 @@ fn changed_in(p: Parameters, x: Situation, r: Readings, h: History, output: i64)
     }
 }
 
-fn limited_in(mode: Mode, p: Parameters, output: i64) -> i64
+// The stored output limited as its mode has it. The contract rules out an output limited in Hold or Track, and one that is not limited elsewhere.
+pub fn limited_in(mode: Mode, p: Parameters, output: i64) -> i64
     requires { ⌜ Legal p ⌝ }
     ensures { λ n. ⌜ n ≡ limitedTo storedArithmetic (limitsIn mode p) output ⌝ }
 {

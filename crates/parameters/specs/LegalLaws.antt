@@ -4,14 +4,15 @@ use mathlib.Core.Bool.{Bool, true, false, _&&_}
 use Prim.Native.Nat.{ℕ, _+_, _-_, _≤_, _<_}
 use native.Mathlib.Omega.{arith}
 use lib.Dec.{eqb, ltb}
-use lib.IntN.{ℤ, pos, negℤ}
+use lib.IntN.{ℤ, pos, negℤ, natAbs}
 use lib.ListN.{length, getD, set, length-set}
 use lib.Seq.{getD-set-same, getD-set-other}
 use lib.Signed.{leZ, ltZ, _≤ℤ_, _<ℤ_}
 use borrow.Author.Tests.{eqb-true, eqb-false, ltb-true, ltb-false}
-use Rattle.integers.specs.Choice.{if_then_else_, by-cases}
-use Rattle.integers.specs.Parts.{integers}
-use Rattle.parameters.specs.Legal.{Legal, keeps, isWithin, inOrder}
+use Rattle.integers.specs.Choice.{if_then_else_, by-cases, never}
+use Rattle.integers.specs.Operations.{number}
+use Rattle.integers.specs.Parts.{integers, apart}
+use Rattle.parameters.specs.Legal.{Legal, keeps, inRange, pairInOrder, isWithin, inOrder, partner}
 use Rattle.parameters.specs.Range.{Each, each-in, each-of}
 use Rattle.parameters.specs.Table.{value, withValue, ruleOf, defaults}
 use Rattle.parameters.specs.Table as t
@@ -46,21 +47,41 @@ value-with p k v size h n =
     (λ e. subst (λ (m : ℕ). getD (set (p .values) k v) m (pos 0) ≡ v) (sym (eqb-true n k e)) (getD-set-same (p .values) k v (pos 0) (omega arith)))
     (λ e. getD-set-other (p .values) k n v (pos 0) (eqb-false n k e))
 
-keeps-same : (r : Rule) (f g : ℕ → ℤ) (n : ℕ) → ((m : ℕ) → f m ≡ g m) → keeps r f n ≡ keeps r g n
+pub keeps-same : (r : Rule) (f g : ℕ → ℤ) (n : ℕ) → ((m : ℕ) → f m ≡ g m) → keeps r f n ≡ keeps r g n
 keeps-same Unknown f g n e = refl
 keeps-same ReadOnly f g n e = refl
-keeps-same (Word low high) f g n e = refl
+keeps-same (Word low high) f g n e = rw (e n) refl
 keeps-same (Free low high) f g n e = rw (e n) refl
-keeps-same (Pair low high strict) f g n e = rw (e n, e (n + 1), e (n - 1)) refl
+keeps-same (Pair low high strict) f g n e = rw (e n, e (partner n)) refl
 keeps-same (Between low high) f g n e = rw (e n, e low, e high) refl
 
-by-place : {A : Type 0} (n k : ℕ) → (n < k → A) → (n ≡ k → A) → (k < n → A) → A
+pub by-place : {A : Type 0} (n k : ℕ) → (n < k → A) → (n ≡ k → A) → (k < n → A) → A
 by-place {A} n k f g h = go (ltb n k) refl (eqb n k) refl
   where
     go : (s : Bool) → ltb n k ≡ s → (t : Bool) → eqb n k ≡ t → A
     go true e t d = f (ltb-true n k e)
     go false e true d = g (eqb-true n k d)
     go false e false d = h (omega (arith, ltb-false n k e, eqb-false n k d))
+
+pub and-true : {b : Bool} → b ≡ true → b && true ≡ true
+and-true e = rw e refl
+
+-- row by row: those before SL and RS, those after them, and these two
+pub legal-by : (p : Parameters) → length (p .values) ≡ 24 →
+    ((n : ℕ) → 1 ≤ n → n ≤ 19 → keeps (ruleOf n) (value p) n ≡ true) → ((n : ℕ) → 22 ≤ n → n ≤ 23 → keeps (ruleOf n) (value p) n ≡ true) →
+    keeps (ruleOf 20) (value p) 20 ≡ true → keeps (ruleOf 21) (value p) 21 ≡ true → Legal p
+legal-by p size before after sl rs =
+    let P : ℕ → Type 0 = λ m. keeps (ruleOf m) (value p) m ≡ true in
+    record {
+      size = size;
+      rules = λ n a b.
+          by-place n 20 (λ l. before n a (omega arith)) (λ q. subst P (sym q) sl)
+          (λ l. by-place n 21 (λ k. absurd (omega arith)) (λ q. subst P (sym q) rs) (λ k. after n (omega arith) b));
+    }
+
+pub rules-from : (p : Parameters) → Legal p → (many first : ℕ) → 1 ≤ first → first + many ≤ 24 → Each (λ (n : ℕ). keeps (ruleOf n) (value p) n ≡ true) first many
+rules-from p legal many first a b =
+    each-of (λ (n : ℕ). keeps (ruleOf n) (value p) n ≡ true) many first (λ n h l. legal .rules n (omega arith) (omega arith))
 
 -- ---- no other parameter's rule looks at SL or RS: within their limits they may take any values
 
@@ -78,22 +99,15 @@ module _ (p : Parameters) (legal : Legal p) (sl rs : ℤ) where
       value-with (withValue p 20 sl) 21 rs settings-size (omega arith) n ∙
       ap (λ (v : ℤ). if eqb n 21 then rs else v) (value-with p 20 sl (legal .size) (omega arith) n)
 
-  rules-from : (many first : ℕ) → 1 ≤ first → first + many ≤ 24 → Each (λ (n : ℕ). keeps (ruleOf n) (value p) n ≡ true) first many
-  rules-from many first a b =
-      each-of (λ (n : ℕ). keeps (ruleOf n) (value p) n ≡ true) many first (λ n h l. legal .rules n (omega arith) (omega arith))
-
   pub settings-legal : isWithin (t.LS p) (t.HS p) sl ≡ true → isWithin (t.LR p) (t.HR p) rs ≡ true → Legal (withValue (withValue p 20 sl) 21 rs)
   unfolding ruleOf withValue settings
   settings-legal e d =
-      let P : ℕ → Type 0 = λ m. keeps (ruleOf m) settings m ≡ true in
-      record {
-        size = length-set (set (p .values) 20 sl) 21 rs ∙ settings-size;
-        rules = λ n a b.
-            keeps-same (ruleOf n) (value (withValue (withValue p 20 sl) 21 rs)) settings n settings-are ∙
-            by-place n 20 (λ l. each-in P 19 1 n (rules-from 19 1 (omega arith) (omega arith)) a l) (λ q. subst P (sym q) e)
-            (λ l. by-place n 21 (λ k. absurd (omega arith)) (λ q. subst P (sym q) d)
-            (λ k. each-in P 2 22 n (rules-from 2 22 (omega arith) (omega arith)) k (omega arith)));
-      }
+      let q = withValue (withValue p 20 sl) 21 rs in
+      let same : (n : ℕ) → keeps (ruleOf n) (value q) n ≡ keeps (ruleOf n) settings n = λ n. keeps-same (ruleOf n) (value q) settings n settings-are in
+      legal-by q (length-set (set (p .values) 20 sl) 21 rs ∙ settings-size)
+      (λ n a b. same n ∙ each-in (λ (m : ℕ). keeps (ruleOf m) settings m ≡ true) 19 1 n (rules-from p legal 19 1 (omega arith) (omega arith)) a (omega arith))
+      (λ n a b. same n ∙ each-in (λ (m : ℕ). keeps (ruleOf m) settings m ≡ true) 2 22 n (rules-from p legal 2 22 (omega arith) (omega arith)) a (omega arith))
+      (same 20 ∙ and-true e) (same 21 ∙ and-true d)
 
 -- ---- what the rules come to, in orders of integers
 
@@ -125,12 +139,16 @@ pub record Ranges (p : Parameters) : Type 0 where
   pub ratio : Inside (t.LR p) (t.RS p) (t.HR p)
   pub bias : Inside (negℤ (pos 9999)) (t.RB p) (pos 9999)
 
-both : (a b : Bool) → a && b ≡ true → (a ≡ true) × (b ≡ true)
+pub both : (a b : Bool) → a && b ≡ true → (a ≡ true) × (b ≡ true)
 both true b e = (refl, e)
 both false b e = (e, let z : _≡_ {A = Bool} false true = e in cc)
 
 pub inside : (low high v : ℤ) → isWithin low high v ≡ true → Inside low v high
 inside low high v e = let h = both (leZ low v) (leZ v high) e in omega (arith, integers, h .0, h .1)
+
+-- of a row that asks for a range alone
+ranged : (low high v : ℤ) → (isWithin low high v && true) ≡ true → Inside low v high
+ranged low high v e = inside low high v (both (isWithin low high v) true e .0)
 
 -- the lower of a pair and the upper, from the rules of both
 ordered : (strict : Bool) (least most low high : ℤ) → (isWithin least most high && inOrder strict low high) ≡ true → (isWithin least most low && inOrder strict low high) ≡ true → Ordered least low high most
@@ -155,11 +173,50 @@ ranges p legal =
       ratios = ordered false _ _ _ _ (legal .rules 7 (omega arith) (omega arith)) (legal .rules 8 (omega arith) (omega arith));
       setpoints = ordered false _ _ _ _ (legal .rules 9 (omega arith) (omega arith)) (legal .rules 10 (omega arith) (omega arith));
       outputs = ordered false _ _ _ _ (legal .rules 15 (omega arith) (omega arith)) (legal .rules 16 (omega arith) (omega arith));
-      low-deviation = inside _ _ _ (legal .rules 14 (omega arith) (omega arith));
-      band = inside _ _ _ (legal .rules 17 (omega arith) (omega arith));
-      integral-time = inside _ _ _ (legal .rules 18 (omega arith) (omega arith));
-      derivative-time = inside _ _ _ (legal .rules 19 (omega arith) (omega arith));
-      setpoint = inside _ _ _ (legal .rules 20 (omega arith) (omega arith));
-      ratio = inside _ _ _ (legal .rules 21 (omega arith) (omega arith));
-      bias = inside _ _ _ (legal .rules 22 (omega arith) (omega arith));
+      low-deviation = ranged _ _ _ (legal .rules 14 (omega arith) (omega arith));
+      band = ranged _ _ _ (legal .rules 17 (omega arith) (omega arith));
+      integral-time = ranged _ _ _ (legal .rules 18 (omega arith) (omega arith));
+      derivative-time = ranged _ _ _ (legal .rules 19 (omega arith) (omega arith));
+      setpoint = ranged _ _ _ (legal .rules 20 (omega arith) (omega arith));
+      ratio = ranged _ _ _ (legal .rules 21 (omega arith) (omega arith));
+      bias = ranged _ _ _ (legal .rules 22 (omega arith) (omega arith));
     }
+
+-- ---- every value lies in -9999..9999
+
+abbrev bounded : Rule → Bool
+bounded Unknown = false
+bounded ReadOnly = false
+bounded (Word least most) = false
+bounded (Free least most) = isWithin (negℤ (pos 9999)) most least && leZ most (pos 9999)
+bounded (Pair least most strict) = isWithin (negℤ (pos 9999)) most least && leZ most (pos 9999)
+bounded (Between low high) = false
+
+between-most : (least most v : ℤ) → isWithin (negℤ (pos 9999)) most least && leZ most (pos 9999) ≡ true → isWithin least most v ≡ true → natAbs v ≤ 9999
+between-most least most v b e =
+    let h = both (isWithin (negℤ (pos 9999)) most least) (leZ most (pos 9999)) b in
+    let k = inside (negℤ (pos 9999)) most least (h .0) in
+    let i = inside least most v e in
+    omega (arith, integers, h .1, k .not-below, i .not-below, i .not-above, number v, apart v)
+
+bounded-most : (r : Rule) (f : ℕ → ℤ) (v : ℤ) → bounded r ≡ true → inRange r f v ≡ true → natAbs v ≤ 9999
+bounded-most Unknown f v b e = never b
+bounded-most ReadOnly f v b e = never b
+bounded-most (Word least most) f v b e = never b
+bounded-most (Free least most) f v b e = between-most least most v b e
+bounded-most (Pair least most strict) f v b e = between-most least most v b e
+bounded-most (Between low high) f v b e = never b
+
+pub value-most : (p : Parameters) → Legal p → (n : ℕ) → 1 ≤ n → n ≤ 23 → natAbs (value p n) ≤ 9999
+unfolding ruleOf
+value-most p legal n a b =
+    let r = ranges p legal in
+    let P : ℕ → Type 0 = λ m. natAbs (value p m) ≤ 9999 in
+    let B : ℕ → Type 0 = λ m. bounded (ruleOf m) ≡ true in
+    let most : (m : ℕ) → 1 ≤ m → m ≤ 23 → B m → P m = λ m h l e. bounded-most (ruleOf m) (value p) (value p m) e (both (inRange (ruleOf m) (value p) (value p m)) (pairInOrder (ruleOf m) (value p) m (value p m)) (legal .rules m h l) .0) in
+    by-place n 20
+    (λ l. most n a b (each-in B 19 1 n (refl, (refl, (refl, (refl, (refl, (refl, (refl, (refl, (refl, (refl, (refl, (refl, (refl, (refl, (refl, (refl, (refl, (refl, (refl, tt))))))))))))))))))) a (omega arith)))
+    (λ q. subst P (sym q) (omega (arith, integers, r .setpoints .not-below, r .setpoints .not-above, r .setpoint .not-below, r .setpoint .not-above, number (t.SL p), apart (t.SL p))))
+    (λ l. by-place n 21 (λ k. absurd (omega arith))
+    (λ q. subst P (sym q) (omega (arith, integers, r .ratios .not-below, r .ratios .not-above, r .ratio .not-below, r .ratio .not-above, number (t.RS p), apart (t.RS p))))
+    (λ k. most n a b (each-in B 2 22 n (refl, (refl, tt)) k (omega arith))))

@@ -3,3 +3,5 @@ pub mod LegalLaws
 pub mod Range
 pub mod RuleLaws
 pub mod Table
+pub mod Written
+pub mod WrittenLaws

@@ -1,10 +1,14 @@
--- The rows of the table: numbers of one row have one rule, and beyond 32 there is none.
-use mathlib.Core.Path.{_≡_}
+-- The rows of the table: numbers of one row have one rule, beyond 32 there is none, and which numbers can be written.
+use mathlib.Core.Path.{_≡_, refl, sym, ap, _∙_, subst}
+use mathlib.Core.Bool.{Bool, true, false}
 use Prim.Native.Nat.{ℕ, _+_, _≤_, _<_}
 use native.Mathlib.Omega.{arith}
-use borrow.Author.Tests.{le-leb, lt-leb}
+use lib.Dec.{eqb, leb, ltb}
+use borrow.Author.Tests.{le-leb, lt-leb, leb-true, eqb-true, eqb-false, ltb-true, ltb-false}
+use Rattle.integers.specs.Choice.{never}
+use Rattle.parameters.specs.Legal.{isUnknown, isReadOnly}
 use Rattle.parameters.specs.Range.{Each, each-in}
-use Rattle.parameters.specs.Table.{ruleOf}
+use Rattle.parameters.specs.Table.{ruleOf, isFrom}
 use Rattle.parameters.specs.declared.Rule.the-variants.{Unknown}
 
 pub row : (first many n : ℕ) → Each (λ (m : ℕ). ruleOf first ≡ ruleOf m) first many → first ≤ n → n < first + many → ruleOf first ≡ ruleOf n
@@ -41,3 +45,45 @@ row-beyond n h =
       le-leb 24 n (omega arith),
       le-leb 26 n (omega arith),
     )
+
+-- ---- a number tested for a range of numbers
+
+pub is-from : (n a b : ℕ) → isFrom n a b ≡ true → (a ≤ n) × (n ≤ b)
+is-from n a b e = go (leb a n) refl (leb n b) refl
+  where
+    go : (s : Bool) → leb a n ≡ s → (t : Bool) → leb n b ≡ t → (a ≤ n) × (n ≤ b)
+    go true q true d = (leb-true a n q, leb-true n b d)
+    go true q false d = never (sym (rw (q, d) refl) ∙ e)
+    go false q t d = never (sym (rw q refl) ∙ e)
+
+pub not-from : (n a b : ℕ) → isFrom n a b ≡ false → (m : ℕ) → a ≤ m → m ≤ b → m ≡ n → ⊥
+not-from n a b e m h l q =
+    let x : leb a n ≡ true = le-leb a n (omega arith) in
+    let y : leb n b ≡ true = le-leb n b (omega arith) in
+    never (sym e ∙ rw (x, y) refl)
+
+-- ---- which numbers have a parameter, and which of those can be written
+
+pub known : (n : ℕ) → isUnknown (ruleOf n) ≡ false → (1 ≤ n) × (n ≤ 32)
+unfolding ruleOf
+known n e = (go (eqb n 0) refl, here (ltb n 33) refl)
+  where
+    go : (t : Bool) → eqb n 0 ≡ t → 1 ≤ n
+    go true q = never (sym (subst (λ (m : ℕ). isUnknown (ruleOf m) ≡ false) (eqb-true n 0 q) e))
+    go false q = let h = eqb-false n 0 q in omega arith
+
+    here : (t : Bool) → ltb n 33 ≡ t → n ≤ 32
+    here true q = let h = ltb-true n 33 q in omega arith
+    here false q = never (sym (ap isUnknown (row-beyond n (ltb-false n 33 q)) ∙ e))
+
+-- parameters 1 to 23, MD and DS
+pub settable : (n : ℕ) → isUnknown (ruleOf n) ≡ false → isReadOnly (ruleOf n) ≡ false → n ≤ 25
+unfolding ruleOf
+settable n e d = go (ltb n 26) refl
+  where
+    go : (t : Bool) → ltb n 26 ≡ t → n ≤ 25
+    go true q = let h = ltb-true n 26 q in omega arith
+    go false q =
+        let h = ltb-false n 26 q in
+        let k = known n e in
+        never (sym (ap isReadOnly (row 26 7 n (refl, (refl, (refl, (refl, (refl, (refl, (refl, tt))))))) h (omega arith)) ∙ d))

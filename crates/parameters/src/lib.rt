@@ -2,6 +2,9 @@
 ghost use mathlib.Core.Path.{_≡_};
 ghost use Rattle.parameters.specs.Table.{value, withValue};
 
+mod rows;
+mod written;
+
 // The values by their numbers; entry 0 is not used.
 pub struct Parameters {
     pub values: [i64; 24],
@@ -9,8 +12,9 @@ pub struct Parameters {
 
 // What a parameter's number asks of a value that is written: the row of the table that it stands in.
 pub enum Rule {
-    // a number outside 1..32
+    // a number outside 1..32: refusal 4
     Unknown,
+    // refusal 5
     ReadOnly,
     // MD and DS: a range, from least to most, and rules of their own
     Word(i64, i64),

@@ -6,16 +6,13 @@ use native.Mathlib.Omega.{arith}
 use lib.Dec.{eqb}
 use lib.IntN.{ℤ, pos, negℤ, natAbs, _+ℤ_, _-ℤ_}
 use lib.Signed.{leZ, _≤ℤ_}
-use Rattle.integers.specs.Choice.{if_then_else_, by-cases}
-use Rattle.integers.specs.Limit.{limited, limited-low, limited-high}
 use mir.Syntax.{w64}
 use mir.Val.{toZ, ofZ}
+use Rattle.integers.specs.Choice.{if_then_else_, by-cases}
+use Rattle.integers.specs.Limit.{limited, limited-low, limited-high}
 use Rattle.integers.specs.Machine.{Small, back}
 use Rattle.integers.specs.Operations.{number, sum, difference, negation}
 use Rattle.integers.specs.Parts.{integers, apart}
-use Rattle.scaling.specs.Ratio.{RatioRange, ratioQuotient, inverseQuotient, ratio-size, inverse-size}
-use Rattle.scaling.specs.Root.{rootOf, root-most}
-use Rattle.scaling.specs.Scale.{scaled, ChannelRange, scaled-within}
 use Rattle.signals.specs.Signals.{buttonsOf, pushOf, isOpen}
 use Rattle.signals.specs.declared.Input.{Input}
 use Rattle.signals.specs.declared.Push.{Push}
@@ -27,8 +24,11 @@ use Rattle.parameters.specs.Legal.{Legal, isWithin}
 use Rattle.parameters.specs.LegalLaws.{Ordered, Inside, ranges, settings-legal}
 use Rattle.parameters.specs.Table.{H1, L1, H2, L2, H3, L3, HR, LR, HS, LS, SL, RS, RB, IC, LD}
 use Rattle.parameters.specs.declared.Parameters.{Parameters}
+use Rattle.scaling.specs.Ratio.{RatioRange, ratioQuotient, inverseQuotient, ratio-size, inverse-size}
+use Rattle.scaling.specs.Root.{rootOf, root-most}
+use Rattle.scaling.specs.Scale.{scaled, ChannelRange, scaled-within}
 use Rattle.setpoints.specs.Reckoning.{reckoned}
-use Rattle.setpoints.specs.Setpoints.{firstSample, processVariable, thirdChannel, moved, movedByHand, ratioAfter, setpointMoved, setpointAfter, trimOf, quotientOf, setpointOf}
+use Rattle.setpoints.specs.Setpoints.{firstSample, processVariable, thirdChannel, moved, movedByHand, ratioAfter, setpointMoved, setpointAfter, trimOf, quotientOf, setpointOf, measuredPower}
 
 -- the samples of an accepted scan
 pub record Sampled (i : Input) : Type 0 where
@@ -75,7 +75,7 @@ pub added-small : (ratioswitch : Bool) (trim : ℤ) → Small trim → Small (if
 added-small ratioswitch trim h = by-cases Small ratioswitch (pos 0) trim (λ e. record { small = omega arith }) (λ e. h)
 
 module _ (p : Parameters) (legal : Legal p) where
-  setpoint-reading : Reading (SL p)
+  pub setpoint-reading : Reading (SL p)
   setpoint-reading = let r = ranges p legal in inside-reading _ _ (SL p) _ _ (r .setpoints) (omega (arith, integers)) (omega (arith, integers)) (r .setpoint)
 
   ratio-reading : Reading (RS p)
@@ -178,6 +178,10 @@ module _ (p : Parameters) (legal : Legal p) where
     unfolding trimOf
     trim-reading measuredpower mode =
         by-cases Reading (isTrack mode || measuredpower) (pos 0) (thirdChannel p i) (λ e. record { reading = omega arith }) (λ e. third-reading)
+
+    pub power-reading : (measuredpower : Bool) → Reading (measuredPower p measuredpower i)
+    unfolding measuredPower
+    power-reading measuredpower = by-cases Reading measuredpower (thirdChannel p i) (pos 0) (λ e. third-reading) (λ e. record { reading = omega arith })
 
     -- q, and s of any sum
     pub ratio-range : (sum : ℤ) → RatioRange (scaled (L2 p) (H2 p) (i .sample2)) (natAbs (limited (LR p) (HR p) sum))

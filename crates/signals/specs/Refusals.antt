@@ -8,7 +8,7 @@ use Rattle.integers.specs.Choice.{if_then_else_}
 use Rattle.signals.specs.Bits.{bit}
 use Rattle.signals.specs.declared.Input.{Input}
 use Rattle.signals.specs.declared.Refusal.{Refusal}
-use Rattle.signals.specs.declared.Refusal.the-variants.{Sample, ButtonBits, SensorBits}
+use Rattle.signals.specs.declared.Refusal.the-variants.{Sample, ButtonBits, SensorBits, Number, ReadOnly, Range, Pair, Setpoint, RequestBits, RemotePin, Cause}
 use Rattle.signals.specs.declared.Verdict.{Verdict}
 use Rattle.signals.specs.declared.Verdict.the-variants.{Accepted, Refused}
 
@@ -17,6 +17,14 @@ abbrev pub numberOf : Refusal → ℕ
 numberOf Sample = 1
 numberOf ButtonBits = 2
 numberOf SensorBits = 3
+numberOf Number = 4
+numberOf ReadOnly = 5
+numberOf Range = 6
+numberOf Pair = 7
+numberOf Setpoint = 8
+numberOf RequestBits = 9
+numberOf RemotePin = 10
+numberOf Cause = 11
 
 -- and of a verdict: none where the call is accepted
 abbrev pub numberIn : Verdict → Option ℕ

@@ -51,11 +51,30 @@ pub enum Push {
     Neither,
 }
 
-// Why a call is declined.
+// Why a call is declined: 1 to 3 the plant's, 4 to 11 the writer's.
 pub enum Refusal {
+    // 1: a sample above 10000
     Sample,
+    // 2: button bits 5 or 4 set
     ButtonBits,
+    // 3: sensor bits above 1 set
     SensorBits,
+    // 4: a parameter number outside 1..32
+    Number,
+    // 5: a parameter that is read only
+    ReadOnly,
+    // 6: a value out of range
+    Range,
+    // 7: a pair out of order
+    Pair,
+    // 8: SL where the mode or S2.6 sets it
+    Setpoint,
+    // 9: not exactly one of MD bits 13, 12, 11
+    RequestBits,
+    // 10: MD bit 11 with the Remote pin 0
+    RemotePin,
+    // 11: MD bit 12 or 11 when a cause would remain
+    Cause,
 }
 
 pub enum Verdict {
@@ -148,6 +167,14 @@ impl Refusal {
             Refusal::Sample => 1,
             Refusal::ButtonBits => 2,
             Refusal::SensorBits => 3,
+            Refusal::Number => 4,
+            Refusal::ReadOnly => 5,
+            Refusal::Range => 6,
+            Refusal::Pair => 7,
+            Refusal::Setpoint => 8,
+            Refusal::RequestBits => 9,
+            Refusal::RemotePin => 10,
+            Refusal::Cause => 11,
         }
     }
 }

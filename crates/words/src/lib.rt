@@ -5,6 +5,8 @@ ghost use Rattle.words.specs.Words.{weight, byteOf, modeBit, dsBit5, dsB
 use modes::Conditions;
 use modes::Mode;
 
+pub mod written;
+
 // User bits 1 and 2, and MD bit 4: whether channel 3 is measured power.
 pub struct Marks {
     pub user1: bool,

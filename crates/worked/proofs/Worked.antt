@@ -1,29 +1,34 @@
 -- Document 01's figures worked by hand hold of the rules: each side of each equation computes to the same number.
 use mathlib.Core.Path.{_≡_, refl}
 use lib.Dec.{lit<}
+use lib.IntN.{pos}
 use Rattle.integers.specs.Rounding.{halfUp, halfEven, nearestAway, nearestEven}
 use Rattle.integers.specs.Limit as Limit
 use Rattle.signals.specs.Refusals.{declinedBy, scanTests}
 use Rattle.signals.specs.Signals.{buttonsOf, pinsOf, switchesOf, pushOf}
 use Rattle.modes.specs.Modes as m
 use Rattle.modes.specs.Modes.{counted, opensAfter}
-use Rattle.parameters.specs.Table.{value, withValue}
+use Rattle.words.specs.Written.{mdTests}
+use Rattle.words.specs.Words.{byteOf, mdHigh, mdLow, MD, dsLow, DS}
+use Rattle.parameters.specs.Table.{value, withValue, ruleOf}
+use Rattle.scaling.specs.Ratio.{ratioQuotient, inverseQuotient}
+use Rattle.scaling.specs.Scale.{scaled}
 use Rattle.setpoints.specs.Reckoning as r
 use Rattle.setpoints.specs.Setpoints as p
+use Rattle.terms.specs.Fraction.{whole, atLeast, atMost, limited, stored, storedUnits, limitedStored}
+use Rattle.terms.specs.Terms.{proportionalTerm, integralTerm, derivativeTerm, limitedTerm, storedTerm}
 use Rattle.outputs.specs.Deviation as d
 use Rattle.outputs.specs.Instruction as o
 use Rattle.outputs.specs.Outputs as u
 use Rattle.controller.specs.Answers as a
-use Rattle.controller.specs.Answers.{words}
+use Rattle.controller.specs.Answers.{words, number}
 use Rattle.controller.specs.Scan as s
 use Rattle.controller.specs.Scan.{scan}
 use Rattle.controller.specs.State as State
 use Rattle.controller.specs.State.{freshController}
-use Rattle.words.specs.Words.{byteOf, mdHigh, mdLow, MD, dsLow, DS}
-use Rattle.scaling.specs.Ratio.{ratioQuotient, inverseQuotient}
-use Rattle.scaling.specs.Scale.{scaled}
-use Rattle.terms.specs.Fraction.{whole, atLeast, atMost, limited, stored, storedUnits, limitedStored}
-use Rattle.terms.specs.Terms.{proportionalTerm, integralTerm, derivativeTerm, limitedTerm, storedTerm}
+use Rattle.controller.specs.Write as w
+use Rattle.controller.specs.Write.{write}
+use Rattle.controller.specs.declared.Controller.{Controller}
 use Rattle.worked.specs.Figures.{AllHold, firstScan, figures}
 
 infixr 5 _and_
@@ -33,6 +38,11 @@ a and b = (a, b)
 scan-figure : scan (freshController 0) firstScan .answer ≡ words 0x1002 0x913F 0 0
 unfolding s.scan s.scanCore s.accepted s.handedBack s.controllerAfter s.situationOf s.reckonedIn s.shownAfter s.coreAfter s.statusOf s.modeNow State.freshController State.freshCore State.startReadings a.opOf a.electricalOf declinedBy scanTests buttonsOf pinsOf switchesOf pushOf m.counted m.opensAfter m.conditionsAfter m.modeOf m.goesToMinimum byteOf mdHigh mdLow MD dsLow DS value withValue r.reckoned r.lowAlarm r.highAlarm p.firstSample p.processVariable p.thirdChannel p.movedByHand p.ratioAfter p.setpointMoved p.setpointAfter p.trimOf p.localSetpoint p.setpointIn p.setpointOf p.measuredPower scaled halfUp Limit.limited Limit.atLeast Limit.atMost d.deviation d.earlierSetpoint d.changeOfDeviation d.secondDifference d.tuningOf o.storedArithmetic o.changed o.limitedTo o.carriedOut u.termsOf u.byTerms u.limitsIn u.instructionOf proportionalTerm integralTerm derivativeTerm limitedTerm storedTerm whole atLeast atMost limited stored storedUnits limitedStored nearestEven halfEven
 scan-figure = refl
+
+-- each word is declined with 9 whatever else the state is
+write-figures : (c : Controller) → (write c 24 (pos 0x0000) ≡ record { next = c; answer = number 9 }) × (write c 24 (pos 0x1800) ≡ record { next = c; answer = number 9 })
+unfolding w.write w.writeCore w.writeTests w.stateTests mdTests ruleOf declinedBy s.handedBack s.controllerAfter s.refused o.changed o.limitedTo o.carriedOut
+write-figures c = (refl, refl)
 
 pub worked : AllHold figures
 unfolding figures proportionalTerm integralTerm derivativeTerm limitedTerm storedTerm whole atLeast atMost limited stored storedUnits nearestEven nearestAway halfEven halfUp scaled ratioQuotient inverseQuotient counted opensAfter byteOf mdHigh mdLow MD dsLow DS buttonsOf pinsOf switchesOf
@@ -48,4 +58,5 @@ worked =
     refl and
     refl and
     scan-figure and
+    (λ c. write-figures c .0) and (λ c. write-figures c .1) and
     tt

@@ -1,5 +1,5 @@
--- Document 01, "Worked by hand (all to be proved)": one list of statements about the rules, in the paper's order, but for those on writes and the image, which come
--- with them. proofs/Worked.antt proves it.
+-- Document 01, "Worked by hand (all to be proved)": one list of statements about the rules, in the paper's order, but for the one on the image, which comes
+-- with it. proofs/Worked.antt proves it.
 use mathlib.Core.Bool.{true, false}
 use mathlib.Core.List.{List, [], _∷_}
 use mathlib.Core.Path.{_≡_}
@@ -11,14 +11,16 @@ use Rattle.modes.specs.declared.Conditions.{Conditions}
 use Rattle.modes.specs.declared.Mode.the-variants.{Auto}
 use Rattle.modes.specs.declared.Request.the-variants as request
 use Rattle.words.specs.Words.{MD, DS}
-use Rattle.controller.specs.Answers.{words}
-use Rattle.controller.specs.Scan.{scan}
-use Rattle.controller.specs.State.{startShown, freshController}
 use Rattle.scaling.specs.Ratio.{ratioQuotient, inverseQuotient}
 use Rattle.scaling.specs.Scale.{scaled}
 use Rattle.terms.specs.Fraction.{Fraction, Positive, whole}
 use Rattle.terms.specs.Terms.{proportionalTerm, integralTerm, derivativeTerm, limitedTerm, storedTerm}
 use Rattle.terms.specs.declared.Tuning.{Tuning}
+use Rattle.controller.specs.Answers.{words, number}
+use Rattle.controller.specs.Scan.{scan}
+use Rattle.controller.specs.State.{startShown, freshController}
+use Rattle.controller.specs.Write.{write}
+use Rattle.controller.specs.declared.Controller.{Controller}
 
 -- every statement of a list holds
 abbrev pub AllHold : List (Type 0) → Type 0
@@ -75,4 +77,7 @@ figures =
     ∷ (DS Auto (inAuto 0x91) (record { user1 = false; user2 = false; measuredpower = false }) startShown ≡ 0x913F)
     -- the same of a whole scan: started fresh with SW 0, pins 91h, PV 500, A pressed
     ∷ (scan (freshController 0) firstScan .answer ≡ words 0x1002 0x913F 0 0)
+    -- "Writing 0000h or 1800h to MD: 9.", whatever the state, and the controller stays
+    ∷ ((c : Controller) → write c 24 (pos 0x0000) ≡ record { next = c; answer = number 9 })
+    ∷ ((c : Controller) → write c 24 (pos 0x1800) ≡ record { next = c; answer = number 9 })
     ∷ []

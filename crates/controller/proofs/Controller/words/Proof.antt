@@ -5,9 +5,6 @@ use Rattle.controller.specs.Scan.{statusOf}
 use Rattle.controller.proofs.Controller.words.Statement.{statement}
 use Rattle.controller.proofs.Controller.words.Tie as tie
 
-mode-requires : tie.Need-mode-requires
-mode-requires c κs = search needs
-
 md-requires : tie.Need-md-requires
 md-requires c κs = search needs
 
@@ -22,13 +19,9 @@ electrical-of-requires c κs = search needs
 
 returns : tie.Need-returns
 unfolding statusOf
-returns c =
-    let b = c .before .before .before .before in
-    let start = b .before .before .before .before .before .before .before in
-    simp (c .electrical-of .ensures, c .before .before .op-of .ensures .0, b .ds .ensures, b .before .md .ensures)
-    (simp (b .before .before .mode .ensures, stored-back (start .pre)))
+returns c = simp (c .electrical-of .ensures, c .before .before .op-of .ensures .0, c .before .before .before .before .ds .ensures, c .before .before .before .before .before .md .ensures)
+    (simp (stored-back (c .before .before .before .before .before .before .before .pre)))
 
 pub words-spec : {M : Type 1} → statement M
 words-spec =
-    tie.close
-    (tie.spec mode-requires md-requires ds-requires op-of-requires electrical-of-requires returns)
+    tie.close (tie.spec md-requires ds-requires op-of-requires electrical-of-requires returns)

@@ -1,0 +1,27 @@
+-- `controller::Controller::written` meets its contract.
+use mir.Facts.{toZ-ofZ}
+use mir.Syntax.{w64}
+use borrow.Author.Needs.{needs}
+use Rattle.integers.specs.Machine.{back}
+use Rattle.outputs.specs.Instruction.{changed, carriedOut}
+use Rattle.controller.specs.WriteLaws.{limits-legal}
+use Rattle.controller.specs.Write.{writeAccepted, controllerWritten}
+use Rattle.controller.specs.Scan.{controllerAfter}
+use Rattle.controller.proofs.Controller.written.Statement.{statement}
+use Rattle.controller.proofs.Controller.written.Tie as tie
+
+written-requires : tie.Need-written-requires
+written-requires c κs = search needs
+
+output-written-requires : tie.Need-output-written-requires
+output-written-requires c κs = let start = c .before .before in
+    simp (toZ-ofZ (start .fits .v)) (limits-legal (start .args .self .core) (start .args .number) (start .args .v) (start .pre .0 .legal) (start .pre .1))
+
+returns : tie.Need-returns
+unfolding controllerWritten controllerAfter writeAccepted carriedOut changed
+returns c = let start = c .before .before .before in
+    let output = c .output-written in
+    simp (back w64 (output .result) (output .ok)) (simp (output .ensures, c .before .written .ensures, toZ-ofZ (start .fits .v)))
+
+pub written-spec : {M : Type 1} → statement M
+written-spec = tie.close (tie.spec written-requires output-written-requires returns)

@@ -1,0 +1,108 @@
+-- Document 01, "Parameters", "Words" and "By whose hand a call is declined": a write, whole. As for a scan: the next state but for the output, the answer,
+-- and an instruction for the output, once for our controller and for the exact one.
+use mathlib.Core.Bool.{Bool, not, _&&_, _||_}
+use mathlib.Core.List.{List, [], _∷_}
+use Prim.Native.Nat.{ℕ, _%_}
+use lib.Dec.{eqb}
+use lib.IntN.{ℤ, natAbs}
+use Rattle.integers.specs.Choice.{if_then_else_}
+use Rattle.signals.specs.Refusals.{declinedBy}
+use Rattle.signals.specs.Signals.{switchesOf}
+use Rattle.modes.specs.Modes.{isAutomatic, isRemote, isRatio}
+use Rattle.modes.specs.declared.Conditions.{Conditions}
+use Rattle.words.specs.Written.{conditionsWritten, powerWritten, userBitsWritten, mdTests}
+use Rattle.words.specs.declared.Marks.{Marks}
+use Rattle.parameters.specs.Legal.{isUnknown, isReadOnly, inRange, pairInOrder}
+use Rattle.parameters.specs.Table.{value, ruleOf, isFrom}
+use Rattle.parameters.specs.Written.{written}
+use Rattle.parameters.specs.declared.Parameters.{Parameters}
+use Rattle.outputs.specs.Instruction.{keep, Limits, unlimited}
+use Rattle.outputs.specs.Outputs.{limitsIn}
+use Rattle.controller.specs.Answers.{Handed}
+use Rattle.controller.specs.Scan.{modeNow, accepts, Outcome, unless, controllerAfter, handedBack}
+use Rattle.controller.specs.declared.Controller.{Controller}
+use Rattle.controller.specs.declared.Core.{Core}
+
+-- ---- "Writer: 4 number outside 1..32 (reads too); 5 read only; 6 out of range; 7 pair out of order; 8 SL in Remote, Ratio, or with S2.6 ON in a
+-- non-automatic mode; 9 not exactly one of MD bits 13, 12, 11; 10 bit 11 with the Remote pin 0; 11 bit 12 or 11 when a cause would remain."
+
+-- 8
+unfoldable pub setpointTests : Core → List (Bool × ℕ)
+setpointTests c =
+    let mode = modeNow c in
+    (isRemote mode || isRatio mode || switchesOf (c .sw) .setpointtracks && not (isAutomatic mode), 8) ∷ []
+
+-- a value as a word: a value in 0..65535 itself. A value out of that range was declined with 6 before any bit of it is asked for
+abbrev pub wordOf : ℤ → ℕ
+wordOf v = natAbs v % 65536
+
+-- 8 for SL, number 20, and 9 to 11 for MD, number 24
+unfoldable pub stateTests : Core → ℕ → ℤ → List (Bool × ℕ)
+stateTests c n v =
+    if eqb n 20 then setpointTests c else
+    if eqb n 24 then mdTests (c .conditions) (wordOf v) else []
+
+-- 4 to 7 by the row of the table, then the rest: in the order of their numbers, since "the lowest number wins"
+unfoldable pub writeTests : Core → ℕ → ℤ → List (Bool × ℕ)
+writeTests c n v =
+    let row = ruleOf n in
+    let values = value (c .parameters) in
+    (isUnknown row, 4)
+    ∷ (isReadOnly row, 5)
+    ∷ (not (inRange row values v), 6)
+    ∷ (not (pairInOrder row values n v), 7)
+    ∷ stateTests c n v
+
+-- ---- what an accepted write leaves, but for the output
+
+-- a write changes no more than these three; of PV, SP, ER and MP, buttons, battery, alarms and the earlier PVs and SP "only scans and restarts change any"
+unfoldable pub coreWith : Core → Parameters → Conditions → Marks → Core
+coreWith c parameters conditions marks =
+    record {
+      sw = c .sw;
+      parameters = parameters;
+      conditions = conditions;
+      marks = marks;
+      readings = c .readings;
+      shown = c .shown;
+      history = c .history;
+    }
+
+-- "Writing MD takes bits 13, 12, 11 as the request and bit 4"
+unfoldable pub mdWritten : Core → ℕ → Core
+mdWritten c word = coreWith c (c .parameters) (conditionsWritten (c .conditions) word) (powerWritten (c .marks) word)
+
+-- "DS takes bits 7 and 6."
+unfoldable pub dsWritten : Core → ℕ → Core
+dsWritten c word = coreWith c (c .parameters) (c .conditions) (userBitsWritten (c .marks) word)
+
+-- parameters 1 to 23
+unfoldable pub parameterWritten : Core → ℕ → ℤ → Core
+parameterWritten c n v = coreWith c (written (c .parameters) n v) (c .conditions) (c .marks)
+
+unfoldable pub coreWritten : Core → ℕ → ℤ → Core
+coreWritten c n v =
+    if eqb n 24 then mdWritten c (wordOf v) else
+    if eqb n 25 then dsWritten c (wordOf v) else parameterWritten c n v
+
+-- "HO or LO limits the output unless the mode is Hold or Track": numbers 15 and 16, by the limits that are now written
+unfoldable pub limitsWritten : Core → ℕ → ℤ → Limits
+limitsWritten c n v = if isFrom n 15 16 then limitsIn (modeNow c) (written (c .parameters) n v) else unlimited
+
+-- ---- the whole
+
+-- an accepted write: it "says only that it was accepted"
+unfoldable pub writeAccepted : Core → ℕ → ℤ → Outcome
+writeAccepted c n v = record { next = coreWritten c n v; answer = accepts; instruction = record { change = keep; limits = limitsWritten c n v } }
+
+-- a write, declined or accepted
+unfoldable pub writeCore : Core → ℕ → ℤ → Outcome
+writeCore c n v = unless (declinedBy (writeTests c n v)) c (writeAccepted c n v)
+
+-- our controller after an accepted write
+unfoldable pub controllerWritten : Controller → ℕ → ℤ → Controller
+controllerWritten c n v = controllerAfter c (writeAccepted (c .core) n v)
+
+-- what `Controller::write` hands back
+unfoldable pub write : Controller → ℕ → ℤ → Handed
+write c n v = handedBack c (writeCore (c .core) n v)

@@ -1,0 +1,131 @@
+-- A write hands back a valid controller.
+use mathlib.Core.Path.{_≡_, refl, sym, _∙_, subst}
+use mathlib.Core.Bool.{Bool, true, false, not}
+use mathlib.Core.Option.{none}
+use Prim.Native.Nat.{ℕ, _≤_}
+use native.Mathlib.Omega.{arith}
+use lib.Dec.{eqb}
+use lib.IntN.{ℤ, pos, natAbs}
+use borrow.Author.Tests.{eqb-false, ne-eqb}
+use Rattle.integers.specs.Choice.{by-cases, never}
+use Rattle.integers.specs.Operations.{number}
+use Rattle.integers.specs.Parts.{integers, apart}
+use Rattle.signals.specs.Refusals.{declinedBy}
+use Rattle.words.specs.Written.{conditionsWritten}
+use Rattle.parameters.specs.Legal.{Legal, inRange, pairInOrder}
+use Rattle.parameters.specs.LegalLaws.{inside}
+use Rattle.parameters.specs.RuleLaws.{is-from, not-from, known, settable}
+use Rattle.parameters.specs.Table.{value, ruleOf, isFrom}
+use Rattle.parameters.specs.Written.{written}
+use Rattle.parameters.specs.WrittenLaws.{elsewhere, written-legal}
+use Rattle.outputs.specs.Instruction.{storedArithmetic, changed, limitedTo, carriedOut, Limits, unlimited}
+use Rattle.outputs.specs.OutputLaws.{Stored, limited-still-stored}
+use Rattle.controller.specs.Scan.{modeNow, refused, controllerAfter, handedBack}
+use Rattle.controller.specs.Valid.{Valid}
+use Rattle.controller.specs.ValidLaws.{passed, by-verdict}
+use Rattle.controller.specs.Write.{wordOf, writeTests, coreWith, mdWritten, dsWritten, parameterWritten, coreWritten, limitsWritten, writeAccepted, writeCore, controllerWritten, write}
+use Rattle.controller.specs.declared.Controller.{Controller}
+use Rattle.controller.specs.declared.Core.{Core}
+
+-- ---- what an accepted write has passed
+
+turned : (b : Bool) → not b ≡ false → b ≡ true
+turned true e = refl
+turned false e = never (sym e)
+
+-- an accepted word of MD is the value itself
+pub word-is : (c : Core) (n : ℕ) (v : ℤ) → declinedBy (writeTests c n v) ≡ none → n ≡ 24 → wordOf v ≡ natAbs v
+unfolding writeTests ruleOf
+word-is c n v accepted e =
+    let t = passed (writeTests c n v) accepted in
+    let w = subst (λ (m : ℕ). inRange (ruleOf m) (value (c .parameters)) v ≡ true) e (turned (inRange (ruleOf n) (value (c .parameters)) v) (t .1 .1 .0)) in
+    let k = inside (pos 0) (pos 65535) v w in
+    omega (arith, integers, k .not-below, k .not-above, number v, apart v)
+
+module _ (c : Core) (n : ℕ) (v : ℤ) (legal : Legal (c .parameters)) (accepted : declinedBy (writeTests c n v) ≡ none) where
+  -- a value in range and in order leaves the parameters legal, whichever of them it is
+  pub values-legal : (n ≡ 24 → ⊥) → (n ≡ 25 → ⊥) → Legal (written (c .parameters) n v)
+  unfolding writeTests
+  values-legal a b =
+      let t = passed (writeTests c n v) accepted in
+      let k = known n (t .0) in
+      let s = settable n (t .0) (t .1 .0) in
+      written-legal (c .parameters) legal n v (k .0) (omega arith) (turned (inRange (ruleOf n) (value (c .parameters)) v) (t .1 .1 .0))
+      (turned (pairInOrder (ruleOf n) (value (c .parameters)) n v) (t .1 .1 .1 .0))
+
+  pub core-legal : Legal (coreWritten c n v .parameters)
+  unfolding coreWritten mdWritten dsWritten parameterWritten coreWith
+  core-legal =
+      by-cases (λ (k : Core). Legal (k .parameters)) (eqb n 24) (mdWritten c (wordOf v)) _ (λ e. legal)
+      (λ e. by-cases (λ (k : Core). Legal (k .parameters)) (eqb n 25) (dsWritten c (wordOf v)) (parameterWritten c n v) (λ d. legal)
+      (λ d. values-legal (eqb-false n 24 e) (eqb-false n 25 d)))
+
+  -- HO and LO
+  pub limits-legal : isFrom n 15 16 ≡ true → Legal (written (c .parameters) n v)
+  limits-legal e = let h = is-from n 15 16 e in values-legal (λ q. omega arith) (λ q. omega arith)
+
+  -- any other write leaves HO and LO
+  pub limits-stay : isFrom n 15 16 ≡ false → (m : ℕ) → 15 ≤ m → m ≤ 16 → value (coreWritten c n v .parameters) m ≡ value (c .parameters) m
+  unfolding coreWritten mdWritten dsWritten parameterWritten coreWith writeTests
+  limits-stay e m h l =
+      by-cases (λ (k : Core). value (k .parameters) m ≡ value (c .parameters) m) (eqb n 24) (mdWritten c (wordOf v)) _ (λ d. refl)
+      (λ d. by-cases (λ (k : Core). value (k .parameters) m ≡ value (c .parameters) m) (eqb n 25) (dsWritten c (wordOf v)) (parameterWritten c n v) (λ f. refl)
+      (λ f.
+      let t = passed (writeTests c n v) accepted in
+      let k = known n (t .0) in
+      let s = settable n (t .0) (t .1 .0) in
+      let a = eqb-false n 24 d in
+      let b = eqb-false n 25 f in
+      elsewhere (c .parameters) legal n v (k .0) (omega arith) m (λ q. omega arith) (λ q. omega arith) ∙ rw (ne-eqb m n (not-from n 15 16 e m h l)) refl))
+
+-- ---- what no write touches
+
+module _ (c : Core) (n : ℕ) (v : ℤ) where
+  -- the three kinds of write
+  pub by-kind : (P : Core → Type 0) → P (mdWritten c (wordOf v)) → P (dsWritten c (wordOf v)) → P (parameterWritten c n v) → P (coreWritten c n v)
+  unfolding coreWritten
+  by-kind P a b d = by-cases P (eqb n 24) _ _ (λ e. a) (λ e. by-cases P (eqb n 25) _ _ (λ f. b) (λ f. d))
+
+  pub sw-stays : coreWritten c n v .sw ≡ c .sw
+  unfolding mdWritten dsWritten parameterWritten coreWith
+  sw-stays = by-kind (λ k. k .sw ≡ c .sw) refl refl refl
+
+  pub readings-stay : coreWritten c n v .readings ≡ c .readings
+  unfolding mdWritten dsWritten parameterWritten coreWith
+  readings-stay = by-kind (λ k. k .readings ≡ c .readings) refl refl refl
+
+  pub history-stays : coreWritten c n v .history ≡ c .history
+  unfolding mdWritten dsWritten parameterWritten coreWith
+  history-stays = by-kind (λ k. k .history ≡ c .history) refl refl refl
+
+  pub opens-stay : coreWritten c n v .conditions .opens ≡ c .conditions .opens
+  unfolding mdWritten dsWritten parameterWritten coreWith conditionsWritten
+  opens-stay = by-kind (λ k. k .conditions .opens ≡ c .conditions .opens) refl refl refl
+
+  pub pins-stay : coreWritten c n v .conditions .pins ≡ c .conditions .pins
+  unfolding mdWritten dsWritten parameterWritten coreWith conditionsWritten
+  pins-stay = by-kind (λ k. k .conditions .pins ≡ c .conditions .pins) refl refl refl
+
+-- ---- valid
+
+pub written-valid : (c : Controller) (n : ℕ) (v : ℤ) → Valid c → declinedBy (writeTests (c .core) n v) ≡ none → Valid (controllerWritten c n v)
+unfolding controllerWritten controllerAfter writeAccepted carriedOut changed limitedTo limitsWritten
+written-valid c n v valid accepted =
+    record {
+      legal = core-legal (c .core) n v (valid .legal) accepted;
+      kept = rw (history-stays (c .core) n v) (valid .kept);
+      readable = rw (readings-stay (c .core) n v) (valid .readable);
+      stored =
+          by-cases (λ (l : Limits). Stored (limitedTo storedArithmetic l (c .output))) (isFrom n 15 16) _ unlimited
+          (λ e. limited-still-stored _ (limits-legal (c .core) n v (valid .legal) accepted e) (modeNow (c .core)) (c .output) (valid .stored))
+          (λ e. unlimited-stored);
+    }
+  where
+    unlimited-stored : Stored (limitedTo storedArithmetic unlimited (c .output))
+    unlimited-stored = valid .stored
+
+pub valid-write : (c : Controller) (n : ℕ) (v : ℤ) → Valid c → Valid (write c n v .next)
+unfolding write writeCore handedBack controllerAfter refused carriedOut changed limitedTo controllerWritten
+valid-write c n v valid =
+    by-verdict (λ o. Valid (handedBack c o .next)) (declinedBy (writeTests (c .core) n v)) (c .core) (writeAccepted (c .core) n v)
+    (λ e. written-valid c n v valid e) (λ m. valid)

@@ -1,0 +1,192 @@
+// Writes: whether one is accepted, and what it leaves.
+ghost use mathlib.Core.Path.{_≡_};
+ghost use mathlib.Core.Bool.{true};
+ghost use mathlib.Core.Option.{none};
+ghost use Rattle.parameters.specs.Legal.{Legal};
+ghost use Rattle.parameters.specs.Table.{isFrom};
+ghost use Rattle.parameters.specs.Written.{written};
+ghost use Rattle.signals.specs.Refusals.{numberIn, declinedBy};
+ghost use Rattle.outputs.specs.Instruction.{storedArithmetic, limitedTo};
+ghost use Rattle.controller.specs.Answers.{handedOfWrite};
+ghost use Rattle.controller.specs.Valid.{Valid};
+ghost use Rattle.controller.specs.Write.{setpointTests, wordOf, stateTests, writeTests, coreWith, mdWritten, dsWritten, parameterWritten, coreWritten, limitsWritten, controllerWritten, write};
+use crate::Controller;
+use crate::Core;
+use crate::Written;
+use modes::Conditions;
+use parameters::Parameters;
+use signals::Refusal;
+use signals::Verdict;
+use words::Marks;
+
+fn word_of(v: i64) -> u16
+    ensures { λ r. ⌜ r ≡ wordOf v ⌝ }
+{
+    (integers::magnitude(v) % 65536) as u16
+}
+
+impl Core {
+    // Refusal 8. The contract rules out one in Auto and Fall-back, and one with S2.6 OFF.
+    fn setpoint_verdict(self) -> Verdict
+        ensures { λ r. ⌜ numberIn r ≡ declinedBy (setpointTests self) ⌝ }
+    {
+        let s = signals::switches_of(self.sw);
+        let mode = self.mode();
+        let remote = modes::is_remote(mode);
+        let ratio = modes::is_ratio(mode);
+        let automatic = modes::is_automatic(mode);
+        if remote | ratio | (s.setpointtracks & !automatic) {
+            return Verdict::Refused(Refusal::Setpoint);
+        }
+        Verdict::Accepted
+    }
+
+    // Refusals 8 to 11, of a value that the table accepts.
+    fn state_verdict(self, number: u64, v: i64) -> Verdict
+        ensures { λ r. ⌜ numberIn r ≡ declinedBy (stateTests self number v) ⌝ }
+    {
+        let conditions = self.conditions;
+        let word = word_of(v);
+        match number {
+            20 => self.setpoint_verdict(),
+            24 => words::written::md_verdict(conditions, word),
+            _ => Verdict::Accepted,
+        }
+    }
+
+    // Whether a write is accepted. The contract rules out a refusal for another cause, one that is forgotten, and a higher number where a lower one
+    // applies.
+    fn write_verdict(self, number: u64, v: i64) -> Verdict
+        ensures { λ r. ⌜ numberIn r ≡ declinedBy (writeTests self number v) ⌝ }
+    {
+        let p = self.parameters;
+        let rule = Controller::rule(number);
+        if rule.is_unknown() {
+            return Verdict::Refused(Refusal::Number);
+        }
+        if rule.is_read_only() {
+            return Verdict::Refused(Refusal::ReadOnly);
+        }
+        if !rule.in_range(p, v) {
+            return Verdict::Refused(Refusal::Range);
+        }
+        if !rule.pair_in_order(p, number as usize, v) {
+            return Verdict::Refused(Refusal::Pair);
+        }
+        self.state_verdict(number, v)
+    }
+
+    // The same but for these three: what else there is no write touches.
+    fn with(self, parameters: Parameters, conditions: Conditions, marks: Marks) -> Core
+        ensures { λ r. ⌜ r ≡ coreWith self parameters conditions marks ⌝ }
+    {
+        let readings = self.readings;
+        let shown = self.shown;
+        let history = self.history;
+        Core {
+            sw: self.sw,
+            parameters,
+            conditions,
+            marks,
+            readings,
+            shown,
+            history,
+        }
+    }
+
+    fn md_written(self, word: u16) -> Core
+        ensures { λ r. ⌜ r ≡ mdWritten self word ⌝ }
+    {
+        let p = self.parameters;
+        let before = self.conditions;
+        let earlier = self.marks;
+        let conditions = words::written::conditions_written(before, word);
+        let marks = words::written::power_written(earlier, word);
+        self.with(p, conditions, marks)
+    }
+
+    fn ds_written(self, word: u16) -> Core
+        ensures { λ r. ⌜ r ≡ dsWritten self word ⌝ }
+    {
+        let p = self.parameters;
+        let conditions = self.conditions;
+        let earlier = self.marks;
+        let marks = words::written::user_bits_written(earlier, word);
+        self.with(p, conditions, marks)
+    }
+
+    fn parameter_written(self, number: usize, v: i64) -> Core
+        ensures { λ r. ⌜ r ≡ parameterWritten self number v ⌝ }
+    {
+        let p = self.parameters;
+        let conditions = self.conditions;
+        let marks = self.marks;
+        let parameters = p.written(number, v);
+        self.with(parameters, conditions, marks)
+    }
+
+    // What an accepted write leaves, but for the output.
+    fn written(self, number: u64, v: i64) -> Core
+        ensures { λ r. ⌜ r ≡ coreWritten self number v ⌝ }
+    {
+        let word = word_of(v);
+        match number {
+            24 => self.md_written(word),
+            25 => self.ds_written(word),
+            _ => self.parameter_written(number as usize, v),
+        }
+    }
+}
+
+impl Controller {
+    // The contract rules out an output that HO or LO limits in Hold or Track, one that they leave outside elsewhere, and one that another write moves.
+    fn output_written(self, number: u64, v: i64) -> i64
+        requires { ⌜ (isFrom number 15 16 ≡ true → Legal (written (self .core .parameters) number v)) ⌝ }
+        ensures { λ r. ⌜ r ≡ limitedTo storedArithmetic (limitsWritten (self .core) number v) (self .output) ⌝ }
+    {
+        let core = self.core;
+        let earlier = core.parameters;
+        let output = self.output;
+        let p = earlier.written(number as usize, v);
+        let mode = core.mode();
+        match number {
+            15..=16 => outputs::limited_in(mode, p, output),
+            _ => output,
+        }
+    }
+
+    // The controller after an accepted write.
+    fn written(self, number: u64, v: i64) -> Controller
+        requires { ⌜ Valid self × (declinedBy (writeTests (self .core) number v) ≡ none) ⌝ }
+        ensures { λ r. ⌜ r ≡ controllerWritten self number v ⌝ }
+    {
+        let before = self.core;
+        let core = before.written(number, v);
+        let output = self.output_written(number, v);
+        Controller { core, output }
+    }
+
+    // One write: the next controller and that it was accepted, or the refusal and the controller as it was. The contract gives the whole of both, so it
+    // rules out a write that changes anything else, one that forgets what it should do besides, and a refusal for no listed cause.
+    pub fn write(self, number: u64, value: i32) -> Written
+        requires { ⌜ Valid self ⌝ }
+        ensures { λ r. ⌜ handedOfWrite r ≡ write self number value ⌝ }
+    {
+        let core = self.core;
+        let v = integers::wide(value);
+        let verdict = core.write_verdict(number, v);
+        match verdict {
+            Verdict::Refused(refusal) => Written {
+                controller: self,
+                verdict: Verdict::Refused(refusal),
+            },
+            Verdict::Accepted => {
+                let controller = self.written(number, v);
+                Written {
+                    controller,
+                    verdict: Verdict::Accepted,
+                }
+            }
+        }
+    }
+}

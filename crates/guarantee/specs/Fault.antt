@@ -1,0 +1,49 @@
+-- Document 01, "The exact controller": "The memory fault stands exactly when the last accepted restart brought it and no accepted write of MD with bit 8 zero came
+-- after that restart." Said in full of the accepted calls, restarts among them; no call of this level is a restart yet.
+use mathlib.Core.Bool.{Bool, false, not, _&&_, _||_}
+use mathlib.Core.List.{List, [], _∷_}
+use Prim.Native.Nat.{ℕ}
+use lib.Dec.{eqb}
+use lib.IntN.{natAbs}
+use Rattle.integers.specs.Choice.{if_then_else_}
+use Rattle.signals.specs.Bits.{bit}
+use Rattle.guarantee.specs.Count.{isAccepted}
+use Rattle.guarantee.specs.Exact.{Call, scan, write, Calls, none, _then_, exactAnswer}
+
+-- what an accepted call is to that sentence
+pub data Event : Type 0 where
+  -- a restart, and whether it brought the fault
+  restarted : Bool → Event
+  -- a write of MD, and its word
+  wrote : ℕ → Event
+  another : Event
+
+-- MD is parameter 24
+unfoldable pub eventOf : Call → Event
+eventOf (scan i) = another
+eventOf (write n v) = if eqb n 24 then wrote (natAbs v) else another
+
+-- the accepted calls, the latest first
+unfoldable pub events : ℕ → Calls → List Event
+events word none = []
+events word (xs then x) = if isAccepted (exactAnswer word xs x) then eventOf x ∷ events word xs else events word xs
+
+-- "the last accepted restart brought it"
+unfoldable pub lastBrought : List Event → Bool
+lastBrought [] = false
+lastBrought (restarted brought ∷ earlier) = brought
+lastBrought (wrote word ∷ earlier) = lastBrought earlier
+lastBrought (another ∷ earlier) = lastBrought earlier
+
+-- an "accepted write of MD with bit 8 zero came after that restart"
+unfoldable pub clearedAfter : List Event → Bool
+clearedAfter [] = false
+clearedAfter (restarted brought ∷ earlier) = false
+clearedAfter (wrote word ∷ earlier) = not (bit word 8) || clearedAfter earlier
+clearedAfter (another ∷ earlier) = clearedAfter earlier
+
+unfoldable pub stands : List Event → Bool
+stands es = lastBrought es && not (clearedAfter es)
+
+unfoldable pub faultStands : ℕ → Calls → Bool
+faultStands word calls = stands (events word calls)

@@ -1,0 +1,119 @@
+// Writing MD and DS: what is taken of the word, and which words MD declines.
+ghost use mathlib.Core.Path.{_≡_};
+ghost use Rattle.signals.specs.Refusals.{numberIn, declinedBy};
+ghost use Rattle.words.specs.Written.{requestOf, clearsFault, faultWritten, requestWritten, conditionsWritten, powerWritten, userBitsWritten, exactlyOne, causeRemains, mdTests};
+use crate::Marks;
+use modes::Conditions;
+use modes::Request;
+use signals::Refusal;
+use signals::Verdict;
+
+fn request_of(word: u16) -> Request
+    ensures { λ r. ⌜ r ≡ requestOf word ⌝ }
+{
+    let manual = signals::bit(word, 13);
+    let auto = signals::bit(word, 12);
+    if manual {
+        return Request::Manual;
+    }
+    if auto {
+        return Request::Auto;
+    }
+    Request::Remote
+}
+
+// The contract rules out a fault that a one in bit 8 clears.
+fn clears_fault(fault: bool, word: u16) -> bool
+    ensures { λ r. ⌜ r ≡ clearsFault fault word ⌝ }
+{
+    fault & !signals::bit(word, 8)
+}
+
+fn fault_written(fault: bool, word: u16) -> bool
+    ensures { λ r. ⌜ r ≡ faultWritten fault word ⌝ }
+{
+    let clears = clears_fault(fault, word);
+    if clears { false } else { fault }
+}
+
+fn request_written(fault: bool, word: u16) -> Request
+    ensures { λ r. ⌜ r ≡ requestWritten fault word ⌝ }
+{
+    let clears = clears_fault(fault, word);
+    let asked = request_of(word);
+    if clears { Request::Manual } else { asked }
+}
+
+// What an accepted write of MD leaves of the conditions. The contract rules out a request taken from another bit, a fault that a write clears or
+// leaves wrongly, and a write that moves the pins or the open count.
+pub fn conditions_written(c: Conditions, word: u16) -> Conditions
+    ensures { λ r. ⌜ r ≡ conditionsWritten c word ⌝ }
+{
+    let request = request_written(c.fault, word);
+    let fault = fault_written(c.fault, word);
+    Conditions {
+        request,
+        fault,
+        opens: c.opens,
+        pins: c.pins,
+    }
+}
+
+// MD bit 4. The contract rules out another bit, and a write of MD that moves the user bits.
+pub fn power_written(marks: Marks, word: u16) -> Marks
+    ensures { λ r. ⌜ r ≡ powerWritten marks word ⌝ }
+{
+    let measuredpower = signals::bit(word, 4);
+    Marks {
+        user1: marks.user1,
+        user2: marks.user2,
+        measuredpower,
+    }
+}
+
+// DS bits 7 and 6. The contract rules out user bits that are exchanged.
+pub fn user_bits_written(marks: Marks, word: u16) -> Marks
+    ensures { λ r. ⌜ r ≡ userBitsWritten marks word ⌝ }
+{
+    let user1 = signals::bit(word, 6);
+    let user2 = signals::bit(word, 7);
+    Marks {
+        user1,
+        user2,
+        measuredpower: marks.measuredpower,
+    }
+}
+
+fn exactly_one(a: bool, b: bool, c: bool) -> bool
+    ensures { λ r. ⌜ r ≡ exactlyOne a b c ⌝ }
+{
+    (a & !b & !c) | (!a & b & !c) | (!a & !b & c)
+}
+
+fn cause_remains(c: Conditions, word: u16) -> bool
+    ensures { λ r. ⌜ r ≡ causeRemains c word ⌝ }
+{
+    let fault = fault_written(c.fault, word);
+    modes::is_cause(fault, c.opens)
+}
+
+// Whether MD takes this word. The contract rules out a refusal for another cause, one that is forgotten, and a higher number where a lower one applies.
+pub fn md_verdict(c: Conditions, word: u16) -> Verdict
+    ensures { λ r. ⌜ numberIn r ≡ declinedBy (mdTests c word) ⌝ }
+{
+    let auto = signals::bit(word, 12);
+    let remote = signals::bit(word, 11);
+    let one = exactly_one(signals::bit(word, 13), auto, remote);
+    let pins = signals::pins_of(c.pins);
+    let remains = cause_remains(c, word);
+    if !one {
+        return Verdict::Refused(Refusal::RequestBits);
+    }
+    if remote & !pins.remote {
+        return Verdict::Refused(Refusal::RemotePin);
+    }
+    if (auto | remote) & remains {
+        return Verdict::Refused(Refusal::Cause);
+    }
+    Verdict::Accepted
+}

@@ -1,0 +1,202 @@
+"""Compare the console's answers, call by call, with the reckoner, and check the claim of document 01 after every call.
+
+Usage: python3 tests/console.py [--seed N] PROGRAM
+
+The program reads one call a line and writes one answer line for each.  The last line printed is "N passed, M failed": one count for each answer,
+for each run of the program, for each call after which the claim was checked, for each figure worked by hand or told by the manual, held against the
+reckoner and against the program, for each whole input and for each thing that the lists must meet.
+"""
+
+import argparse
+import collections
+import random
+import sys
+import textwrap
+
+sys.dont_write_bytecode = True  # leave no compiled files beside the sources
+import call_lists
+import parameter_lists
+import tally
+import whole_inputs
+import worked
+import write_lists
+from console_lines import LINE_ERRORS, call_of, line_of
+from covered import Covered
+from covered_parameters import CoveredParameters
+from covered_writes import CoveredWrites
+from pair import Pair, answers_of
+from program import NO_END, PROGRAM_SECONDS, SHORT_SECONDS, run, run_in_pieces, run_lines
+from shortest import show_broken_claim, show_wrong_answer
+
+DEFAULT_SEED = 6360
+INPUTS = 4                # the lists are shared out among so many runs of the program
+FAULTS_SHOWN, COUNTS_SHOWN = 10, 12
+WIDTH = 150  # of a printed line
+LISTS_WITH_FAULT, CALLS_WITH_FAULT = 10, 15
+LEAST_WITH_FAULT = {"cleared by a write": 30, "kept by a write": 10, "kept by a scan": 100, "refused 11": 10}
+
+
+class Results:
+    """What passed, and the faults found."""
+
+    def __init__(self):
+        self.passed, self.faults = 0, []
+        self.differences = []    # lines answered otherwise than reckoned
+        self.was_endless = False  # the program didn't end in a run over many lists, and isn't given more of them
+        self.broken_claims = []  # the lines of each
+
+    def judge(self, right, fault):
+        if right:
+            self.passed += 1
+        else:
+            self.faults.append(fault)
+
+    def add(self, looked, faults):
+        self.passed += looked - len(faults)
+        self.faults += faults
+
+    def claim(self, broken, lines):
+        """After each call: the parts of the claim that it broke, none if all is well, and the lines so far."""
+        self.judge(not broken, f"the claim is broken: {broken}")
+        if broken:
+            self.broken_claims.append(lines)
+
+
+# Lists ----------------------------------------------------------------------
+
+def reckon(entries, pair, covered, results):
+    """The answers due to a list, with the claim checked after every call, and what the list meets counted."""
+    due = []
+    for place, entry in enumerate(entries):
+        call = call_of(entry.line)
+        assert (call is None) == (entry.kind in LINE_ERRORS), entry
+        covered.line(entry)
+        if call is None:
+            due.append("error")
+            continue
+        before = pair.controllers
+        answer, broken = pair.make(call)
+        covered.call(call, before, pair.controllers, answer, pair.claim.automatic_scans)
+        results.claim(broken, broken and [each.line for each in entries[:place + 1]])
+        due.append(line_of(answer))
+    return due
+
+
+def compare(program, lists, results):
+    """One run of the program over several lists.  The lines of a list that it answers wrongly, or None."""
+    pair = Pair()
+    due = [reckon(entries, pair, covered, results) for _, entries, covered in lists]
+    lines = [entry.line for _, entries, _ in lists for entry in entries]
+    written, trouble = ("", NO_END) if results.was_endless else run_lines(program, lines, PROGRAM_SECONDS)
+    results.was_endless = trouble.startswith(NO_END)
+    answers = written.split("\n")[:-1]
+    results.judge(not trouble, trouble)
+    results.judge(len(answers) == len(lines) and written.endswith("\n"), f"{len(answers)} answers to {len(lines)} lines")
+    wrong, start = None, 0
+    for (kind, entries, _), right in zip(lists, due, strict=True):
+        given, was_reached = answers[start:start + len(right)], start <= len(answers)
+        start += len(right)
+        different = [place for place, answer in enumerate(right) if given[place:place + 1] != [answer]]
+        results.passed += len(right) - len(different)
+        results.differences += [f"answered wrongly: {kind}, line {place}: {entries[place].line!r}" for place in different]
+        if different and was_reached and (wrong is None or different[0] < len(wrong[1])):
+            wrong = lines[:start], [entry.line for entry in entries[:different[0] + 1]]
+    return wrong
+
+
+def all_lists(generator, scans, parameters, writes):
+    """Every list with the object that counts what it meets, shared out among the runs; each run begins with a list that has no fresh start."""
+    lists = [(*each, scans) for each in call_lists.all_lists(generator)]
+    lists += [(*each, parameters) for each in parameter_lists.all_lists(generator)]
+    lists += [(*each, writes) for each in write_lists.all_lists(generator)]
+    generator.shuffle(lists)
+    return [[(*call_lists.first_list(generator), scans), *lists[number::INPUTS]] for number in range(INPUTS)]
+
+
+def compare_lists(program, generator, results):
+    """All lists; what they met."""
+    counted = Covered(), CoveredParameters(), CoveredWrites()
+    wrong = [compare(program, part, results) for part in all_lists(generator, *counted)]
+    found = [lines for lines in wrong if lines]
+    if found:
+        show_wrong_answer(program, *min(found, key=lambda lines: len(lines[1])))
+    for covered in counted:
+        results.add(len(covered.leasts()), covered.too_few())
+    return counted
+
+
+# The rest -------------------------------------------------------------------
+
+def check_figures(program, results):
+    """What was worked by hand, and the manual's figures: each answer of the program is judged by the figure itself."""
+    def answers_of_program(lines):
+        written, trouble = run_lines(program, lines, SHORT_SECONDS)
+        results.judge(not trouble, trouble)
+        return written.split("\n")[:-1]
+
+    for wrong, looked in (worked.wrong_in_the_reckoner(), worked.wrong_in(answers_of), worked.wrong_in(answers_of_program)):
+        results.add(looked, wrong)
+
+
+def check_memory_fault(generator, results):
+    """The claim with the memory fault standing, in the reckoner alone: no call brings it yet."""
+    counts = collections.Counter()
+    for number in range(LISTS_WITH_FAULT):
+        pair = Pair()
+        calls = filter(None, (call_of(entry.line) for entry in write_lists.call_list(generator, write_lists.power_and_trim, number)))
+        for place, call in enumerate(calls):
+            if place % CALLS_WITH_FAULT == 1:
+                pair.bring_fault()
+            stood = pair.controllers[0].memory_fault
+            answer, broken = pair.make(call)
+            results.judge(not broken, f"the claim is broken with the memory fault, at {call}: {broken}")
+            if stood and call[0] != "read":
+                counts[f"{'kept' if pair.controllers[0].memory_fault else 'cleared'} by a {call[0]}"] += 1
+                counts[line_of(answer)] += 1
+    too_few = [f"too few with the memory fault: {name}: {counts[name]} of {least}" for name, least in LEAST_WITH_FAULT.items() if counts[name] < least]
+    results.add(len(LEAST_WITH_FAULT), too_few)
+
+
+def check_whole_inputs(program, generator, results):
+    """Whole inputs, and inputs that come in pieces; given up once the program doesn't end."""
+    for name, text, due in whole_inputs.whole(answers_of):
+        written, trouble = run(program, text, SHORT_SECONDS)
+        results.judge(written == due and not trouble, f"input, {name}: {written[:200]!r}, due is {due[:200]!r} {trouble}")
+        if trouble.startswith(NO_END):
+            return
+    lines = [entry.line for entry in write_lists.call_list(generator, write_lists.mixed, 0)]
+    for size, text, due in whole_inputs.in_pieces(lines, answers_of):
+        written, trouble = run_in_pieces(program, text, size)
+        results.judge(written == due and not trouble, f"input in pieces of {size} bytes: wrong or too few answers {trouble}")
+
+
+def print_counts(covered):
+    """What was met most plainly, and what stands nearest to its least."""
+    least, counts = covered.leasts(), covered.counts
+    print(textwrap.fill(f"{covered.title}, {len(least)} things to be met: " + ", ".join(f"{name} {counts[name]}" for name in [*least][:COUNTS_SHOWN]), WIDTH,
+                        subsequent_indent="    "))
+    rarest = min(least, key=lambda name: counts[name] / least[name])
+    print(f"{covered.title}: nearest to its least is {rarest!r}, {counts[rarest]} of {least[rarest]}", flush=True)
+
+
+def main():
+    parser = argparse.ArgumentParser()
+    parser.add_argument("--seed", type=int, default=DEFAULT_SEED)
+    parser.add_argument("program")
+    given = parser.parse_args()
+    print("seed", given.seed, flush=True)
+    generator, results = random.Random(given.seed), Results()
+    check_figures(given.program, results)
+    counted = compare_lists(given.program, generator, results)
+    check_memory_fault(generator, results)
+    check_whole_inputs(given.program, generator, results)
+    if results.broken_claims:
+        show_broken_claim(min(results.broken_claims, key=len))
+    for covered in counted:
+        print_counts(covered)
+    print("\n".join(results.faults[:FAULTS_SHOWN] + results.differences[:FAULTS_SHOWN]) or "every answer is as reckoned")
+    return tally.close(results.passed, len(results.faults) + len(results.differences))
+
+
+if __name__ == "__main__":
+    sys.exit(main())

@@ -1,0 +1,108 @@
+"""Holds what was worked by hand, and the manual's own figures, against the reckoner and against a program."""
+
+import by_hand
+import by_hand_writes
+import loop
+from console_lines import line_of
+from figures import FIGURES
+from parameter_lists import writes_of
+from state import Exact, Parameters, Stored
+from table import NUMBER
+
+CASES = (*by_hand.CASES, *by_hand_writes.CASES)
+# "requests Manual with output 0, user bits and MD bit 4 zero, no memory fault, and no earlier PV or SP remembered"; "pins 80h, no buttons, open
+# count 0, PV = 1L, SP = SL, ER = PV - SP, MP 0, battery good, no alarms"; 1L and SL are 0.
+FRESH = {"SW": 0x1234, "request": "M", "output": 0, "user_bits": 0, "measured_power": False, "memory_fault": False, "previous_PV": None,
+         "PV_before_previous": None, "previous_SP": None, "pins": 0x80, "buttons": 0, "open_count": 0, "PV": 0, "SP": 0, "ER": 0, "MP": 0,
+         "battery_low": False, "low_alarm": False, "high_alarm": False}
+SCAN_WORDS = ("MD", "DS", "OP", "electrical")
+
+
+def calls_of(case):
+    """A fresh start, the writes of what is set before, and the case's calls."""
+    given = dict(case.set_before)
+    request, user_bits, power = given.pop("request", "M"), given.pop("user_bits", 0), given.pop("measured_power", False)
+    given.pop("memory_fault", None)
+    return [("fresh", case.SW), *writes_of(Parameters(**given), request, user_bits, power), *case.calls]
+
+
+def outcome(case, arithmetic):
+    """What the last call left and answered in the reckoner, by name."""
+    controller, calls = None, calls_of(case)
+    for place, call in enumerate(calls):
+        if place == len(calls) - len(case.calls):
+            controller = controller._replace(memory_fault=case.set_before.get("memory_fault", False))
+        controller, answer = loop.make(controller, call, arithmetic)
+        assert answer == ("ok",) or place >= len(calls) - len(case.calls), (case.name, call)
+    found = {**controller._asdict(), **controller.parameters._asdict(), "answer": line_of(answer)}
+    found.update((name, loop.make(controller, ("read", NUMBER[name]), arithmetic)[1][1]) for name in ("MD", "DS", "OP"))
+    return {**found, **(dict(zip(SCAN_WORDS, answer[1:])) if answer[0] == "scan" else {})}
+
+
+def wrong_in_the_reckoner():
+    """The cases in which the reckoner differs from what was worked by hand, and how many figures were looked at."""
+    wrong, looked = [], 1
+    # "A fresh image's sumcheck is AC42h": of its values only the defaults aren't zero.
+    fresh = loop.fresh(0x1234, Stored)
+    if sum(number % 65536 for number in fresh.parameters) % 65536 != 0xAC42:
+        wrong.append("the reckoner's defaults don't sum to AC42h")
+    for name, value in FRESH.items():
+        looked += 1
+        if getattr(fresh, name) != value:
+            wrong.append(f"the reckoner is wrong: {name} of a fresh controller is {getattr(fresh, name)}, by hand {value}")
+    for case in CASES:
+        for arithmetic in (Stored, Exact):
+            found = outcome(case, arithmetic)
+            if arithmetic is Exact and "output" in case.expected:
+                found["output"] = round(found["output"] * by_hand.UNIT)  # no rounding here is a tie
+            for name, value in case.expected.items():
+                looked += 1
+                if found[name] != value:
+                    wrong.append(f"the reckoner is wrong, {arithmetic.__name__}: {case.name}: {name} is {found[name]}, by hand {value}")
+    return wrong, looked
+
+
+# Lines for a program ----------------------------------------------------------
+
+def lines_of(case):
+    """A case as lines, each with the answer due or, for a scan, with the words due; then reads of all that is expected and can be read."""
+    calls, expected = calls_of(case), case.expected
+    for place, call in enumerate(calls):
+        is_last, is_written = place == len(calls) - 1, place < len(calls) - len(case.calls)
+        yield line_of(call), "ok" if is_written else (expected.get("answer") or words_due(expected)) if is_last else None
+    for name, value in expected.items():
+        if name in NUMBER:
+            yield f"read {NUMBER[name]}", f"value {value}"
+
+
+def words_due(expected):
+    """The words that a scan answers, as far as they are worked out."""
+    return {place: expected[name] for place, name in enumerate(SCAN_WORDS, 1) if name in expected}
+
+
+def is_answer(answer, due):
+    """Whether an answer is the one due; words due are those of a scan, by place."""
+    if isinstance(due, dict):
+        words = answer.split()
+        return len(words) == 5 and words[0] == "scan" and all(words[place] == str(value) for place, value in due.items())
+    return due is None or answer == due
+
+
+def all_lines():
+    """The name, the line and what is due of it, for each line of each case and figure; each begins with a fresh start."""
+    for case in CASES:
+        if "memory_fault" not in case.set_before:
+            yield from ((case.name, *line) for line in lines_of(case))
+    for name, steps in FIGURES:
+        yield from ((name, *line) for line in (("fresh 0", "ok"), *steps))
+
+
+def wrong_in(answers_of):
+    """The lines that are answered otherwise than worked by hand or told by the manual, and how many answers were looked at."""
+    lines = list(all_lines())
+    answers = answers_of([line for _, line, _ in lines])
+    answers += ["no answer"] * (len(lines) - len(answers))
+    wrong = [f"{name}: {line!r} is answered {answer!r}, due is {due!r}" for (name, line, due), answer in zip(lines, answers) if not is_answer(answer, due)]
+    return wrong, sum(due is not None for _, _, due in lines)
+
+
