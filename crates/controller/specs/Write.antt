@@ -1,6 +1,6 @@
 -- Document 01, "Parameters", "Words" and "By whose hand a call is declined": a write, whole. As for a scan: the next state but for the output, the answer,
 -- and an instruction for the output, once for our controller and for the exact one.
-use mathlib.Core.Bool.{Bool, not, _&&_, _||_}
+use mathlib.Core.Bool.{Bool, not}
 use mathlib.Core.List.{List, [], _∷_}
 use Prim.Native.Nat.{ℕ, _%_}
 use lib.Dec.{eqb}
@@ -8,16 +8,16 @@ use lib.IntN.{ℤ, natAbs}
 use Rattle.integers.specs.Choice.{if_then_else_}
 use Rattle.signals.specs.Refusals.{declinedBy}
 use Rattle.signals.specs.Signals.{switchesOf}
-use Rattle.modes.specs.Modes.{isAutomatic, isRemote, isRatio}
+use Rattle.modes.specs.Modes.{setsSetpoint}
 use Rattle.modes.specs.declared.Conditions.{Conditions}
 use Rattle.words.specs.Written.{conditionsWritten, powerWritten, userBitsWritten, mdTests}
 use Rattle.words.specs.declared.Marks.{Marks}
 use Rattle.parameters.specs.Legal.{isUnknown, isReadOnly, inRange, pairInOrder}
-use Rattle.parameters.specs.Table.{value, ruleOf, isFrom}
+use Rattle.parameters.specs.Table.{value, ruleOf}
 use Rattle.parameters.specs.Written.{written}
 use Rattle.parameters.specs.declared.Parameters.{Parameters}
-use Rattle.outputs.specs.Instruction.{keep, Limits, unlimited}
-use Rattle.outputs.specs.Outputs.{limitsIn}
+use Rattle.outputs.specs.Instruction.{keep}
+use Rattle.outputs.specs.Outputs.{limitsWritten}
 use Rattle.controller.specs.Answers.{Handed}
 use Rattle.controller.specs.Scan.{modeNow, accepts, Outcome, unless, controllerAfter, handedBack}
 use Rattle.controller.specs.declared.Controller.{Controller}
@@ -28,9 +28,7 @@ use Rattle.controller.specs.declared.Core.{Core}
 
 -- 8
 unfoldable pub setpointTests : Core → List (Bool × ℕ)
-setpointTests c =
-    let mode = modeNow c in
-    (isRemote mode || isRatio mode || switchesOf (c .sw) .setpointtracks && not (isAutomatic mode), 8) ∷ []
+setpointTests c = (setsSetpoint (modeNow c) (switchesOf (c .sw) .setpointtracks), 8) ∷ []
 
 -- a value as a word: a value in 0..65535 itself. A value out of that range was declined with 6 before any bit of it is asked for
 abbrev pub wordOf : ℤ → ℕ
@@ -85,15 +83,13 @@ coreWritten c n v =
     if eqb n 24 then mdWritten c (wordOf v) else
     if eqb n 25 then dsWritten c (wordOf v) else parameterWritten c n v
 
--- "HO or LO limits the output unless the mode is Hold or Track": numbers 15 and 16, by the limits that are now written
-unfoldable pub limitsWritten : Core → ℕ → ℤ → Limits
-limitsWritten c n v = if isFrom n 15 16 then limitsIn (modeNow c) (written (c .parameters) n v) else unlimited
-
 -- ---- the whole
 
 -- an accepted write: it "says only that it was accepted"
 unfoldable pub writeAccepted : Core → ℕ → ℤ → Outcome
-writeAccepted c n v = record { next = coreWritten c n v; answer = accepts; instruction = record { change = keep; limits = limitsWritten c n v } }
+writeAccepted c n v =
+    let next = coreWritten c n v in
+    record { next = next; answer = accepts; instruction = record { change = keep; limits = limitsWritten n (modeNow c) (next .parameters) } }
 
 -- a write, declined or accepted
 unfoldable pub writeCore : Core → ℕ → ℤ → Outcome

@@ -14,16 +14,17 @@ use Rattle.signals.specs.Refusals.{declinedBy}
 use Rattle.words.specs.Written.{conditionsWritten}
 use Rattle.parameters.specs.Legal.{Legal, inRange, pairInOrder}
 use Rattle.parameters.specs.LegalLaws.{inside}
-use Rattle.parameters.specs.RuleLaws.{is-from, not-from, known, settable}
+use Rattle.parameters.specs.RuleLaws.{not-from, known, settable}
 use Rattle.parameters.specs.Table.{value, ruleOf, isFrom}
 use Rattle.parameters.specs.Written.{written}
 use Rattle.parameters.specs.WrittenLaws.{elsewhere, written-legal}
 use Rattle.outputs.specs.Instruction.{storedArithmetic, changed, limitedTo, carriedOut, Limits, unlimited}
 use Rattle.outputs.specs.OutputLaws.{Stored, limited-still-stored}
+use Rattle.outputs.specs.Outputs.{limitsWritten}
 use Rattle.controller.specs.Scan.{modeNow, refused, controllerAfter, handedBack}
 use Rattle.controller.specs.Valid.{Valid}
 use Rattle.controller.specs.ValidLaws.{passed, by-verdict}
-use Rattle.controller.specs.Write.{wordOf, writeTests, coreWith, mdWritten, dsWritten, parameterWritten, coreWritten, limitsWritten, writeAccepted, writeCore, controllerWritten, write}
+use Rattle.controller.specs.Write.{wordOf, writeTests, coreWith, mdWritten, dsWritten, parameterWritten, coreWritten, writeAccepted, writeCore, controllerWritten, write}
 use Rattle.controller.specs.declared.Controller.{Controller}
 use Rattle.controller.specs.declared.Core.{Core}
 
@@ -59,10 +60,6 @@ module _ (c : Core) (n : ℕ) (v : ℤ) (legal : Legal (c .parameters)) (accepte
       by-cases (λ (k : Core). Legal (k .parameters)) (eqb n 24) (mdWritten c (wordOf v)) _ (λ e. legal)
       (λ e. by-cases (λ (k : Core). Legal (k .parameters)) (eqb n 25) (dsWritten c (wordOf v)) (parameterWritten c n v) (λ d. legal)
       (λ d. values-legal (eqb-false n 24 e) (eqb-false n 25 d)))
-
-  -- HO and LO
-  pub limits-legal : isFrom n 15 16 ≡ true → Legal (written (c .parameters) n v)
-  limits-legal e = let h = is-from n 15 16 e in values-legal (λ q. omega arith) (λ q. omega arith)
 
   -- any other write leaves HO and LO
   pub limits-stay : isFrom n 15 16 ≡ false → (m : ℕ) → 15 ≤ m → m ≤ 16 → value (coreWritten c n v .parameters) m ≡ value (c .parameters) m
@@ -117,7 +114,7 @@ written-valid c n v valid accepted =
       readable = rw (readings-stay (c .core) n v) (valid .readable);
       stored =
           by-cases (λ (l : Limits). Stored (limitedTo storedArithmetic l (c .output))) (isFrom n 15 16) _ unlimited
-          (λ e. limited-still-stored _ (limits-legal (c .core) n v (valid .legal) accepted e) (modeNow (c .core)) (c .output) (valid .stored))
+          (λ e. limited-still-stored _ (core-legal (c .core) n v (valid .legal) accepted) (modeNow (c .core)) (c .output) (valid .stored))
           (λ e. unlimited-stored);
     }
   where

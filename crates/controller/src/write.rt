@@ -1,15 +1,10 @@
 // Writes: whether one is accepted, and what it leaves.
 ghost use mathlib.Core.Path.{_≡_};
-ghost use mathlib.Core.Bool.{true};
 ghost use mathlib.Core.Option.{none};
-ghost use Rattle.parameters.specs.Legal.{Legal};
-ghost use Rattle.parameters.specs.Table.{isFrom};
-ghost use Rattle.parameters.specs.Written.{written};
 ghost use Rattle.signals.specs.Refusals.{numberIn, declinedBy};
-ghost use Rattle.outputs.specs.Instruction.{storedArithmetic, limitedTo};
 ghost use Rattle.controller.specs.Answers.{handedOfWrite};
 ghost use Rattle.controller.specs.Valid.{Valid};
-ghost use Rattle.controller.specs.Write.{setpointTests, wordOf, stateTests, writeTests, coreWith, mdWritten, dsWritten, parameterWritten, coreWritten, limitsWritten, controllerWritten, write};
+ghost use Rattle.controller.specs.Write.{setpointTests, wordOf, stateTests, writeTests, coreWith, mdWritten, dsWritten, parameterWritten, coreWritten, controllerWritten, write};
 use crate::Controller;
 use crate::Core;
 use crate::Written;
@@ -26,16 +21,14 @@ fn word_of(v: i64) -> u16
 }
 
 impl Core {
-    // Refusal 8. The contract rules out one in Auto and Fall-back, and one with S2.6 OFF.
+    // Refusal 8.
     fn setpoint_verdict(self) -> Verdict
         ensures { λ r. ⌜ numberIn r ≡ declinedBy (setpointTests self) ⌝ }
     {
         let s = signals::switches_of(self.sw);
         let mode = self.mode();
-        let remote = modes::is_remote(mode);
-        let ratio = modes::is_ratio(mode);
-        let automatic = modes::is_automatic(mode);
-        if remote | ratio | (s.setpointtracks & !automatic) {
+        let taken = modes::sets_setpoint(mode, s.setpointtracks);
+        if taken {
             return Verdict::Refused(Refusal::Setpoint);
         }
         Verdict::Accepted
@@ -139,30 +132,17 @@ impl Core {
 }
 
 impl Controller {
-    // The contract rules out an output that HO or LO limits in Hold or Track, one that they leave outside elsewhere, and one that another write moves.
-    fn output_written(self, number: u64, v: i64) -> i64
-        requires { ⌜ (isFrom number 15 16 ≡ true → Legal (written (self .core .parameters) number v)) ⌝ }
-        ensures { λ r. ⌜ r ≡ limitedTo storedArithmetic (limitsWritten (self .core) number v) (self .output) ⌝ }
-    {
-        let core = self.core;
-        let earlier = core.parameters;
-        let output = self.output;
-        let p = earlier.written(number as usize, v);
-        let mode = core.mode();
-        match number {
-            15..=16 => outputs::limited_in(mode, p, output),
-            _ => output,
-        }
-    }
-
     // The controller after an accepted write.
     fn written(self, number: u64, v: i64) -> Controller
         requires { ⌜ Valid self × (declinedBy (writeTests (self .core) number v) ≡ none) ⌝ }
         ensures { λ r. ⌜ r ≡ controllerWritten self number v ⌝ }
     {
         let before = self.core;
+        let earlier = self.output;
+        let mode = before.mode();
         let core = before.written(number, v);
-        let output = self.output_written(number, v);
+        let p = core.parameters;
+        let output = outputs::output_written(number, mode, p, earlier);
         Controller { core, output }
     }
 

@@ -23,7 +23,7 @@ use Rattle.outputs.specs.Outputs.{instructionOf}
 use Rattle.outputs.specs.declared.Situation.{Situation}
 use Rattle.controller.specs.Read.{readIn}
 use Rattle.controller.specs.Scan.{modeNow, situationOf, reckonedIn, shownAfter, coreAfter, Status, statusOf, Outcome, accepted, refused, unless, scanCore}
-use Rattle.controller.specs.Write.{wordOf, setpointTests, stateTests, writeTests, coreWith, mdWritten, dsWritten, parameterWritten, coreWritten, limitsWritten, writeAccepted, writeCore}
+use Rattle.controller.specs.Write.{wordOf, setpointTests, stateTests, writeTests, coreWith, mdWritten, dsWritten, parameterWritten, coreWritten, writeAccepted, writeCore}
 use Rattle.controller.specs.declared.Core.{Core}
 use Rattle.guarantee.specs.Claim.{capped}
 use Rattle.guarantee.specs.Exact.{Call, scan, write, oneMore, outcomeOf}
@@ -155,13 +155,13 @@ written-capped c n v = go (eqb n 24) (eqb n 25)
     go false true = refl
     go false false = refl
 
-limits-capped : (c : Core) (n : ℕ) (v : ℤ) → limitsWritten (capped c) n v ≡ limitsWritten c n v
-unfolding limitsWritten capped
-limits-capped c n v = rw (now-capped c) refl
+parameters-capped : (c : Core) → capped c .parameters ≡ c .parameters
+unfolding capped
+parameters-capped c = refl
 
 write-capped : (c : Core) (n : ℕ) (v : ℤ) → writeAccepted (capped c) n v ≡ cappedOutcome (writeAccepted c n v)
 unfolding writeAccepted cappedOutcome
-write-capped c n v = rw (written-capped c n v, limits-capped c n v) refl
+write-capped c n v = rw (written-capped c n v, now-capped c, parameters-capped (coreWritten c n v)) refl
 
 -- ---- any call
 

@@ -5,7 +5,6 @@ use mathlib.Core.Option as option
 use Prim.Native.Nat.{ℕ}
 use native.Mathlib.Omega.{arith}
 use lib.IntN.{ℤ}
-use borrow.Author.Tests.{ne-eqb}
 use Rattle.integers.specs.Choice.{by-cases}
 use Rattle.integers.specs.Parts.{integers}
 use Rattle.signals.specs.Refusals.{declinedBy, scanTests}
@@ -17,20 +16,18 @@ use Rattle.modes.specs.declared.Request.{Request}
 use Rattle.modes.specs.declared.Request.the-variants as request
 use Rattle.parameters.specs.Legal.{Legal}
 use Rattle.parameters.specs.LegalLaws.{settings, settings-are}
-use Rattle.parameters.specs.RuleLaws.{is-from}
 use Rattle.parameters.specs.Table.{value, isFrom, HO, LO}
-use Rattle.parameters.specs.Written.{written}
 use Rattle.setpoints.specs.Reckoning.{reckoned}
 use Rattle.terms.specs.Fraction.{storedUnits}
 use Rattle.outputs.specs.Instruction.{Limits, unlimited, storedArithmetic, carriedOut, changed, limitedTo}
 use Rattle.outputs.specs.OutputLaws.{InUnits, output-in-units}
-use Rattle.outputs.specs.Outputs.{instructionOf, changeIn, limitsIn}
+use Rattle.outputs.specs.Outputs.{instructionOf, changeIn, limitsIn, limitsWritten}
 use Rattle.outputs.specs.declared.Situation.{Situation}
 use Rattle.controller.specs.Scan.{controllerAfter, modeNow, situationOf, reckonedIn, coreAfter, accepted, refused, scanCore, handedBack}
 use Rattle.controller.specs.State.{freshController, freshCore}
 use Rattle.controller.specs.ValidLaws.{by-verdict}
-use Rattle.controller.specs.Write.{writeTests, coreWith, parameterWritten, coreWritten, limitsWritten, writeAccepted, writeCore}
-use Rattle.controller.specs.WriteLaws.{limits-legal, limits-stay, pins-stay}
+use Rattle.controller.specs.Write.{writeTests, coreWritten, writeAccepted, writeCore}
+use Rattle.controller.specs.WriteLaws.{core-legal, limits-stay, pins-stay}
 use Rattle.controller.specs.declared.Controller.{Controller}
 use Rattle.controller.specs.declared.Core.{Core}
 use Rattle.guarantee.specs.Claim.{isHoldOrTrack, WithinLimits}
@@ -96,14 +93,9 @@ written-mode : (c : Core) (n : ℕ) (v : ℤ) → isHoldOrTrack (modeNow (coreWr
 written-mode c n v = hold-or-track (coreWritten c n v) ∙ ap (λ (p : ℕ). not (pinsOf p .hold) || pinsOf p .track) (pins-stay c n v) ∙ sym (hold-or-track c)
 
 module _ (c : Controller) (n : ℕ) (v : ℤ) (legal : Legal (c .core .parameters)) (accepted : declinedBy (writeTests (c .core) n v) ≡ option.none) where
-  limited-within : isFrom n 15 16 ≡ true → isHoldOrTrack (modeNow (c .core)) ≡ false →
-      InUnits (value (coreWritten (c .core) n v .parameters) 16) (value (coreWritten (c .core) n v .parameters) 15)
-      (limitedTo storedArithmetic (limitsIn (modeNow (c .core)) (written (c .core .parameters) n v)) (c .output))
-  unfolding coreWritten parameterWritten coreWith
-  limited-within e outside =
-      let h = is-from n 15 16 e in
-      rw (ne-eqb n 24 (λ q. omega arith), ne-eqb n 25 (λ q. omega arith))
-      (output-in-units (written (c .core .parameters) n v) (limits-legal (c .core) n v legal accepted e) (modeNow (c .core)) (c .output) (limiting (modeNow (c .core)) outside))
+  limited-within : isHoldOrTrack (modeNow (c .core)) ≡ false → let p = coreWritten (c .core) n v .parameters in
+      InUnits (value p 16) (value p 15) (limitedTo storedArithmetic (limitsIn (modeNow (c .core)) p) (c .output))
+  limited-within outside = output-in-units _ (core-legal (c .core) n v legal accepted) (modeNow (c .core)) (c .output) (limiting (modeNow (c .core)) outside)
 
   write-within : (isHoldOrTrack (modeNow (c .core)) ≡ false → WithinLimits c) → let now = handedBack c (writeAccepted (c .core) n v) .next in
       isHoldOrTrack (modeNow (now .core)) ≡ false → WithinLimits now
@@ -111,7 +103,7 @@ module _ (c : Controller) (n : ℕ) (v : ℤ) (legal : Legal (c .core .parameter
   write-within before e =
       let outside = sym (written-mode (c .core) n v) ∙ e in
       in-limits
-      (by-cases (λ (l : Limits). InUnits low high (limitedTo storedArithmetic l (c .output))) (isFrom n 15 16) _ unlimited (λ d. limited-within d outside)
+      (by-cases (λ (l : Limits). InUnits low high (limitedTo storedArithmetic l (c .output))) (isFrom n 15 16) _ unlimited (λ d. limited-within outside)
       (λ d. unlimited-within d (before outside)))
     where
       low : ℤ

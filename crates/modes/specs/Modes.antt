@@ -126,6 +126,10 @@ isAutoOrFallback Remote = false
 isAutoOrFallback Ratio = false
 isAutoOrFallback Fallback = true
 
+-- the scan itself sets SL, so that no one else may write it: "SL in Remote, Ratio, or with S2.6 ON in a non-automatic mode"
+abbrev pub setsSetpoint : Mode → Bool → Bool
+setsSetpoint mode setpointtracks = isRemote mode || isRatio mode || setpointtracks && not (isAutomatic mode)
+
 -- step 6: "Outside Hold and Track"
 abbrev pub isLimiting : Mode → Bool
 isLimiting Hold = false

@@ -2,7 +2,7 @@
 ghost use mathlib.Core.Path.{_≡_};
 ghost use mathlib.Core.Bool.{true};
 ghost use Rattle.signals.specs.declared.Input.{Input};
-ghost use Rattle.modes.specs.Modes.{isOpenCause, isCause, counted, opensAfter, requestBy, requestAfter, conditionsAfter, modeBy, inPriority, modeOf, isAutomatic, isTrack, isRemote, isRatio, isAutoOrFallback, isLimiting, goesToMinimum};
+ghost use Rattle.modes.specs.Modes.{isOpenCause, isCause, counted, opensAfter, requestBy, requestAfter, conditionsAfter, modeBy, inPriority, modeOf, isAutomatic, isTrack, isRemote, isRatio, isAutoOrFallback, setsSetpoint, isLimiting, goesToMinimum};
 use signals::Buttons;
 use signals::Input;
 
@@ -194,6 +194,16 @@ pub fn is_auto_or_fallback(mode: Mode) -> bool
         Mode::Ratio => false,
         Mode::Fallback => true,
     }
+}
+
+// Whether a scan in this mode sets SL itself. The contract rules out Auto and Fall-back, and any other mode but Remote and Ratio with S2.6 OFF.
+pub fn sets_setpoint(mode: Mode, setpointtracks: bool) -> bool
+    ensures { λ r. ⌜ r ≡ setsSetpoint mode setpointtracks ⌝ }
+{
+    let remote = is_remote(mode);
+    let ratio = is_ratio(mode);
+    let automatic = is_automatic(mode);
+    remote | ratio | (setpointtracks & !automatic)
 }
 
 // Whether the output is limited in this mode. The contract rules out Hold and Track, and that another is left out.

@@ -1,8 +1,7 @@
 -- Document 01, One scan, step 6: what a scan does to the output, in each mode.
-use Prim.Native.Nat.{min}
+use Prim.Native.Nat.{ℕ, min}
 use lib.IntN.{ℤ, pos, negℤ}
 use Rattle.integers.specs.Choice.{if_then_else_}
-use Rattle.terms.specs.Terms.{proportionalTerm, integralTerm, derivativeTerm}
 use Rattle.signals.specs.Signals.{buttonsOf, pushOf, isOpen}
 use Rattle.signals.specs.declared.Push.{Push}
 use Rattle.signals.specs.declared.Push.the-variants.{Raise, Lower, Neither}
@@ -10,9 +9,10 @@ use Rattle.signals.specs.declared.Switches.{Switches}
 use Rattle.modes.specs.Modes.{isLimiting}
 use Rattle.modes.specs.declared.Mode.{Mode}
 use Rattle.modes.specs.declared.Mode.the-variants.{Hold, Track, Forced, Manual, Auto, Remote, Ratio, Fallback}
-use Rattle.parameters.specs.Table.{HO, LO}
+use Rattle.parameters.specs.Table.{isFrom, HO, LO}
 use Rattle.parameters.specs.declared.Parameters.{Parameters}
 use Rattle.setpoints.specs.declared.Readings.{Readings}
+use Rattle.terms.specs.Terms.{proportionalTerm, integralTerm, derivativeTerm}
 use Rattle.outputs.specs.Deviation.{deviation, changeOfDeviation, secondDifference, tuningOf}
 use Rattle.outputs.specs.History.{recalled}
 use Rattle.outputs.specs.Instruction.{Change, keep, setTo, moveBy, addTerms, Limits, unlimited, between, Instruction}
@@ -68,3 +68,7 @@ limitsIn mode p = if isLimiting mode then between (LO p) (HO p) else unlimited
 -- what a scan in this situation does to the output: the change of its mode, and "then" the limits
 unfoldable pub instructionOf : Parameters → Situation → Readings → History → Instruction
 instructionOf p x r h = record { change = changeIn (x .mode) p x r h; limits = limitsIn (x .mode) p }
+
+-- ---- a write: "HO or LO limits the output unless the mode is Hold or Track", numbers 15 and 16, to the limits as they are now
+unfoldable pub limitsWritten : ℕ → Mode → Parameters → Limits
+limitsWritten n mode p = if isFrom n 15 16 then limitsIn mode p else unlimited

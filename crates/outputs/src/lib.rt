@@ -9,7 +9,7 @@ ghost use Rattle.outputs.specs.Deviation.{deviation, earlierSetpoint, ch
 ghost use Rattle.outputs.specs.History.{remembered, historyAfter, recalled};
 ghost use Rattle.outputs.specs.Instruction.{storedArithmetic, changed, limitedTo, carriedOut};
 ghost use Rattle.outputs.specs.OutputLaws.{Read, Kept, Recalled, Stored};
-ghost use Rattle.outputs.specs.Outputs.{minimumOf, pushed, byHand, termsOf, byTerms, changeIn, limitsIn, instructionOf};
+ghost use Rattle.outputs.specs.Outputs.{minimumOf, pushed, byHand, termsOf, byTerms, changeIn, limitsIn, instructionOf, limitsWritten};
 use modes::Mode;
 use parameters::Parameters;
 use setpoints::Readings;
@@ -246,8 +246,7 @@ fn changed_in(p: Parameters, x: Situation, r: Readings, h: History, output: i64)
     }
 }
 
-// The stored output limited as its mode has it. The contract rules out an output limited in Hold or Track, and one that is not limited elsewhere.
-pub fn limited_in(mode: Mode, p: Parameters, output: i64) -> i64
+fn limited_in(mode: Mode, p: Parameters, output: i64) -> i64
     requires { ⌜ Legal p ⌝ }
     ensures { λ n. ⌜ n ≡ limitedTo storedArithmetic (limitsIn mode p) output ⌝ }
 {
@@ -267,4 +266,16 @@ pub fn output_after(p: Parameters, x: Situation, r: Readings, h: History, output
     let mode = x.mode;
     let to = changed_in(p, x, r, h, output);
     limited_in(mode, p, to)
+}
+
+// The stored output after an accepted write of the parameter with this number. The contract rules out an output that HO or LO limits in Hold or Track,
+// one that they leave outside elsewhere, and one that another write moves.
+pub fn output_written(number: u64, mode: Mode, p: Parameters, output: i64) -> i64
+    requires { ⌜ Legal p ⌝ }
+    ensures { λ n. ⌜ n ≡ limitedTo storedArithmetic (limitsWritten number mode p) output ⌝ }
+{
+    match number {
+        15..=16 => limited_in(mode, p, output),
+        _ => output,
+    }
 }
