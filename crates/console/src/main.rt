@@ -44,13 +44,14 @@ fn line_answer(
     }
 }
 
-// Answers a line that is complete; else writes what there is to write and reads on.
-fn turned(buffer: &mut [u8], line: &[u8], out: &mut [u8], t: Turn) -> Turn
+// Takes what was read up to the end of a line. Answers a line that is complete; else writes what there is to write and reads on.
+fn next_turn(buffer: &mut [u8], line: &mut [u8], out: &mut [u8], t: Turn) -> Turn
     requires { ⌜ Valid (t .controller) ⌝ }
     ensures { λ r. ⌜ Valid (r .controller) ⌝ }
 {
     let controller = t.controller;
-    let p = t.place;
+    let start = t.place;
+    let p = lines::take(buffer, line, start);
     if p.complete {
         let a = line_answer(controller, line, p.len, out, t.used);
         let next = a.controller;
@@ -66,26 +67,6 @@ fn turned(buffer: &mut [u8], line: &[u8], out: &mut [u8], t: Turn) -> Turn
         used: 0,
         place: lines::refill(buffer, p),
     }
-}
-
-// Takes what was read up to the end of a line, and then does as `turned` does.
-fn next_turn(buffer: &mut [u8], line: &mut [u8], out: &mut [u8], t: Turn) -> Turn
-    requires { ⌜ Valid (t .controller) ⌝ }
-    ensures { λ r. ⌜ Valid (r .controller) ⌝ }
-{
-    let controller = t.controller;
-    let p = t.place;
-    let place = lines::take(buffer, line, p);
-    turned(
-        buffer,
-        line,
-        out,
-        Turn {
-            controller,
-            used: t.used,
-            place,
-        },
-    )
 }
 
 fn first_turn() -> Turn

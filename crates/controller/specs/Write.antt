@@ -53,7 +53,8 @@ writeTests c n v =
 
 -- ---- what an accepted write leaves, but for the output
 
--- a write changes no more than these three; of PV, SP, ER and MP, buttons, battery, alarms and the earlier PVs and SP "only scans and restarts change any"
+-- a write changes no more than these three. Of PV, SP, ER, MP, buttons, battery and alarms "only scans and restarts change any", and no sentence lets a write
+-- touch SW or the earlier PVs and SP
 unfoldable pub coreWith : Core → Parameters → Conditions → Marks → Core
 coreWith c parameters conditions marks =
     record {

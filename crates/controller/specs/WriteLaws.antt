@@ -1,8 +1,9 @@
 -- A write hands back a valid controller.
 use mathlib.Core.Path.{_≡_, refl, sym, _∙_, subst}
 use mathlib.Core.Bool.{Bool, true, false, not}
+use mathlib.Core.List.{[]}
 use mathlib.Core.Option.{none}
-use Prim.Native.Nat.{ℕ, _≤_}
+use Prim.Native.Nat.{ℕ, _≤_, _<_}
 use native.Mathlib.Omega.{arith}
 use lib.Dec.{eqb}
 use lib.IntN.{ℤ, pos, natAbs}
@@ -10,8 +11,9 @@ use borrow.Author.Tests.{eqb-false, ne-eqb}
 use Rattle.integers.specs.Choice.{by-cases, never}
 use Rattle.integers.specs.Operations.{number}
 use Rattle.integers.specs.Parts.{integers, apart}
+use Rattle.signals.specs.RefusalLaws.{Above, Ascending}
 use Rattle.signals.specs.Refusals.{declinedBy}
-use Rattle.words.specs.Written.{conditionsWritten}
+use Rattle.words.specs.Written.{conditionsWritten, mdTests}
 use Rattle.parameters.specs.Legal.{Legal, inRange, pairInOrder}
 use Rattle.parameters.specs.LegalLaws.{inside}
 use Rattle.parameters.specs.RuleLaws.{not-from, known, settable}
@@ -24,9 +26,23 @@ use Rattle.outputs.specs.Outputs.{limitsWritten}
 use Rattle.controller.specs.Scan.{modeNow, refused, controllerAfter, handedBack}
 use Rattle.controller.specs.Valid.{Valid}
 use Rattle.controller.specs.ValidLaws.{passed, by-verdict}
-use Rattle.controller.specs.Write.{wordOf, writeTests, coreWith, mdWritten, dsWritten, parameterWritten, coreWritten, writeAccepted, writeCore, controllerWritten, write}
+use Rattle.controller.specs.Write.{wordOf, setpointTests, stateTests, writeTests, coreWith, mdWritten, dsWritten, parameterWritten, coreWritten, writeAccepted, writeCore, controllerWritten, write}
 use Rattle.controller.specs.declared.Controller.{Controller}
 use Rattle.controller.specs.declared.Core.{Core}
+
+-- ---- the tests ascend, so the lowest number wins (`lowest-wins`)
+
+pub write-ascends : (c : Core) (n : ℕ) (v : ℤ) → Ascending (writeTests c n v)
+unfolding writeTests stateTests setpointTests mdTests
+write-ascends c n v =
+    let tail = stateTests c n v in
+    let above : (k : ℕ) → k < 8 → Above k tail = λ k h.
+    by-cases (Above k) (eqb n 20) (setpointTests c) _ (λ e. (omega arith, tt))
+    (λ e. by-cases (Above k) (eqb n 24) (mdTests (c .conditions) (wordOf v)) [] (λ d. (omega arith, (omega arith, (omega arith, tt)))) (λ d. tt)) in
+    let rest : Ascending tail =
+    by-cases Ascending (eqb n 20) (setpointTests c) _ (λ e. (tt, tt))
+    (λ e. by-cases Ascending (eqb n 24) (mdTests (c .conditions) (wordOf v)) [] (λ d. ((omega arith, (omega arith, tt)), ((omega arith, tt), (tt, tt)))) (λ d. tt)) in
+    ((omega arith, (omega arith, (omega arith, above 4 (omega arith)))), ((omega arith, (omega arith, above 5 (omega arith))), ((omega arith, above 6 (omega arith)), (above 7 (omega arith), rest))))
 
 -- ---- what an accepted write has passed
 
@@ -75,7 +91,7 @@ module _ (c : Core) (n : ℕ) (v : ℤ) (legal : Legal (c .parameters)) (accepte
       let b = eqb-false n 25 f in
       elsewhere (c .parameters) legal n v (k .0) (omega arith) m (λ q. omega arith) (λ q. omega arith) ∙ rw (ne-eqb m n (not-from n 15 16 e m h l)) refl))
 
--- ---- what no write touches
+-- ---- "of these only scans and restarts change any": what no write touches, SW and the earlier PVs and SP beside it
 
 module _ (c : Core) (n : ℕ) (v : ℤ) where
   -- the three kinds of write
@@ -90,6 +106,10 @@ module _ (c : Core) (n : ℕ) (v : ℤ) where
   pub readings-stay : coreWritten c n v .readings ≡ c .readings
   unfolding mdWritten dsWritten parameterWritten coreWith
   readings-stay = by-kind (λ k. k .readings ≡ c .readings) refl refl refl
+
+  pub shown-stays : coreWritten c n v .shown ≡ c .shown
+  unfolding mdWritten dsWritten parameterWritten coreWith
+  shown-stays = by-kind (λ k. k .shown ≡ c .shown) refl refl refl
 
   pub history-stays : coreWritten c n v .history ≡ c .history
   unfolding mdWritten dsWritten parameterWritten coreWith

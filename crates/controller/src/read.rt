@@ -12,7 +12,7 @@ use crate::ReadAnswer;
 use signals::Refusal;
 
 impl Core {
-    fn parameter(self, number: usize) -> i32
+    fn parameter(self, number: u64) -> i32
         requires { ⌜ Legal (self .parameters) × 1 ≤ number × number ≤ 23 ⌝ }
         ensures { λ r. ⌜ r ≡ value (self .parameters) number ⌝ }
     {
@@ -35,7 +35,7 @@ impl Controller {
         let core = self.core;
         let r = core.readings;
         match number {
-            1..=23 => ReadAnswer::Value(core.parameter(number as usize)),
+            1..=23 => ReadAnswer::Value(core.parameter(number)),
             24 => ReadAnswer::Value(core.md() as i32),
             25 => ReadAnswer::Value(core.ds() as i32),
             26 => ReadAnswer::Value(core.sw as i32),

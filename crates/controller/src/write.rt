@@ -63,7 +63,7 @@ impl Core {
         if !rule.in_range(p, v) {
             return Verdict::Refused(Refusal::Range);
         }
-        if !rule.pair_in_order(p, number as usize, v) {
+        if !rule.pair_in_order(p, number, v) {
             return Verdict::Refused(Refusal::Pair);
         }
         self.state_verdict(number, v)
@@ -108,7 +108,7 @@ impl Core {
         self.with(p, conditions, marks)
     }
 
-    fn parameter_written(self, number: usize, v: i64) -> Core
+    fn parameter_written(self, number: u64, v: i64) -> Core
         ensures { λ r. ⌜ r ≡ parameterWritten self number v ⌝ }
     {
         let p = self.parameters;
@@ -126,7 +126,7 @@ impl Core {
         match number {
             24 => self.md_written(word),
             25 => self.ds_written(word),
-            _ => self.parameter_written(number as usize, v),
+            _ => self.parameter_written(number, v),
         }
     }
 }

@@ -3,6 +3,7 @@ use mathlib.Core.Path.{_≡_, refl, ap, _∙_}
 use mathlib.Core.Bool.{Bool, true, false}
 use Prim.Native.Nat.{ℕ, _+_, _*_, _/_, _≤_, _<_}
 use native.Mathlib.Omega.{arith}
+use lib.IntN.{pos}
 use Rattle.integers.specs.Operations.{number}
 use Rattle.integers.specs.Parts.{integers, apart}
 use Rattle.signals.specs.Refusals.{declinedBy, scanTests}
@@ -15,9 +16,9 @@ use Rattle.words.specs.Words.{weight, byteOf, mdHigh, mdLow, MD}
 use Rattle.words.specs.declared.Marks.{Marks}
 use Rattle.words.specs.declared.Shown.{Shown}
 use Rattle.outputs.specs.OutputLaws.{Stored}
-use Rattle.controller.specs.Answers.{opOf, electricalOf}
+use Rattle.controller.specs.Answers.{reading, opOf, electricalOf}
 use Rattle.controller.specs.Read.{readIn, read}
-use Rattle.controller.specs.Scan.{modeNow, Status, status, accepts, declined, statusOf, accepted, refused, scanCore, withOutput}
+use Rattle.controller.specs.Scan.{modeNow, mdNow, Status, status, accepts, declined, statusOf, accepted, refused, scanCore, withOutput}
 use Rattle.controller.specs.ValidLaws.{by-verdict}
 use Rattle.controller.specs.Write.{writeTests, writeAccepted, writeCore}
 use Rattle.controller.specs.declared.Controller.{Controller}
@@ -111,11 +112,23 @@ same-answer c now (declined n) shows h = same-number
 -- ---- reads
 
 pub same-reading : (c : Controller) (now : Core) (n : ℕ) → c .core ≡ capped now → Stored (c .output) → SameReading c now n (read c n)
-unfolding read
+unfolding read readIn
 same-reading c now n e h =
+    let op = opOf (c .output) in
+    let same = ap (λ (k : Core). readIn k op n) e ∙ read-capped now op n in
     record {
-      op = opOf (c .output);
+      op = op;
       electrical = electricalOf (c .core .sw) (c .output);
       own = own-output c h;
-      same = ap (λ (k : Core). readIn k (opOf (c .output)) n) e ∙ read-capped now (opOf (c .output)) n;
+      same = same;
+      md = mdNow now;
+      shows = record { mode = modeNow now; present = mode-is-first now; shown = md-shows (now .conditions) (now .marks) (now .shown) (modeNow now) };
+      md-is = λ q. same ∙ ap (readIn now op) q ∙ read-md now op;
+      op-is = λ q. same ∙ ap (readIn now op) q ∙ read-op now op;
     }
+  where
+    read-md : (k : Core) (op : ℕ) → readIn k op 24 ≡ reading (pos (mdNow k))
+    read-md k op = refl
+
+    read-op : (k : Core) (op : ℕ) → readIn k op 28 ≡ reading (pos op)
+    read-op k op = refl

@@ -1,13 +1,13 @@
 -- For every switch word and every list of calls there are controllers and answers that the contracts link, so the guarantee isn't empty.
-use mathlib.Core.Path.{_≡_, refl, ap}
+use mathlib.Core.Path.{_≡_, refl, sym, ap}
 use mathlib.Core.Bool.{Bool}
 use mathlib.Core.List.{List, [], _∷_}
 use mathlib.Core.Option.{Option, some}
 use mathlib.Core.Option as option
 use Prim.Native.Nat.{ℕ}
 use lib.Dec.{eqb}
-use lib.IntN.{ℤ}
-use Rattle.integers.specs.Choice.{by-cases}
+use lib.IntN.{ℤ, pos}
+use Rattle.integers.specs.Choice.{if_then_else_, by-cases}
 use Rattle.signals.specs.Refusals.{numberOf, declinedBy, scanTests}
 use Rattle.signals.specs.declared.Input.{Input}
 use Rattle.signals.specs.declared.Refusal.{Refusal}
@@ -17,9 +17,11 @@ use Rattle.signals.specs.declared.Verdict.the-variants as verdict
 use Rattle.modes.specs.Modes.{counted}
 use Rattle.words.specs.Words.{MD, DS}
 use Rattle.words.specs.Written.{mdTests}
+use Rattle.parameters.specs.Table.{value, isFrom}
 use Rattle.outputs.specs.Instruction.{changed, limitedTo, carriedOut}
-use Rattle.controller.specs.Answers.{Handed, handed, handedOfWrite, opOf, electricalOf}
-use Rattle.controller.specs.Scan.{modeNow, statusOf, accepted, refused, scanCore, controllerAfter, handedBack}
+use Rattle.controller.specs.Answers.{Said, reading, number, Handed, handed, handedOfWrite, opOf, electricalOf}
+use Rattle.controller.specs.Read.{readIn, read}
+use Rattle.controller.specs.Scan.{modeNow, mdNow, dsNow, statusOf, accepted, refused, scanCore, controllerAfter, handedBack}
 use Rattle.controller.specs.Scan as rules
 use Rattle.controller.specs.State.{freshController}
 use Rattle.controller.specs.Write.{wordOf, setpointTests, stateTests, writeTests}
@@ -27,10 +29,13 @@ use Rattle.controller.specs.Write as writes
 use Rattle.controller.specs.declared.Answer.the-variants.{Words, Refused}
 use Rattle.controller.specs.declared.Controller.{Controller}
 use Rattle.controller.specs.declared.Core.{Core}
+use Rattle.controller.specs.declared.ReadAnswer.{ReadAnswer}
+use Rattle.controller.specs.declared.ReadAnswer.the-variants.{Value}
+use Rattle.controller.specs.declared.ReadAnswer.the-variants as readanswer
 use Rattle.controller.specs.declared.Scanned.{Scanned}
 use Rattle.controller.specs.declared.Written.{Written}
 use Rattle.guarantee.specs.Exact.{Calls, none, _then_, scan, write}
-use Rattle.guarantee.specs.Linked.{Linked, started, scanned, wrote}
+use Rattle.guarantee.specs.Linked.{ReadEnsures, Linked, started, scanned, wrote}
 
 -- ---- the tests of a call end in none or in one of its refusals
 
@@ -107,6 +112,33 @@ unfolding writes.write writes.writeCore handedBack controllerAfter refused carri
 write-result-by c n v (passes e) =
     record { result = record { controller = controllerAfter c (writes.writeAccepted (c .core) n v); verdict = Accepted }; described = rw e refl }
 write-result-by c n v (declines refusal e) = record { result = record { controller = c; verdict = verdict.Refused refusal }; described = rw e refl }
+
+-- and of a read
+pub record ReadResult (c : Controller) (n : ℕ) : Type 0 where
+  pub answer : ReadAnswer
+  pub described : ReadEnsures c n answer
+
+data Answers (s : Said) : Type 0 where
+  values : (v : ℤ) → s ≡ reading v → Answers s
+  refuses : s ≡ number 4 → Answers s
+
+read-answers : (c : Core) (op n : ℕ) → Answers (readIn c op n)
+unfolding readIn
+read-answers c op n =
+    or (isFrom n 1 23) (value (c .parameters) n) (or (eqb n 24) (pos (mdNow c)) (or (eqb n 25) (pos (dsNow c)) (or (eqb n 26) (pos (c .sw)) (or (eqb n 27) (pos 0x3608) (or (eqb n 28) (pos op)
+    (or (eqb n 29) (c .readings .sp) (or (eqb n 30) (c .readings .pv) (or (eqb n 31) (c .readings .er) (or (eqb n 32) (c .readings .mp) (refuses refl))))))))))
+  where
+    or : {s : Said} (t : Bool) (v : ℤ) → Answers s → Answers (if t then reading v else s)
+    or {s} t v h = by-cases Answers t (reading v) s (λ e. values v refl) (λ e. h)
+
+read-result-by : (c : Controller) (n : ℕ) → Answers (read c n) → ReadResult c n
+read-result-by c n (values v e) = record { answer = Value v; described = sym e }
+read-result-by c n (refuses e) = record { answer = readanswer.Refused Number; described = sym e }
+
+-- every read has an answer
+pub read-exists : (c : Controller) (n : ℕ) → ReadResult c n
+unfolding read
+read-exists c n = read-result-by c n (read-answers (c .core) (opOf (c .output)) n)
 
 -- ---- every list
 

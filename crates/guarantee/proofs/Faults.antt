@@ -20,15 +20,9 @@ use Rattle.controller.specs.WriteLaws.{word-is}
 use Rattle.controller.specs.declared.Core.{Core}
 use Rattle.guarantee.specs.Count.{isAccepted}
 use Rattle.guarantee.specs.Exact.{Call, scan, write, Calls, none, _then_, outcomeOf, exactAnswer}
-use Rattle.guarantee.specs.Fault.{Event, restarted, wrote, another, eventOf, events, lastBrought, clearedAfter, stands, faultStands}
+use Rattle.guarantee.specs.Fault.{Event, restarted, wrote, another, eventOf, faultAfter, FaultStep, events, lastBrought, clearedAfter, stands, faultStands}
 use Rattle.guarantee.proofs.Capped.{cappedOutcome}
 use Rattle.guarantee.proofs.Ours.{ours, outcomes}
-
--- the fault after one accepted call more
-abbrev after : Event → Bool → Bool
-after (restarted brought) fault = brought
-after (wrote word) fault = fault && bit word 8
-after another fault = fault
 
 both-ways : (b c k : Bool) → b && not (not k || c) ≡ (b && not c) && k
 both-ways false c k = refl
@@ -37,7 +31,7 @@ both-ways true true true = refl
 both-ways true false false = refl
 both-ways true false true = refl
 
-stands-after : (e : Event) (es : List Event) → stands (e ∷ es) ≡ after e (stands es)
+stands-after : (e : Event) (es : List Event) → stands (e ∷ es) ≡ faultAfter e (stands es)
 unfolding stands lastBrought clearedAfter
 stands-after (restarted true) es = refl
 stands-after (restarted false) es = refl
@@ -55,30 +49,29 @@ kept-or-cleared fault word = go fault (bit word 8)
     go false b = refl
 
 written-fault : (c : Core) (n : ℕ) (v : ℤ) → declinedBy (writeTests c n v) ≡ option.none →
-    coreWritten c n v .conditions .fault ≡ after (eventOf (write n v)) (c .conditions .fault)
+    coreWritten c n v .conditions .fault ≡ faultAfter (eventOf (write n v)) (c .conditions .fault)
 unfolding coreWritten mdWritten dsWritten parameterWritten coreWith conditionsWritten eventOf
 written-fault c n v e = go (eqb n 24) refl (eqb n 25)
   where
     go : (t : Bool) → eqb n 24 ≡ t → (u : Bool) →
         (if t then mdWritten c (wordOf v) else if u then dsWritten c (wordOf v) else parameterWritten c n v) .conditions .fault
-        ≡ after (if t then wrote (natAbs v) else another) (c .conditions .fault)
+        ≡ faultAfter (if t then wrote (natAbs v) else another) (c .conditions .fault)
     go true q u = ap (λ (w : ℕ). faultWritten (c .conditions .fault) w) (word-is c n v e (eqb-true n 24 q)) ∙ kept-or-cleared (c .conditions .fault) (natAbs v)
     go false q true = refl
     go false q false = refl
 
-step : (c : Core) (x : Call) → let o = outcomeOf counted c x in
-    o .next .conditions .fault ≡ (if isAccepted (o .answer) then after (eventOf x) (c .conditions .fault) else c .conditions .fault)
+pub fault-step : FaultStep
 unfolding outcomeOf scanCore writeCore writeAccepted refused accepted coreAfter conditionsAfter statusOf eventOf
-step c (scan i) =
-    by-verdict (λ o. o .next .conditions .fault ≡ (if isAccepted (o .answer) then after another (c .conditions .fault) else c .conditions .fault)) (declinedBy (scanTests i)) c
+fault-step c (scan i) =
+    by-verdict (λ o. o .next .conditions .fault ≡ (if isAccepted (o .answer) then faultAfter another (c .conditions .fault) else c .conditions .fault)) (declinedBy (scanTests i)) c
     (accepted counted c i) (λ e. refl) (λ n. refl)
-step c (write n v) =
-    by-verdict (λ o. o .next .conditions .fault ≡ (if isAccepted (o .answer) then after (eventOf (write n v)) (c .conditions .fault) else c .conditions .fault))
+fault-step c (write n v) =
+    by-verdict (λ o. o .next .conditions .fault ≡ (if isAccepted (o .answer) then faultAfter (eventOf (write n v)) (c .conditions .fault) else c .conditions .fault))
     (declinedBy (writeTests c n v)) c (writeAccepted c n v) (λ e. written-fault c n v e) (λ m. refl)
 
 -- ---- every list
 
-told : (t : Bool) (x : Call) (es : List Event) → stands (if t then eventOf x ∷ es else es) ≡ (if t then after (eventOf x) (stands es) else stands es)
+told : (t : Bool) (x : Call) (es : List Event) → stands (if t then eventOf x ∷ es else es) ≡ (if t then faultAfter (eventOf x) (stands es) else stands es)
 told true x es = stands-after (eventOf x) es
 told false x es = refl
 
@@ -89,5 +82,5 @@ fault-after word (xs then x) =
     let f = ours word xs .core .conditions .fault in
     let t = isAccepted (exactAnswer word xs x) in
     let answers-are = ap (λ (o : Outcome). isAccepted (o .answer)) (outcomes word xs x) in
-    step (ours word xs .core) x ∙ ap (λ (b : Bool). if b then after (eventOf x) f else f) answers-are ∙
-    ap (λ (g : Bool). if t then after (eventOf x) g else g) (fault-after word xs) ∙ sym (told t x (events word xs))
+    fault-step (ours word xs .core) x ∙ ap (λ (b : Bool). if b then faultAfter (eventOf x) f else f) answers-are ∙
+    ap (λ (g : Bool). if t then faultAfter (eventOf x) g else g) (fault-after word xs) ∙ sym (told t x (events word xs))

@@ -1,5 +1,5 @@
 -- The parts of demand 3, written out again from document 01's words. Shared with the rules are the types of the state and of the answers, the bits of a word, the value
--- of a parameter, and the exact controller. The conditions, their order, 85, the limits and what a word shows of the mode stand here a second time, so that a
+-- of a parameter, what a read answers, and the exact controller. The conditions, their order, 85, the limits and what a word shows of the mode stand here a second time, so that a
 -- rule isn't judged by itself.
 use mathlib.Core.Path.{_≡_}
 use mathlib.Core.Bool.{Bool, true, false, not, _&&_, _||_}
@@ -16,7 +16,7 @@ use Rattle.modes.specs.declared.Mode.the-variants.{Hold, Track, Forced, Manual,
 use Rattle.modes.specs.declared.Request.{Request}
 use Rattle.modes.specs.declared.Request.the-variants as request
 use Rattle.parameters.specs.Table.{value}
-use Rattle.controller.specs.Answers.{Said, words, acceptance, number, Handed}
+use Rattle.controller.specs.Answers.{Said, words, reading, acceptance, number, Handed}
 use Rattle.controller.specs.Read.{readIn}
 use Rattle.controller.specs.Scan.{Status, status, accepts, declined}
 use Rattle.controller.specs.declared.Controller.{Controller}
@@ -137,3 +137,8 @@ pub record SameReading (c : Controller) (now : Core) (n : ℕ) (said : Said) : T
   pub electrical : ℕ
   pub own : OwnOutput c op electrical
   pub same : said ≡ readIn now op n
+  -- by itself: MD, parameter 24, shows the mode that the conditions give, after a write too, and OP, parameter 28, is our own
+  pub md : ℕ
+  pub shows : ShowsMode md now
+  pub md-is : n ≡ 24 → said ≡ reading (pos md)
+  pub op-is : n ≡ 28 → said ≡ reading (pos op)

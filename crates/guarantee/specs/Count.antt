@@ -1,4 +1,4 @@
--- Document 01, "The exact controller": n, the automatic scans since the output was last set outright; and the consecutive open scans. "In demand 3 the conditions of
+-- Demand 3's n, the automatic scans since the output was last set outright, by document 01, "The exact controller"; and the consecutive open scans. "In demand 3 the conditions of
 -- step 3, the accepted automatic scans and the outright settings are read from the exact controller."
 use mathlib.Core.Bool.{Bool, true, false, not, _&&_, _||_}
 use mathlib.Core.Option.{Option, some}

@@ -12,10 +12,10 @@ use Rattle.controller.specs.declared.Core.{Core}
 
 -- ---- calls, and lists of them, the latest last
 
--- a further kind of call is a further case here, in `outcomeOf`, and in `Linked`
+-- a further kind of call is a further case here, in `outcomeOf`, in `Linked`, in `openAfter`, `setsOutright` and `isAutomaticScan` (Count), and in `eventOf` (Fault)
 pub data Call : Type 0 where
   scan : Input → Call
-  -- of a value to the parameter with a number, any two numbers
+  -- to the parameter with this number, of this value; any two numbers
   write : ℕ → ℤ → Call
 
 infixl 20 _then_

@@ -1,5 +1,6 @@
 -- Document 01, "The exact controller": "The memory fault stands exactly when the last accepted restart brought it and no accepted write of MD with bit 8 zero came
 -- after that restart." Said in full of the accepted calls, restarts among them; no call of this level is a restart yet.
+use mathlib.Core.Path.{_≡_}
 use mathlib.Core.Bool.{Bool, false, not, _&&_, _||_}
 use mathlib.Core.List.{List, [], _∷_}
 use Prim.Native.Nat.{ℕ}
@@ -7,8 +8,10 @@ use lib.Dec.{eqb}
 use lib.IntN.{natAbs}
 use Rattle.integers.specs.Choice.{if_then_else_}
 use Rattle.signals.specs.Bits.{bit}
+use Rattle.modes.specs.Modes.{counted}
+use Rattle.controller.specs.declared.Core.{Core}
 use Rattle.guarantee.specs.Count.{isAccepted}
-use Rattle.guarantee.specs.Exact.{Call, scan, write, Calls, none, _then_, exactAnswer}
+use Rattle.guarantee.specs.Exact.{Call, scan, write, Calls, none, _then_, outcomeOf, exactAnswer}
 
 -- what an accepted call is to that sentence
 pub data Event : Type 0 where
@@ -22,6 +25,17 @@ pub data Event : Type 0 where
 unfoldable pub eventOf : Call → Event
 eventOf (scan i) = another
 eventOf (write n v) = if eqb n 24 then wrote (natAbs v) else another
+
+-- the fault after one accepted call more
+abbrev pub faultAfter : Event → Bool → Bool
+faultAfter (restarted brought) fault = brought
+faultAfter (wrote word) fault = fault && bit word 8
+faultAfter another fault = fault
+
+-- what one call does to the fault in any state, the fault standing or not: so much of the sentence doesn't wait for restarts
+abbrev pub FaultStep : Type 0
+FaultStep = (c : Core) (x : Call) → let o = outcomeOf counted c x in
+    o .next .conditions .fault ≡ (if isAccepted (o .answer) then faultAfter (eventOf x) (c .conditions .fault) else c .conditions .fault)
 
 -- the accepted calls, the latest first
 unfoldable pub events : ℕ → Calls → List Event

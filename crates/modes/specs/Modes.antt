@@ -126,7 +126,7 @@ isAutoOrFallback Remote = false
 isAutoOrFallback Ratio = false
 isAutoOrFallback Fallback = true
 
--- the scan itself sets SL, so that no one else may write it: "SL in Remote, Ratio, or with S2.6 ON in a non-automatic mode"
+-- a scan may set SL itself, so that no one may write it: "SL in Remote, Ratio, or with S2.6 ON in a non-automatic mode"
 abbrev pub setsSetpoint : Mode → Bool → Bool
 setsSetpoint mode setpointtracks = isRemote mode || isRatio mode || setpointtracks && not (isAutomatic mode)
 

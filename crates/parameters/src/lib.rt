@@ -1,4 +1,4 @@
-// Parameters 1 to 23 and their numbers.
+// Parameters 1 to 23, and the numbers of all 32.
 ghost use mathlib.Core.Path.{_≡_};
 ghost use Rattle.parameters.specs.Table.{value, withValue};
 
@@ -23,69 +23,89 @@ pub enum Rule {
     // a range, and an order: the upper one of a pair has the odd number and the lower one the next; strictly in order where true
     Pair(i64, i64, bool),
     // between two other parameters, the lower and the upper one, named by their numbers
-    Between(usize, usize),
+    Between(u64, u64),
 }
 
-pub const H1: usize = 1;
+// The numbers, as `Controller::write` and `Controller::read` take them.
+pub const H1: u64 = 1;
 
-pub const L1: usize = 2;
+pub const L1: u64 = 2;
 
-pub const H2: usize = 3;
+pub const H2: u64 = 3;
 
-pub const L2: usize = 4;
+pub const L2: u64 = 4;
 
-pub const H3: usize = 5;
+pub const H3: u64 = 5;
 
-pub const L3: usize = 6;
+pub const L3: u64 = 6;
 
-pub const HR: usize = 7;
+pub const HR: u64 = 7;
 
-pub const LR: usize = 8;
+pub const LR: u64 = 8;
 
-pub const HS: usize = 9;
+pub const HS: u64 = 9;
 
-pub const LS: usize = 10;
+pub const LS: u64 = 10;
 
-pub const HA: usize = 11;
+pub const HA: u64 = 11;
 
-pub const LA: usize = 12;
+pub const LA: u64 = 12;
 
-pub const HD: usize = 13;
+pub const HD: u64 = 13;
 
-pub const LD: usize = 14;
+pub const LD: u64 = 14;
 
-pub const HO: usize = 15;
+pub const HO: u64 = 15;
 
-pub const LO: usize = 16;
+pub const LO: u64 = 16;
 
-pub const XP: usize = 17;
+pub const XP: u64 = 17;
 
-pub const TI: usize = 18;
+pub const TI: u64 = 18;
 
-pub const TD: usize = 19;
+pub const TD: u64 = 19;
 
-pub const SL: usize = 20;
+pub const SL: u64 = 20;
 
-pub const RS: usize = 21;
+pub const RS: u64 = 21;
 
-pub const RB: usize = 22;
+pub const RB: u64 = 22;
 
-pub const IC: usize = 23;
+pub const IC: u64 = 23;
+
+pub const MD: u64 = 24;
+
+pub const DS: u64 = 25;
+
+pub const SW: u64 = 26;
+
+pub const II: u64 = 27;
+
+pub const OP: u64 = 28;
+
+pub const SP: u64 = 29;
+
+pub const PV: u64 = 30;
+
+pub const ER: u64 = 31;
+
+pub const MP: u64 = 32;
 
 impl Parameters {
     // The value of a parameter, 0 for a number above 23. The contract rules out a neighbour's value.
-    pub fn get(self, number: usize) -> i64
+    pub fn get(self, number: u64) -> i64
         ensures { λ r. ⌜ r ≡ value self number ⌝ }
     {
-        if number < 24 { self.values[number] } else { 0 }
+        let place = number as usize;
+        if number < 24 { self.values[place] } else { 0 }
     }
 
     // The same but for one value. The contract rules out that another one changes.
-    pub fn with(mut self, number: usize, to: i64) -> Parameters
+    pub fn with(mut self, number: u64, to: i64) -> Parameters
         ensures { λ r. ⌜ r ≡ withValue self number to ⌝ }
     {
         if number < 24 {
-            self.values[number] = to;
+            self.values[number as usize] = to;
         }
         self
     }

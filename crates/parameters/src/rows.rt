@@ -22,7 +22,7 @@ fn in_order(strict: bool, low: i64, high: i64) -> bool
     }
 }
 
-fn partner(number: usize) -> usize
+fn partner(number: u64) -> u64
     requires { ⌜ 1 ≤ number × number ≤ 32 ⌝ }
     ensures { λ r. ⌜ r ≡ partner number ⌝ }
 {
@@ -33,7 +33,7 @@ fn partner(number: usize) -> usize
     }
 }
 
-fn ordered(strict: bool, number: usize, v: i64, w: i64) -> bool
+fn ordered(strict: bool, number: u64, v: i64, w: i64) -> bool
     ensures { λ r. ⌜ r ≡ ordered strict number v w ⌝ }
 {
     if number % 2 == 1 {
@@ -44,7 +44,7 @@ fn ordered(strict: bool, number: usize, v: i64, w: i64) -> bool
 }
 
 impl Rule {
-    // The contract rules out a number of the table that is taken for another's.
+    // The contract rules out a row of the table that is taken for none.
     pub fn is_unknown(self) -> bool
         ensures { λ r. ⌜ r ≡ isUnknown self ⌝ }
     {
@@ -58,7 +58,7 @@ impl Rule {
         }
     }
 
-    // The contract rules out a parameter that may be written.
+    // The contract rules out a row whose parameters may be written.
     pub fn is_read_only(self) -> bool
         ensures { λ r. ⌜ r ≡ isReadOnly self ⌝ }
     {
@@ -88,7 +88,7 @@ impl Rule {
 
     // Whether v and the stored value of the other one are in order. The contract rules out the wrong sense, another partner, and equal ends
     // of a channel.
-    pub fn pair_in_order(self, p: Parameters, number: usize, v: i64) -> bool
+    pub fn pair_in_order(self, p: Parameters, number: u64, v: i64) -> bool
         requires { ⌜ 1 ≤ number × number ≤ 32 ⌝ }
         ensures { λ r. ⌜ r ≡ pairInOrder self (value p) number v ⌝ }
     {

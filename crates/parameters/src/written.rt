@@ -5,7 +5,7 @@ use crate::Parameters;
 
 impl Parameters {
     // Limits one value anew to the values of two others.
-    fn limited_anew(self, number: usize, low: usize, high: usize) -> Parameters
+    fn limited_anew(self, number: u64, low: u64, high: u64) -> Parameters
         ensures { λ r. ⌜ r ≡ limitedAnew self number low high ⌝ }
     {
         let least = self.get(low);
@@ -16,7 +16,7 @@ impl Parameters {
     }
 
     // The contract rules out a limit that leaves SL or RS outside, and a write that moves any other parameter.
-    pub fn written(self, number: usize, v: i64) -> Parameters
+    pub fn written(self, number: u64, v: i64) -> Parameters
         ensures { λ r. ⌜ r ≡ written self number v ⌝ }
     {
         let next = self.with(number, v);

@@ -31,7 +31,7 @@ pub struct Reckoned {
 }
 
 // A sample scaled by the two parameters of these numbers.
-fn channel(p: Parameters, low: usize, high: usize, sample: u16) -> i64
+fn channel(p: Parameters, low: u64, high: u64, sample: u16) -> i64
     requires { ⌜ ChannelRange (value p low) (value p high) sample ⌝ }
     ensures { λ r. ⌜ r ≡ scaled (value p low) (value p high) sample ⌝ }
 {

@@ -1,3 +1,4 @@
 pub mod Bits
+pub mod RefusalLaws
 pub mod Refusals
 pub mod Signals

@@ -51,7 +51,7 @@ pub enum Push {
     Neither,
 }
 
-// Why a call is declined: 1 to 3 the plant's, 4 to 11 the writer's.
+// Why a call is declined: 1 to 3 the plant's, 4 to 11 the writer's, of which 4 is a reader's too.
 pub enum Refusal {
     // 1: a sample above 10000
     Sample,
@@ -67,7 +67,7 @@ pub enum Refusal {
     Range,
     // 7: a pair out of order
     Pair,
-    // 8: SL where the mode or S2.6 sets it
+    // 8: SL in Remote, Ratio, or with S2.6 ON in a non-automatic mode
     Setpoint,
     // 9: not exactly one of MD bits 13, 12, 11
     RequestBits,
@@ -77,6 +77,7 @@ pub enum Refusal {
     Cause,
 }
 
+// What a call that answers no value comes to: accepted, or why not.
 pub enum Verdict {
     Accepted,
     Refused(Refusal),

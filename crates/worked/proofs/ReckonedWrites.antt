@@ -1,17 +1,24 @@
--- The rules give what the reckoner gives, for each of its writes in specs/ReckonedWrites.antt: each side computes to the same state and answer.
+-- The rules give what the reckoner gives, for each of its writes and reads in specs/ReckonedWrites.antt: each side computes to the same state and answer.
 use mathlib.Core.Path.{refl}
+use Rattle.integers.specs.Limit.{limited, atLeast, atMost}
 use Rattle.signals.specs.Refusals.{declinedBy}
-use Rattle.signals.specs.Signals.{pinsOf}
-use Rattle.words.specs.Written.{conditionsWritten, powerWritten, mdTests}
-use Rattle.parameters.specs.Table.{ruleOf}
+use Rattle.signals.specs.Signals.{switchesOf, pinsOf, buttonsOf}
+use Rattle.modes.specs.Modes.{modeOf}
+use Rattle.words.specs.Words.{byteOf, mdHigh, mdLow, MD, dsLow, DS}
+use Rattle.words.specs.Written.{conditionsWritten, powerWritten, userBitsWritten, mdTests}
+use Rattle.parameters.specs.Table.{value, withValue, ruleOf}
+use Rattle.parameters.specs.Written.{limitedAnew, written}
+use Rattle.terms.specs.Fraction.{storedUnits, limitedStored}
 use Rattle.outputs.specs.Instruction as o
-use Rattle.outputs.specs.Outputs.{limitsWritten}
+use Rattle.outputs.specs.Outputs.{limitsIn, limitsWritten}
+use Rattle.controller.specs.Answers.{opOf}
+use Rattle.controller.specs.Read.{read, readIn}
 use Rattle.controller.specs.Scan as s
 use Rattle.controller.specs.Write as w
 use Rattle.worked.specs.Figures.{AllHold}
 use Rattle.worked.specs.ReckonedWrites.{reckonedWrites}
 
 pub reckoned-writes-hold : AllHold reckonedWrites
-unfolding reckonedWrites w.write w.writeCore w.writeAccepted w.writeTests w.stateTests w.coreWith w.coreWritten w.mdWritten limitsWritten conditionsWritten powerWritten mdTests ruleOf declinedBy pinsOf s.handedBack s.controllerAfter s.refused o.changed o.limitedTo o.carriedOut
+unfolding reckonedWrites w.write w.writeCore w.writeAccepted w.writeTests w.stateTests w.setpointTests w.coreWith w.coreWritten w.mdWritten w.dsWritten w.parameterWritten read readIn opOf limitsIn limitsWritten limitedAnew written value withValue ruleOf conditionsWritten powerWritten userBitsWritten mdTests declinedBy switchesOf pinsOf buttonsOf modeOf byteOf mdHigh mdLow MD dsLow DS limited atLeast atMost storedUnits limitedStored s.handedBack s.controllerAfter s.refused s.modeNow o.storedArithmetic o.changed o.limitedTo o.carriedOut
 reckoned-writes-hold =
-    (refl, (refl, (refl, (refl, (refl, (refl, (refl, (refl, (refl, (refl, (refl, (refl, (refl, (refl, (refl, (refl, (refl, (refl, (refl, (refl, (refl, (refl, (refl, (refl, (refl, (refl, (refl, (refl, (refl, (refl, (refl, (refl, (refl, (refl, (refl, (refl, (refl, (refl, (refl, (refl, (refl, (refl, (refl, (refl, (refl, (refl, (refl, (refl, (refl, (refl, (refl, (refl, (refl, (refl, (refl, (refl, (refl, (refl, (refl, (refl, (refl, (refl, (refl, (refl, (refl, (refl, (refl, (refl, (refl, (refl, (refl, (refl, (refl, (refl, (refl, (refl, (refl, (refl, (refl, (refl, (refl, (refl, (refl, (refl, (refl, (refl, (refl, (refl, (refl, (refl, (refl, (refl, (refl, (refl, (refl, (refl, tt))))))))))))))))))))))))))))))))))))))))))))))))))))))))))))))))))))))))))))))))))))))))))))))))
+    (refl, (refl, (refl, (refl, (refl, (refl, (refl, (refl, (refl, (refl, (refl, (refl, (refl, (refl, (refl, (refl, (refl, (refl, (refl, (refl, (refl, (refl, (refl, (refl, (refl, (refl, (refl, (refl, (refl, (refl, (refl, (refl, (refl, (refl, (refl, (refl, (refl, (refl, (refl, (refl, (refl, (refl, (refl, (refl, (refl, (refl, (refl, (refl, (refl, (refl, (refl, (refl, (refl, (refl, (refl, (refl, (refl, (refl, (refl, (refl, (refl, (refl, (refl, (refl, (refl, (refl, (refl, (refl, (refl, (refl, (refl, (refl, (refl, (refl, (refl, (refl, (refl, (refl, (refl, (refl, (refl, (refl, (refl, (refl, (refl, (refl, (refl, (refl, (refl, (refl, (refl, (refl, (refl, (refl, (refl, (refl, (refl, (refl, (refl, (refl, (refl, (refl, (refl, (refl, (refl, (refl, (refl, (refl, (refl, (refl, (refl, (refl, (refl, (refl, (refl, (refl, (refl, (refl, (refl, (refl, (refl, (refl, (refl, (refl, (refl, (refl, (refl, (refl, (refl, (refl, (refl, (refl, (refl, (refl, (refl, (refl, (refl, (refl, (refl, (refl, (refl, (refl, (refl, (refl, (refl, (refl, (refl, (refl, (refl, (refl, (refl, (refl, (refl, (refl, (refl, (refl, (refl, (refl, (refl, (refl, (refl, (refl, (refl, (refl, (refl, (refl, (refl, (refl, (refl, (refl, (refl, (refl, (refl, (refl, (refl, (refl, (refl, (refl, (refl, tt)))))))))))))))))))))))))))))))))))))))))))))))))))))))))))))))))))))))))))))))))))))))))))))))))))))))))))))))))))))))))))))))))))))))))))))))))))))))))))))))))))))))))))))))))))
