@@ -1,4 +1,4 @@
-# Two commands: `make run` proves, builds and plays figures and a drying session; `make test` is the gate.
+# Two commands: `make run` proves, builds and plays figures, a drying session and two dryers; `make test` is the gate.
 .PHONY: run test
 
 run:

@@ -2,9 +2,9 @@
 
 Usage: python3 demo/feed.py LEADING FOLLOWING CONSOLE
 
-Both arguments are sessions in the form that demo/play.py reads, with as many scans each; behind every scan of the leading dryer its PV is read. That
-answer of the console, scaled by the dryer's own range, becomes sample 2 of the following dryer's scan before it is played, and must be the one
-recorded. A line is shown for each scan behind which PV, SP and SL are read in both sessions.
+LEADING and FOLLOWING are sessions in the form that demo/play.py reads, with equally many scans; behind every scan of the leading dryer its PV is
+read. That PV, turned back into a sample by the leading dryer's range, becomes sample 2 of the following dryer's scan before it is played, and
+must be the one recorded. A line is shown for each scan behind which PV, SP and SL are read in both sessions.
 """
 
 import subprocess

@@ -25,11 +25,11 @@ HEADS = {
 # BUTTONS SENSORS; pins: 128 Hold at 15 V, 64 Track, 1 unit address; buttons: 2 A. Parameters: 1 1H, 2 1L, 9 HS, 17 XP, 18 TI, 20 SL, 29 SP, 30 PV.
 """,
     FOLLOWING: """# The following dryer, call by call: what the console is given. Text behind a # is a comment. Made with a simple drum, not measured. Sample 2
-# of each scan is the PV that the leading dryer of leading.txt has in the same scan. Pins: 128 Hold at 15 V, 64 Track, 32 Remote, 2 unit
+# of each scan is the sample that gives the PV of the leading dryer, leading.txt, in the same scan. Pins: 128 Hold at 15 V, 64 Track, 32 Remote, 2 unit
 # address; buttons: 64 Raise, 8 SP, 4 R. Parameters: 1 1H, 3 2H, 7 HR, 8 LR, 9 HS, 17 XP, 18 TI, 20 SL, 21 RS, 22 RB, 29 SP, 30 PV.
 """}
 SCANS, SHOWN_EVERY = 120, 6
-RANGE = 1200            # 0 to 120.0 degrees on every channel
+RANGE = 1200            # 0 to 120.0 degrees on channels 1 and 2
 TRACK, REMOTE, NO_REMOTE = 0xC0, 0xA2, 0x82
 A_BUTTON, R_BUTTON, SP_AND_RAISE = 0x02, 0x04, 0x48
 

@@ -33,7 +33,7 @@ def terms(name, SW, set_before, calls, steps):
 
 
 def manual(name, set_before, sample, DS):
-    """One scan in Manual, for the alarms; "3 is 0 for battery low, 2 for a cause, 1 for low alarm, 0 for high"."""
+    """One scan in Manual, for the alarms; "3 is 0 for battery low, 2 for a cause, 1 for low alarm .., 0 for high .."."""
     return Case("alarm: " + name, 0, set_before, [scan(first=sample)], {"MD": 0x2000, "DS": DS})
 
 

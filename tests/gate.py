@@ -6,6 +6,7 @@ The steps are `rt ci` (every listed crate proved from nothing, must-fail edits r
 the tests. The last line printed is 'N passed, M failed' over all steps; the exit status is 0 only if M is 0.
 """
 
+import concurrent.futures
 import pathlib
 import re
 import subprocess
@@ -18,33 +19,43 @@ HERE = pathlib.Path(__file__).resolve().parent
 PYTHON = [sys.executable, "-B"]
 TALLY = re.compile(r"(\d+) passed, (\d+) failed")
 
-STEPS = (
+PROOFS = (
     ("proofs", ["rt", "ci"]),
+)
+# Two at once, the longest first
+TESTS = (
+    ("calls against the reckoner", [*PYTHON, "tests/console.py", "target/bin/console"]),
+    ("arithmetic against the reckoner", [*PYTHON, "tests/arithmetic.py", "target/bin/calculator"]),
     ("layout", [*PYTHON, "tests/layout.py"]),
     ("names in the documents", [*PYTHON, "tests/docs.py"]),
     ("the gate's own tests", [*PYTHON, "tests/gate_test.py"]),
-    ("arithmetic against the reckoner", [*PYTHON, "tests/arithmetic.py", "target/bin/calculator"]),
     ("the reckoner's scans that the rules are proved to give", [*PYTHON, "tests/reckoned_scans.py"]),
     ("the reckoner's writes that the rules are proved to give", [*PYTHON, "tests/reckoned_writes.py"]),
-    ("calls against the reckoner", [*PYTHON, "tests/console.py", "target/bin/console"]),
     ("the recorded sessions of two dryers", [*PYTHON, "demo/record.py", "--check"]),
+)
+# Timed, and so alone
+SPEED = (
     ("the console's speed", [*PYTHON, "tests/speed.py", "target/bin/console"]),
 )
 
 
-def run_step(command, folder):
-    """The step's output, shown as it comes; its last line and its exit status."""
-    last = ""
+def run_step(command, folder, show):
+    """The step's lines, each shown as it comes; its exit status and its seconds."""
+    lines, began = [], time.monotonic()
     try:
         process = subprocess.Popen(command, cwd=folder, stdin=subprocess.DEVNULL, stdout=subprocess.PIPE,
                                    stderr=subprocess.STDOUT, text=True, errors="replace")
     except OSError as error:
-        print(error)
-        return last, 1
+        return [str(error)], 1, 0
     for line in process.stdout:
-        print(line, end="", flush=True)
-        last = line.strip() or last
-    return last, process.wait()
+        show(line)
+        lines.append(line)
+    return lines, process.wait(), time.monotonic() - began
+
+
+def last_of(lines):
+    """The last line that isn't blank."""
+    return next((line.strip() for line in reversed(lines) if line.strip()), "")
 
 
 def judge(last, status):
@@ -60,21 +71,26 @@ def judge(last, status):
     return passed, failed, ""
 
 
-def gate(steps, folder):
-    """All steps, the later ones too when one fails; the sums of what passed and failed."""
+def gate(steps, folder, at_once=1):
+    """All steps, the later ones too when one fails; the sums of what passed and failed. A step alone is shown as it goes, others when they have ended."""
     passed = failed = 0
-    for name, command in steps:
-        print(f"== {name}: {' '.join(map(str, command))}", flush=True)
-        began = time.monotonic()
-        more_passed, more_failed, trouble = judge(*run_step(command, folder))
-        print(f"== {name}: {more_passed} passed, {more_failed} failed{trouble and ' (' + trouble + ')'}, "
-              f"{time.monotonic() - began:.0f} s\n", flush=True)
-        passed, failed = passed + more_passed, failed + more_failed
+    show = (lambda line: print(line, end="", flush=True)) if at_once == 1 else (lambda line: None)
+    with concurrent.futures.ThreadPoolExecutor(at_once) as pool:
+        runs = [pool.submit(run_step, command, folder, show) for _, command in steps]
+        for (name, command), run in zip(steps, runs, strict=True):
+            print(f"== {name}: {' '.join(map(str, command))}", flush=True)
+            lines, status, seconds = run.result()
+            print("".join(lines) if at_once > 1 else "", end="")
+            more_passed, more_failed, trouble = judge(last_of(lines), status)
+            print(f"== {name}: {more_passed} passed, {more_failed} failed{trouble and ' (' + trouble + ')'}, {seconds:.0f} s\n", flush=True)
+            passed, failed = passed + more_passed, failed + more_failed
     return passed, failed
 
 
 def main():
-    return tally.close(*gate(STEPS, HERE.parent))
+    folder = HERE.parent
+    counts = gate(PROOFS, folder), gate(TESTS, folder, at_once=2), gate(SPEED, folder)
+    return tally.close(*map(sum, zip(*counts)))
 
 
 if __name__ == "__main__":

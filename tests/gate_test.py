@@ -22,6 +22,12 @@ def outcome(script):
         return gate.gate([("step", ["sh", "-c", script])], ".")
 
 
+def two_at_once(first, second):
+    """What the gate says of two steps that run at once."""
+    with contextlib.redirect_stdout(io.StringIO()):
+        return gate.gate([("first", ["sh", "-c", first]), ("second", ["sh", "-c", second])], ".", at_once=2)
+
+
 def no_such_command():
     with contextlib.redirect_stdout(io.StringIO()):
         return gate.gate([("step", ["no-such-command-at-all"])], ".")
@@ -55,6 +61,8 @@ CASES = (
     ("a tally that is not the last line", lambda: outcome("echo 3 passed, 0 failed; echo done") == (0, 1)),
     ("a tally of nothing", lambda: outcome("echo 0 passed, 0 failed") == (0, 1)),
     ("a command that is not there", lambda: no_such_command() == (0, 1)),
+    ("two at once that pass", lambda: two_at_once("sleep 0.1; echo 3 passed, 0 failed", "echo 4 passed, 0 failed") == (7, 0)),
+    ("one of two at once that fails", lambda: two_at_once("echo 3 passed, 0 failed", "echo 4 passed, 1 failed; exit 1") == (7, 1)),
     ("a crate that is not listed", unlisted_crate_is_refused),
 )
 

@@ -1,7 +1,7 @@
 """The arithmetic of document 01, reckoned exactly.
 
-Made from document 01 alone and never from the code, so that a
-comparison of the two is a comparison with the paper.  Whole numbers and
+Made from document 01 and our decision on the exact half, never from the
+code, so that a comparison of the two is a comparison with the paper.  Whole numbers and
 fractions only; nothing here is a floating-point number.
 
 Switches are given as True or 1 for ON, False or 0 for OFF.

@@ -1,4 +1,4 @@
-"""The table of document 01, "Parameters": numbers, names, ranges, pairs and defaults.  It stands here and nowhere else in the tests."""
+"""The table of document 01, "Parameters": numbers, names, ranges, pairs and defaults.  The reckoner takes it from here; tests/parameter_lists.py draws within the same ends."""
 
 from typing import NamedTuple
 

@@ -69,7 +69,7 @@ impl Core {
         self.state_verdict(number, v)
     }
 
-    // The same but for these three: what else there is no write touches.
+    // The same but for these three: no write touches anything else.
     fn with(self, parameters: Parameters, conditions: Conditions, marks: Marks) -> Core
         ensures { λ r. ⌜ r ≡ coreWith self parameters conditions marks ⌝ }
     {
@@ -146,8 +146,9 @@ impl Controller {
         Controller { core, output }
     }
 
-    // One write: the next controller and that it was accepted, or the refusal and the controller as it was. The contract gives the whole of both, so it
-    // rules out a write that changes anything else, one that forgets what it should do besides, and a refusal for no listed cause.
+    // One write of a value, in the parameter's own units (`parameters` has the numbers by name): the next controller and that it was accepted, or a
+    // refusal from 4 to 11 and the controller as it was. The contract gives the whole of both, so it rules out a write that changes anything else,
+    // one that forgets what it should do besides, and a refusal for no listed cause.
     pub fn write(self, number: u64, value: i32) -> Written
         requires { ⌜ Valid self ⌝ }
         ensures { λ r. ⌜ handedOfWrite r ≡ write self number value ⌝ }

@@ -58,8 +58,8 @@ isAccepted (status md ds) = true
 isAccepted accepts = true
 isAccepted (declined n) = false
 
--- consecutive open scans, told by the calls and by which of them were accepted: an accepted open scan is one more, an accepted scan that isn't open starts anew, a declined one counts as none, and so does
--- a write
+-- consecutive open scans, told by the calls and by which of them were accepted: an accepted open scan is one more, an accepted scan that isn't open starts anew, a declined scan and a
+-- write leave the count
 unfoldable pub openAfter : Call → Status → ℕ → ℕ
 openAfter (scan i) answer n = if not (isAccepted answer) then n else if bit (i .sensors) 0 then n + 1 else 0
 openAfter (write number value) answer n = n

@@ -12,10 +12,10 @@ use Rattle.controller.specs.declared.Core.{Core}
 
 -- ---- calls, and lists of them, the latest last
 
--- a further kind of call is a further case here, in `outcomeOf`, in `Linked`, in `openAfter`, `setsOutright` and `isAutomaticScan` (Count), and in `eventOf` (Fault)
+-- a further kind of call is a further case here, in `outcomeOf`, in `Linked`, in `openAfter`, `setsOutright` and `isAutomaticScan` (Count), and in `eventOf` (Fault); `Ready` gets its `requires`
 pub data Call : Type 0 where
   scan : Input → Call
-  -- to the parameter with this number, of this value; any two numbers
+  -- to the parameter with this number, of this value: any natural number, any integer
   write : ℕ → ℤ → Call
 
 infixl 20 _then_

@@ -196,7 +196,7 @@ pub fn is_auto_or_fallback(mode: Mode) -> bool
     }
 }
 
-// Whether SL is left to the scans of this mode. The contract rules out Auto and Fall-back, and any other mode but Remote and Ratio with S2.6 OFF.
+// Whether SL is left to the scans of this mode. The contract rules out Auto and Fall-back, and, with S2.6 OFF, every mode but Remote and Ratio.
 pub fn sets_setpoint(mode: Mode, setpointtracks: bool) -> bool
     ensures { λ r. ⌜ r ≡ setsSetpoint mode setpointtracks ⌝ }
 {
