@@ -8,7 +8,7 @@ use Rattle.integers.specs.Choice.{if_then_else_}
 use Rattle.signals.specs.Bits.{bit}
 use Rattle.signals.specs.declared.Input.{Input}
 use Rattle.signals.specs.declared.Refusal.{Refusal}
-use Rattle.signals.specs.declared.Refusal.the-variants.{Sample, ButtonBits, SensorBits, Number, ReadOnly, Range, Pair, Setpoint, RequestBits, RemotePin, Cause}
+use Rattle.signals.specs.declared.Refusal.the-variants.{Sample, ButtonBits, SensorBits, Number, ReadOnly, Range, Pair, Setpoint, RequestBits, RemotePin, Cause, ImageLength, ImageField, ImageValue, ShortBuffer}
 use Rattle.signals.specs.declared.Verdict.{Verdict}
 use Rattle.signals.specs.declared.Verdict.the-variants.{Accepted, Refused}
 
@@ -25,6 +25,10 @@ numberOf Setpoint = 8
 numberOf RequestBits = 9
 numberOf RemotePin = 10
 numberOf Cause = 11
+numberOf ImageLength = 12
+numberOf ImageField = 13
+numberOf ImageValue = 14
+numberOf ShortBuffer = 15
 
 -- and of a verdict: none where the call is accepted
 abbrev pub numberIn : Verdict → Option ℕ

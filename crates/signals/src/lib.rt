@@ -51,7 +51,7 @@ pub enum Push {
     Neither,
 }
 
-// Why a call is declined: 1 to 3 the plant's, 4 to 11 the writer's, of which 4 is a reader's too.
+// Why a call is declined: 1 to 3 the plant's, 4 to 11 the writer's, of which 4 is a reader's too, 12 to 14 those of an image's bearer, 15 the lender's.
 pub enum Refusal {
     // 1: a sample above 10000
     Sample,
@@ -75,6 +75,14 @@ pub enum Refusal {
     RemotePin,
     // 11: MD bit 12 or 11 when a cause would remain
     Cause,
+    // 12: an image's length isn't 137
+    ImageLength,
+    // 13: a wrong tag or length in an image
+    ImageField,
+    // 14: an illegal value in an image whose sumcheck is right
+    ImageValue,
+    // 15: fewer than 137 bytes to save into
+    ShortBuffer,
 }
 
 // What a call that answers no value comes to: accepted, or why not.
@@ -176,6 +184,10 @@ impl Refusal {
             Refusal::RequestBits => 9,
             Refusal::RemotePin => 10,
             Refusal::Cause => 11,
+            Refusal::ImageLength => 12,
+            Refusal::ImageField => 13,
+            Refusal::ImageValue => 14,
+            Refusal::ShortBuffer => 15,
         }
     }
 }

@@ -1,0 +1,153 @@
+-- Values that are laid down are taken up again, and fields that are taken up are laid down as the same bytes.
+use mathlib.Core.Path.{_≡_, refl, ap, _∙_}
+use mathlib.Core.Bool.{Bool, true, false, _&&_}
+use mathlib.Core.List.{List, [], _∷_, _++_, append-nil, append-assoc}
+use Prim.Native.Nat.{ℕ, zero, suc, _+_, _*_, _/_, _%_, _^_, _≤_, _<_}
+use native.Mathlib.Nat.{not-suc-le-zero, add-zero, zero-add}
+use native.Mathlib.Omega.{arith}
+use lib.Dec.{eqb}
+use lib.ListN.{length, drop, getD, length-drop}
+use lib.Seq.{getD-drop}
+use borrow.Author.Tests.{eq-eqb, eqb-true}
+use Rattle.integers.specs.Choice.{never}
+use Rattle.fields.specs.FieldLaws.{by-length, startOf, next-start, start-grows}
+use Rattle.fields.specs.Fields.{tagOf, lengthOf, valueBytes, fieldBytes, fieldsFrom}
+use Rattle.fields.specs.Reading.{isHeaded, valueIn, formedFrom, valuesFrom}
+
+pub formed-more : (place many : ℕ) (b : List ℕ) → isHeaded (tagOf place) (lengthOf place) b ≡ true →
+    formedFrom place (suc many) b ≡ formedFrom (suc place) many (drop (3 + lengthOf place) b)
+unfolding formedFrom
+formed-more place many b h = rw h
+
+pub values-more : (place many : ℕ) (b : List ℕ) →
+    valuesFrom place (suc many) b ≡ valueIn (lengthOf place) b ∷ valuesFrom (suc place) many (drop (3 + lengthOf place) b)
+unfolding valuesFrom
+values-more place many b = refl
+
+-- ---- laid down, then taken up
+
+-- each value fits its field, from this place on
+abbrev pub Fit : ℕ → List ℕ → Type 0
+Fit place [] = Unit {0}
+Fit place (v ∷ vs) = (v < 256 ^ lengthOf place) × Fit (suc place) vs
+
+head-of : (tag v : ℕ) (rest : List ℕ) (place : ℕ) → isHeaded tag (lengthOf place) (fieldBytes tag (lengthOf place) v ++ rest) ≡ true
+unfolding isHeaded fieldBytes valueBytes
+head-of tag v rest place = by-length (λ (n : ℕ). isHeaded tag n (fieldBytes tag n v ++ rest) ≡ true) (rw (eq-eqb tag tag refl)) (rw (eq-eqb tag tag refl)) place
+
+rest-of : (tag v : ℕ) (rest : List ℕ) (place : ℕ) → drop (3 + lengthOf place) (fieldBytes tag (lengthOf place) v ++ rest) ≡ rest
+unfolding fieldBytes valueBytes
+rest-of tag v rest place = by-length (λ (n : ℕ). drop (3 + n) (fieldBytes tag n v ++ rest) ≡ rest) refl refl place
+
+value-of : (tag v : ℕ) (rest : List ℕ) (place : ℕ) → v < 256 ^ lengthOf place → valueIn (lengthOf place) (fieldBytes tag (lengthOf place) v ++ rest) ≡ v
+unfolding valueIn fieldBytes valueBytes
+value-of tag v rest place =
+    by-length (λ (n : ℕ). v < 256 ^ n → valueIn n (fieldBytes tag n v ++ rest) ≡ v) (λ h. omega arith) (λ h. omega arith) place
+
+pub laid-formed : (vs : List ℕ) (place : ℕ) (rest : List ℕ) → formedFrom place (length vs) (fieldsFrom place vs ++ rest) ≡ true
+unfolding fieldsFrom formedFrom
+laid-formed [] place rest = refl
+laid-formed (v ∷ vs) place rest =
+    let field = fieldBytes (tagOf place) (lengthOf place) v in
+    let b = (field ++ fieldsFrom (suc place) vs) ++ rest in
+    let a : b ≡ field ++ (fieldsFrom (suc place) vs ++ rest) = append-assoc field (fieldsFrom (suc place) vs) rest in
+    cc (formed-more place (length vs) b (ap (isHeaded (tagOf place) (lengthOf place)) a ∙ head-of (tagOf place) v _ place), rest-of (tagOf place) v (fieldsFrom (suc place) vs ++ rest) place, laid-formed vs (suc place) rest)
+
+pub laid-values : (vs : List ℕ) (place : ℕ) (rest : List ℕ) → Fit place vs → valuesFrom place (length vs) (fieldsFrom place vs ++ rest) ≡ vs
+unfolding fieldsFrom valuesFrom
+laid-values [] place rest f = refl
+laid-values (v ∷ vs) place rest f =
+    let field = fieldBytes (tagOf place) (lengthOf place) v in
+    let b = (field ++ fieldsFrom (suc place) vs) ++ rest in
+    let a : b ≡ field ++ (fieldsFrom (suc place) vs ++ rest) = append-assoc field (fieldsFrom (suc place) vs) rest in
+    cc (values-more place (length vs) b, value-of (tagOf place) v (fieldsFrom (suc place) vs ++ rest) place (f .0), rest-of (tagOf place) v (fieldsFrom (suc place) vs ++ rest) place, laid-values vs (suc place) rest (f .1))
+
+-- ---- taken up, then laid down
+
+-- each element is a byte
+abbrev pub Bytes : List ℕ → Type 0
+Bytes b = (k : ℕ) → getD b k 0 < 256
+
+left : (p q : Bool) → p && q ≡ true → p ≡ true
+left true q e = refl
+left false q e = e
+
+right : (p q : Bool) → p && q ≡ true → q ≡ true
+right true q e = e
+right false q e = never e
+
+-- what begins with a field is that field and the rest
+field-two : (tag : ℕ) (b : List ℕ) → 5 ≤ length b → Bytes b → isHeaded tag 2 b ≡ true → fieldBytes tag 2 (valueIn 2 b) ++ drop 5 b ≡ b
+unfolding fieldBytes valueBytes isHeaded valueIn
+field-two tag [] h y e = absurd (not-suc-le-zero h)
+field-two tag (a ∷ []) h y e = let n : ⊥ = omega arith in absurd n
+field-two tag (a ∷ b ∷ []) h y e = let n : ⊥ = omega arith in absurd n
+field-two tag (a ∷ b ∷ c ∷ []) h y e = let n : ⊥ = omega arith in absurd n
+field-two tag (a ∷ b ∷ c ∷ d ∷ []) h y e = let n : ⊥ = omega arith in absurd n
+field-two tag (a ∷ b ∷ c ∷ d ∷ f ∷ r) h y e =
+    let low : f < 256 = y 4 in
+    let e0 : a ≡ tag = eqb-true _ _ (left (eqb a tag) _ e) in
+    let e12 : (eqb b 0 && eqb c 2) ≡ true = right (eqb a tag) _ e in
+    let e1 : b ≡ 0 = eqb-true _ _ (left (eqb b 0) _ e12) in
+    let e2 : c ≡ 2 = eqb-true _ _ (right (eqb b 0) _ e12) in
+    let e3 : (d * 256 + f) / 256 ≡ d = omega arith in
+    let e4 : (d * 256 + f) % 256 ≡ f = omega arith in
+    cc
+
+field-one : (tag : ℕ) (b : List ℕ) → 4 ≤ length b → Bytes b → isHeaded tag 1 b ≡ true → fieldBytes tag 1 (valueIn 1 b) ++ drop 4 b ≡ b
+unfolding fieldBytes valueBytes isHeaded valueIn
+field-one tag [] h y e = absurd (not-suc-le-zero h)
+field-one tag (a ∷ []) h y e = let n : ⊥ = omega arith in absurd n
+field-one tag (a ∷ b ∷ []) h y e = let n : ⊥ = omega arith in absurd n
+field-one tag (a ∷ b ∷ c ∷ []) h y e = let n : ⊥ = omega arith in absurd n
+field-one tag (a ∷ b ∷ c ∷ d ∷ r) h y e =
+    let low : d < 256 = y 3 in
+    let e0 : a ≡ tag = eqb-true _ _ (left (eqb a tag) _ e) in
+    let e12 : (eqb b 0 && eqb c 1) ≡ true = right (eqb a tag) _ e in
+    let e1 : b ≡ 0 = eqb-true _ _ (left (eqb b 0) _ e12) in
+    let e2 : c ≡ 1 = eqb-true _ _ (right (eqb b 0) _ e12) in
+    let e3 : d % 256 ≡ d = omega arith in
+    cc
+
+field-is : (tag place : ℕ) (b : List ℕ) → 3 + lengthOf place ≤ length b → Bytes b → isHeaded tag (lengthOf place) b ≡ true →
+    fieldBytes tag (lengthOf place) (valueIn (lengthOf place) b) ++ drop (3 + lengthOf place) b ≡ b
+field-is tag place b =
+    by-length (λ (n : ℕ). 3 + n ≤ length b → Bytes b → isHeaded tag n b ≡ true → fieldBytes tag n (valueIn n b) ++ drop (3 + n) b ≡ b)
+    (field-one tag b) (field-two tag b) place
+
+drop-bytes : (n : ℕ) (b : List ℕ) → Bytes b → Bytes (drop n b)
+drop-bytes n b y = λ k. rw getD-drop (y (n + k))
+
+-- so many fields from this place on, with no byte behind them
+taken-fields : (many place : ℕ) (b : List ℕ) → place + many ≤ 28 → startOf place + length b ≡ startOf (place + many) → Bytes b → formedFrom place many b ≡ true →
+    fieldsFrom place (valuesFrom place many b) ≡ b
+unfolding fieldsFrom valuesFrom formedFrom
+taken-fields zero place [] h e y f = refl
+taken-fields zero place (x ∷ b) h e y f =
+    let z : startOf (place + 0) ≡ startOf place = ap startOf (add-zero place) in
+    let n : ⊥ = omega arith in absurd n
+taken-fields (suc many) place b h e y f =
+    let hd : isHeaded (tagOf place) (lengthOf place) b ≡ true = left (isHeaded (tagOf place) (lengthOf place) b) _ f in
+    let o : startOf place + (3 + lengthOf place) ≡ startOf (place + 1) = next-start place (omega arith) in
+    let s : place + suc many ≡ suc place + many = omega arith in
+    let s1 : place + 1 ≡ suc place = omega arith in
+    let oe : startOf (place + suc many) ≡ startOf (suc place + many) = ap startOf s in
+    let o1 : startOf (place + 1) ≡ startOf (suc place) = ap startOf s1 in
+    let up : startOf (suc place) ≤ startOf (suc place + many) = start-grows many (suc place) (omega arith) in
+    let fit : 3 + lengthOf place ≤ length b = omega arith in
+    let rest : fieldsFrom (suc place) (valuesFrom (suc place) many (drop (3 + lengthOf place) b)) ≡ drop (3 + lengthOf place) b =
+    taken-fields many (suc place) (drop (3 + lengthOf place) b) (omega arith) (omega (arith, length-drop (3 + lengthOf place) b)) (drop-bytes (3 + lengthOf place) b y)
+    (right (isHeaded (tagOf place) (lengthOf place) b) _ f) in
+    cc (field-is (tagOf place) place b fit y hd)
+
+-- ---- at a whole image
+
+pub saved-formed : (vs : List ℕ) → length vs ≡ 28 → formedFrom 0 28 (fieldsFrom 0 vs) ≡ true
+saved-formed vs size = cc (laid-formed vs 0 [], append-nil (fieldsFrom 0 vs))
+
+pub saved-values : (vs : List ℕ) → length vs ≡ 28 → Fit 0 vs → valuesFrom 0 28 (fieldsFrom 0 vs) ≡ vs
+saved-values vs size fit = cc (laid-values vs 0 [] fit, append-nil (fieldsFrom 0 vs))
+
+pub saved-again : (b : List ℕ) → length b ≡ 137 → Bytes b → formedFrom 0 28 b ≡ true → fieldsFrom 0 (valuesFrom 0 28 b) ≡ b
+unfolding startOf
+saved-again b size bytes formed = taken-fields 28 0 b (omega arith) (zero-add (length b) ∙ size) bytes formed

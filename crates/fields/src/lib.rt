@@ -1,0 +1,101 @@
+// The image as bytes: 28 fields of a tag, a length and a value, laid down in a lent buffer and taken up again; and the sumcheck over the values.
+ghost use mathlib.Core.Path.{_≡_};
+ghost use mathlib.Core.List.{_++_};
+ghost use Prim.Native.Nat.{_+_, _≤_, _<_};
+ghost use lib.ListN.{length, drop, take};
+ghost use Rattle.signals.specs.Refusals.{numberIn, declinedBy};
+ghost use Rattle.fields.specs.Fields.{tagOf, lengthOf, fieldBytes, fieldsFrom, sumOf, withSumcheck, saveTests, savedIn};
+use signals::Refusal;
+use signals::Verdict;
+
+mod reading;
+
+fn tag_of(place: usize) -> u8
+    requires { ⌜ place < 28 ⌝ }
+    ensures { λ r. ⌜ r ≡ tagOf place ⌝ }
+{
+    if place < 23 {
+        (place + 1) as u8
+    } else if place < 27 {
+        (place - 23 + 0x41) as u8
+    } else {
+        0x7F
+    }
+}
+
+fn length_of(place: usize) -> u8
+    requires { ⌜ place < 28 ⌝ }
+    ensures { λ r. ⌜ r ≡ lengthOf place ⌝ }
+{
+    if place < 24 {
+        2
+    } else if place < 27 {
+        1
+    } else {
+        2
+    }
+}
+
+// Lays one field at the front of the part that is lent. The contract rules out a byte behind the field that changes.
+fn lay_field(part: &mut [u8], tag: u8, size: u8, value: u16)
+    requires { ⌜ (3 + size ≤ length (now part)) × (1 ≤ size) × (size ≤ 2) ⌝ }
+    ensures { λ _. ⌜ now (part .exit) ≡ fieldBytes tag size value ++ drop (3 + size) (now (part .entry)) ⌝ }
+{
+    part[0] = tag;
+    part[1] = 0;
+    part[2] = size;
+    if size == 2 {
+        part[3] = (value / 256) as u8;
+        part[4] = (value % 256) as u8;
+    } else {
+        part[3] = (value % 256) as u8;
+    }
+}
+
+// Lays all fields, each in the part of the buffer behind the fields before it.
+fn lay(values: [u16; 28], buffer: &mut [u8])
+    requires { ⌜ 137 ≤ length (now buffer) ⌝ }
+    ensures { λ _. ⌜ now (buffer .exit) ≡ fieldsFrom 0 values ++ drop 137 (now (buffer .entry)) ⌝ }
+{
+    let mut start: usize = 0;
+    let mut place: usize = 0;
+    while place < 28 {
+        let size = length_of(place);
+        lay_field(&mut buffer[start..], tag_of(place), size, values[place]);
+        start = start + 3 + (size as usize);
+        place += 1;
+    }
+}
+
+// Saves the values of all 28 fields. The contract gives the verdict and every byte of the buffer, so it rules out a refusal of 137 bytes, an image that is
+// laid elsewhere, a byte behind it that changes, and a short buffer that doesn't stay.
+pub fn save(values: [u16; 28], buffer: &mut [u8]) -> Verdict
+    ensures { λ r. ⌜ (numberIn r ≡ declinedBy (saveTests (now (buffer .entry)))) × (now (buffer .exit) ≡ savedIn (fieldsFrom 0 values) (now (buffer .entry))) ⌝ }
+{
+    if buffer.len() < 137 {
+        return Verdict::Refused(Refusal::ShortBuffer);
+    }
+    lay(values, buffer);
+    Verdict::Accepted
+}
+
+// The sum of all values before the sumcheck. Wrapping 16-bit addition is the sum modulo 65,536: the contract says so, and rules out a value that is left out.
+pub fn sumcheck(values: [u16; 28]) -> u16
+    ensures { λ r. ⌜ r ≡ sumOf (take 27 values) ⌝ }
+{
+    let mut sum: u16 = 0;
+    let mut place: usize = 0;
+    while place < 27 {
+        sum = std::num::wrapping_add_u16(sum, values[place]);
+        place += 1;
+    }
+    sum
+}
+
+// The values with their sumcheck behind them.
+pub fn with_sumcheck(mut values: [u16; 28]) -> [u16; 28]
+    ensures { λ r. ⌜ r ≡ withSumcheck (take 27 values) ⌝ }
+{
+    values[27] = sumcheck(values);
+    values
+}
