@@ -7,3 +7,5 @@ pub mod Limit
 pub mod Rounding
 pub mod RoundingLaws
 pub mod Split
+pub mod TwosComplement
+pub mod Listed

@@ -1,7 +1,7 @@
 // Signed numbers taken apart into sign and magnitude and put together again, limited, and quotients taken to the nearest whole number.
 // The laws that let `omega` read integers, for the proofs of every crate above, are in specs/.
 ghost use mathlib.Core.Path.{_≡_};
-ghost use Prim.Native.Nat.{_<_};
+ghost use Prim.Native.Nat.{_<_, _≤_};
 ghost use lib.IntN.{natAbs, _+ℤ_, _-ℤ_};
 ghost use lib.Signed.{leZ, ltZ, mag};
 ghost use Rattle.integers.specs.Choice.{if_then_else_};
@@ -9,6 +9,7 @@ ghost use Rattle.integers.specs.Machine.{Small};
 ghost use Rattle.integers.specs.Sign.{fromSign, isNegative};
 ghost use Rattle.integers.specs.Limit.{atLeast, atMost, limited};
 ghost use Rattle.integers.specs.Rounding.{halfUp, halfEven};
+ghost use Rattle.integers.specs.TwosComplement.{asWord, fromWord};
 
 // Whether x lies below zero. The contract rules out taking zero for negative.
 pub fn negative(x: i64) -> bool
@@ -137,4 +138,28 @@ pub fn narrow(x: i64) -> i32
     ensures { λ r. ⌜ r ≡ x ⌝ }
 {
     x as i32
+}
+
+// A number in a word of 16 bits, two's complement. The contract rules out a sign that is lost.
+pub fn as_word(v: i64) -> u16
+    requires { ⌜ natAbs v ≤ 32767 ⌝ }
+    ensures { λ r. ⌜ r ≡ asWord v ⌝ }
+{
+    let size = magnitude(v);
+    if negative(v) {
+        (65536 - size) as u16
+    } else {
+        size as u16
+    }
+}
+
+// The number that a word of 16 bits holds. The contract rules out a word that is read unsigned.
+pub fn from_word(word: u16) -> i64
+    ensures { λ r. ⌜ r ≡ fromWord word ⌝ }
+{
+    if word < 32768 {
+        word as i64
+    } else {
+        word as i64 - 65536
+    }
 }

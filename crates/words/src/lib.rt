@@ -22,7 +22,7 @@ pub struct Shown {
     pub highalarm: bool,
 }
 
-fn weight(b: bool, w: u16) -> u16
+pub fn weight(b: bool, w: u16) -> u16
     ensures { λ r. ⌜ (r ≡ weight b w) × (r ≤ w) ⌝ }
 {
     if b { w } else { 0 }

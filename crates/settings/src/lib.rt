@@ -1,0 +1,88 @@
+// The settings that an image carries, as the values of its fields, and back.
+ghost use mathlib.Core.Path.{_≡_};
+ghost use Prim.Native.Nat.{_≤_};
+ghost use Rattle.signals.specs.Refusals.{numberIn, declinedBy};
+ghost use Rattle.fields.specs.Fields.{withSumcheck, saveTests, savedIn};
+ghost use Rattle.parameters.specs.Legal.{Legal};
+ghost use Rattle.settings.specs.Settings.{requestNumber, faultNumber, marksNumber, valueAt, valuesOf, imageOf};
+use modes::Request;
+use parameters::Parameters;
+use signals::Verdict;
+use words::Marks;
+
+pub mod carried;
+
+// Parameters 1 to 23, OP, request, memory fault, and user bits with MD bit 4: in the order of their fields.
+pub struct Settings {
+    pub parameters: Parameters,
+    pub op: u16,
+    pub request: Request,
+    pub fault: bool,
+    pub marks: Marks,
+}
+
+fn request_number(request: Request) -> u16
+    ensures { λ r. ⌜ r ≡ requestNumber request ⌝ }
+{
+    match request {
+        Request::Manual => 0,
+        Request::Auto => 1,
+        Request::Remote => 2,
+    }
+}
+
+fn fault_number(fault: bool) -> u16
+    ensures { λ r. ⌜ r ≡ faultNumber fault ⌝ }
+{
+    if fault { 1 } else { 0 }
+}
+
+fn marks_number(marks: Marks) -> u16
+    ensures { λ r. ⌜ r ≡ marksNumber marks ⌝ }
+{
+    words::weight(marks.user1, 1)
+        + words::weight(marks.user2, 2)
+        + words::weight(marks.measuredpower, 4)
+}
+
+impl Settings {
+    // The value of the field with this place, the sumcheck's not among them.
+    fn value_at(self, place: u64) -> u16
+        requires { ⌜ Legal (self .parameters) × place ≤ 26 ⌝ }
+        ensures { λ r. ⌜ r ≡ valueAt self place ⌝ }
+    {
+        let parameters = self.parameters;
+        let request = self.request;
+        let marks = self.marks;
+        match place {
+            0..=22 => integers::as_word(parameters.get(place + 1)),
+            23 => self.op,
+            24 => request_number(request),
+            25 => fault_number(self.fault),
+            _ => marks_number(marks),
+        }
+    }
+
+    // The values of all fields, the sumcheck behind them.
+    fn values(self) -> [u16; 28]
+        requires { ⌜ Legal (self .parameters) ⌝ }
+        ensures { λ r. ⌜ r ≡ withSumcheck (valuesOf self) ⌝ }
+    {
+        let mut values: [u16; 28] = [0; 28];
+        let mut place: usize = 0;
+        while place < 27 {
+            values[place] = self.value_at(place as u64);
+            place += 1;
+        }
+        fields::with_sumcheck(values)
+    }
+
+    // Lays the image down in a lent buffer. The contract gives the verdict and every byte of the buffer.
+    pub fn save(self, buffer: &mut [u8]) -> Verdict
+        requires { ⌜ Legal (self .parameters) ⌝ }
+        ensures { λ r. ⌜ (numberIn r ≡ declinedBy (saveTests (now (buffer .entry)))) × (now (buffer .exit) ≡ savedIn (imageOf self) (now (buffer .entry))) ⌝ }
+    {
+        let values = self.values();
+        fields::save(values, buffer)
+    }
+}
