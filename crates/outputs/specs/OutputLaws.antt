@@ -28,7 +28,7 @@ use Rattle.terms.specs.Terms.{storedTerm, TuningRange}
 use Rattle.outputs.specs.Deviation.{deviation, earlierSetpoint, changeOfDeviation, secondDifference, tuningOf}
 use Rattle.outputs.specs.History.{remembered, historyAfter, recalled}
 use Rattle.outputs.specs.Instruction.{unlimited, between, storedArithmetic, changed, limitedTo, carriedOut}
-use Rattle.outputs.specs.Outputs.{changeIn, limitsIn, minimumOf, instructionOf}
+use Rattle.outputs.specs.Outputs.{changeIn, limitsIn, minimumOf, instructionOf, restartedTo}
 use Rattle.outputs.specs.declared.History.{History}
 use Rattle.outputs.specs.declared.History.the-variants.{Nothing, One, Two}
 use Rattle.outputs.specs.declared.Past.{Past}
@@ -153,15 +153,19 @@ limited-choice true low high x = refl
 limited-choice false low high x = refl
 
 module _ (p : Parameters) (legal : Legal p) where
-  pub low-limit-most : natAbs (LO p) ≤ 10000
+  pub low-limit-most : natAbs (LO p) ≤ 65535
   low-limit-most = let r = ranges p legal in omega (arith, integers, r .outputs .not-below, r .outputs .order, r .outputs .not-above, number (LO p), apart (LO p))
 
-  pub high-limit-most : natAbs (HO p) ≤ 10000
+  pub high-limit-most : natAbs (HO p) ≤ 65535
   high-limit-most = let r = ranges p legal in omega (arith, integers, r .outputs .not-below, r .outputs .order, r .outputs .not-above, number (HO p), apart (HO p))
 
-pub minimum-most : (p : Parameters) (s : Switches) → Legal p → natAbs (minimumOf p s) ≤ 10000
+pub minimum-most : (p : Parameters) (s : Switches) → Legal p → natAbs (minimumOf p s) ≤ 65535
 unfolding minimumOf
-minimum-most p s legal = by-cases (λ (z : ℤ). natAbs z ≤ 10000) (s .displayinversion) (HO p) (LO p) (λ e. high-limit-most p legal) (λ e. low-limit-most p legal)
+minimum-most p s legal = by-cases (λ (z : ℤ). natAbs z ≤ 65535) (s .displayinversion) (HO p) (LO p) (λ e. high-limit-most p legal) (λ e. low-limit-most p legal)
+
+pub restarted-most : (p : Parameters) (s : Switches) (tominimum : Bool) (op : ℕ) → Legal p → op ≤ 65535 → natAbs (restartedTo p s tominimum op) ≤ 65535
+unfolding restartedTo
+restarted-most p s tominimum op legal h = by-cases (λ (z : ℤ). natAbs z ≤ 65535) tominimum (minimumOf p s) (pos op) (λ e. minimum-most p s legal) (λ e. h)
 
 -- ---- sums and differences of bounded numbers
 

@@ -1,4 +1,5 @@
 -- Document 01, One scan, step 6: what a scan does to the output, in each mode.
+use mathlib.Core.Bool.{Bool}
 use Prim.Native.Nat.{ℕ, min}
 use lib.IntN.{ℤ, pos, negℤ}
 use Rattle.integers.specs.Choice.{if_then_else_}
@@ -72,3 +73,11 @@ instructionOf p x r h = record { change = changeIn (x .mode) p x r h; limits = l
 -- ---- a write: "HO or LO limits the output unless the mode is Hold or Track", numbers 15 and 16, to the limits as they are now
 unfoldable pub limitsWritten : ℕ → Mode → Parameters → Limits
 limitsWritten n mode p = if isFrom n 15 16 then limitsIn mode p else unlimited
+
+-- ---- a restart: it "takes the rest, OP limited to LO..HO; S2.5 ON makes the request Manual and OP minimum", and so does a wrong sumcheck
+
+unfoldable pub restartedTo : Parameters → Switches → Bool → ℕ → ℤ
+restartedTo p s tominimum op = if tominimum then minimumOf p s else pos op
+
+unfoldable pub restartInstruction : Parameters → Switches → Bool → ℕ → Instruction
+restartInstruction p s tominimum op = record { change = setTo (restartedTo p s tominimum op); limits = between (LO p) (HO p) }

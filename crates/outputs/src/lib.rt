@@ -3,8 +3,9 @@ ghost use mathlib.Core.Path.{_≡_};
 ghost use Prim.Native.Nat.{_≤_, min};
 ghost use lib.IntN.{natAbs, pos};
 ghost use Rattle.integers.specs.Machine.{Small};
-ghost use Rattle.terms.specs.Fraction.{storedUnits};
+ghost use Rattle.terms.specs.Fraction.{storedUnits, limitedStored};
 ghost use Rattle.parameters.specs.Legal.{Legal};
+ghost use Rattle.parameters.specs.Table.{HO, LO};
 ghost use Rattle.outputs.specs.Deviation.{deviation, earlierSetpoint, changeOfDeviation, secondDifference, tuningOf};
 ghost use Rattle.outputs.specs.History.{remembered, historyAfter, recalled};
 ghost use Rattle.outputs.specs.Instruction.{storedArithmetic, changed, limitedTo, carriedOut};
@@ -17,6 +18,8 @@ use signals::Input;
 use signals::Push;
 use signals::Switches;
 use terms::Tuning;
+
+pub mod restarted;
 
 // What is remembered of earlier scans: nothing; the PV and SP of the last one; these and the PV of the one before it.
 pub enum History {
@@ -156,7 +159,7 @@ fn with_terms(p: Parameters, x: Situation, r: Readings, h: History, output: i64)
 
 // So many whole units, stored.
 fn units(u: i64) -> i64
-    requires { ⌜ natAbs u ≤ 10000 ⌝ }
+    requires { ⌜ natAbs u ≤ 65535 ⌝ }
     ensures { λ n. ⌜ n ≡ storedUnits u ⌝ }
 {
     u * 65536
@@ -246,14 +249,22 @@ fn changed_in(p: Parameters, x: Situation, r: Readings, h: History, output: i64)
     }
 }
 
+// Limited to LO..HO.
+fn limited(p: Parameters, output: i64) -> i64
+    requires { ⌜ Legal p ⌝ }
+    ensures { λ n. ⌜ n ≡ limitedStored (LO p) (HO p) output ⌝ }
+{
+    let low = units(p.get(parameters::LO));
+    let high = units(p.get(parameters::HO));
+    integers::limit(low, high, output)
+}
+
 fn limited_in(mode: Mode, p: Parameters, output: i64) -> i64
     requires { ⌜ Legal p ⌝ }
     ensures { λ n. ⌜ n ≡ limitedTo storedArithmetic (limitsIn mode p) output ⌝ }
 {
     let limiting = modes::is_limiting(mode);
-    let low = units(p.get(parameters::LO));
-    let high = units(p.get(parameters::HO));
-    let within = integers::limit(low, high, output);
+    let within = limited(p, output);
     integers::choose(limiting, within, output)
 }
 

@@ -7,6 +7,7 @@ use lib.IntN.{ℤ}
 use lib.ListN.{length}
 use lib.Signed.{leZ, ltZ}
 use Rattle.integers.specs.Choice.{if_then_else_}
+use Rattle.parameters.specs.Range.{every}
 use Rattle.parameters.specs.Table.{value, ruleOf}
 use Rattle.parameters.specs.declared.Parameters.{Parameters}
 use Rattle.parameters.specs.declared.Rule.{Rule}
@@ -69,6 +70,10 @@ pairInOrder (Between low high) values n v = true
 -- the value with the number n keeps its row
 abbrev pub keeps : Rule → (ℕ → ℤ) → ℕ → Bool
 keeps rule values n = inRange rule values (values n) && pairInOrder rule values n (values n)
+
+-- of an image's values: all parameters 1 to 23 keep theirs
+unfoldable pub areLegal : Parameters → Bool
+areLegal p = every (λ n. keeps (ruleOf n) (value p) n) 1 23
 
 pub record Legal (p : Parameters) : Type 0 where
   pub size : length (p .values) ≡ 24

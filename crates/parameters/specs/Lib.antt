@@ -5,3 +5,4 @@ pub mod RuleLaws
 pub mod Table
 pub mod Written
 pub mod WrittenLaws
+pub mod Mended

@@ -4,8 +4,8 @@ ghost use Rattle.parameters.specs.Written.{limitedAnew, written};
 use crate::Parameters;
 
 impl Parameters {
-    // Limits one value anew to the values of two others.
-    fn limited_anew(self, number: u64, low: u64, high: u64) -> Parameters
+    // Limits one value anew to the values of two others. The contract rules out limits that are exchanged.
+    pub fn limited_anew(self, number: u64, low: u64, high: u64) -> Parameters
         ensures { λ r. ⌜ r ≡ limitedAnew self number low high ⌝ }
     {
         let least = self.get(low);
