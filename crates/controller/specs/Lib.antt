@@ -1,6 +1,10 @@
 pub mod Answers
+pub mod ImageLaws
 pub mod Read
 pub mod ReadLaws
+pub mod Restart
+pub mod RestartLaws
+pub mod Save
 pub mod Scan
 pub mod State
 pub mod Valid

@@ -1,10 +1,11 @@
--- Document 01: what a fresh start leaves.
+-- Document 01: what a fresh start and a restart leave, and the fresh controller.
 use mathlib.Core.Bool.{Bool, false}
 use Prim.Native.Nat.{ℕ}
 use lib.IntN.{pos, _-ℤ_}
 use Rattle.modes.specs.declared.Conditions.{Conditions}
 use Rattle.modes.specs.declared.Request.{Request}
 use Rattle.modes.specs.declared.Request.the-variants.{Manual}
+use Rattle.words.specs.declared.Marks.{Marks}
 use Rattle.words.specs.declared.Shown.{Shown}
 use Rattle.parameters.specs.Table.{defaults, L1, SL}
 use Rattle.parameters.specs.declared.Parameters.{Parameters}
@@ -24,24 +25,28 @@ startReadings p = record { pv = L1 p; sp = SL p; er = L1 p -ℤ SL p; mp = pos 0
 abbrev pub startShown : Shown
 startShown = record { buttons = 0; batterylow = false; lowalarm = false; highalarm = false }
 
+-- a core of these settings, and of what such a start leaves. "no earlier PV or SP remembered"; "All earlier PV and SP are forgotten."
+abbrev pub startCore : ℕ → Parameters → Request → Bool → Marks → Core
+startCore sw parameters request fault marks =
+    record {
+      sw = sw;
+      parameters = parameters;
+      conditions = startConditions request fault;
+      marks = marks;
+      readings = startReadings parameters;
+      shown = startShown;
+      history = Nothing;
+    }
+
 -- ---- "start fresh (any 16-bit switch word SW)"
 
 -- "A fresh controller has the defaults in the table."
 abbrev pub freshParameters : Parameters
 freshParameters = record { values = defaults }
 
--- "A fresh controller requests Manual with output 0, user bits and MD bit 4 zero, no memory fault, and no earlier PV or SP remembered."
+-- "A fresh controller requests Manual with output 0, user bits and MD bit 4 zero, no memory fault"
 unfoldable pub freshCore : ℕ → Core
-freshCore sw =
-    record {
-      sw = sw;
-      parameters = freshParameters;
-      conditions = startConditions Manual false;
-      marks = record { user1 = false; user2 = false; measuredpower = false };
-      readings = startReadings freshParameters;
-      shown = startShown;
-      history = Nothing;
-    }
+freshCore sw = startCore sw freshParameters Manual false (record { user1 = false; user2 = false; measuredpower = false })
 
 unfoldable pub freshController : ℕ → Controller
 freshController sw = record { core = freshCore sw; output = pos 0 }

@@ -1,6 +1,9 @@
 -- What holds of every controller that the calls hand back, and all that a call asks of the controller it is given.
+use mathlib.Core.Path.{_≡_}
+use mathlib.Core.Bool.{true}
 use Prim.Native.Nat.{_≤_}
 use lib.IntN.{natAbs}
+use Rattle.modes.specs.declared.Request.the-variants.{Manual}
 use Rattle.parameters.specs.Legal.{Legal}
 use Rattle.setpoints.specs.declared.Readings.{Readings}
 use Rattle.outputs.specs.OutputLaws.{Kept, Stored}
@@ -20,5 +23,7 @@ pub record Valid (c : Controller) : Type 0 where
   pub kept : Kept (c .core .history)
   -- PV, SP, ER and MP can be read
   pub readable : Readable (c .core .readings)
+  -- "fault 0 or 1 and 1 only with request 0": so every image that is saved is legal
+  pub manual : c .core .conditions .fault ≡ true → c .core .conditions .request ≡ Manual
   -- the stored output lies in 0..9999 units
   pub stored : Stored (c .output)

@@ -8,7 +8,7 @@ use native.Mathlib.Omega.{arith}
 use lib.Dec.{ltb}
 use lib.IntN.{ℤ, pos, natAbs, _-ℤ_}
 use borrow.Author.Tests.{ltb-false}
-use Rattle.integers.specs.Choice.{if_then_else_}
+use Rattle.integers.specs.Choice.{if_then_else_, never}
 use Rattle.integers.specs.Operations.{number, difference}
 use Rattle.integers.specs.Parts.{integers}
 use Rattle.signals.specs.Refusals.{declinedBy, scanTests}
@@ -82,7 +82,7 @@ readable pv sp mp h k l =
 
 -- ---- valid
 
-start-readable : (p : Parameters) → Legal p → Readable (startReadings p)
+pub start-readable : (p : Parameters) → Legal p → Readable (startReadings p)
 unfolding startReadings
 start-readable p legal = readable (L1 p) (SL p) (pos 0) (low-reading p legal) (setpoint-reading p legal) (record { reading = omega arith })
 
@@ -93,11 +93,12 @@ valid-fresh sw =
       legal = defaults-legal;
       kept = tt;
       readable = start-readable freshParameters defaults-legal;
+      manual = never;
       stored = record { not-below = omega (arith, integers); not-above = omega (arith, integers) };
     }
 
 pub stepped-valid : (c : Controller) (i : Input) → Valid c → Sampled i → Valid (stepped c i)
-unfolding stepped controllerAfter accepted coreAfter situationOf reckonedIn reckoned
+unfolding stepped controllerAfter accepted coreAfter situationOf reckonedIn reckoned conditionsAfter
 stepped-valid c i v s =
     let after = conditionsAfter counted (c .core .conditions) i in
     let x = situationOf (c .core) after i in
@@ -107,6 +108,7 @@ stepped-valid c i v s =
       legal = reckoned-legal (c .core .parameters) (x .switches) (c .core .marks .measuredpower) (x .mode) i (v .legal);
       kept = history-kept (c .core .history) (isOpen i) readings (v .kept) r;
       readable = readable _ _ _ (r .pv-read) (r .sp-read) (power-reading (c .core .parameters) (v .legal) i s (c .core .marks .measuredpower));
+      manual = λ e. rw e refl;
       stored = output-stored (c .core .parameters) (v .legal) x readings (c .core .history) (c .output) (v .stored);
     }
 

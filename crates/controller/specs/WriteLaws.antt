@@ -1,19 +1,22 @@
 -- A write hands back a valid controller.
 use mathlib.Core.Path.{_≡_, refl, sym, _∙_, subst}
-use mathlib.Core.Bool.{Bool, true, false, not}
+use mathlib.Core.Bool.{Bool, true, false, not, _&&_, _||_}
 use mathlib.Core.List.{[]}
 use mathlib.Core.Option.{none}
 use Prim.Native.Nat.{ℕ, _≤_, _<_}
 use native.Mathlib.Omega.{arith}
 use lib.Dec.{eqb}
 use lib.IntN.{ℤ, pos, natAbs}
-use borrow.Author.Tests.{eqb-false, ne-eqb}
-use Rattle.integers.specs.Choice.{by-cases, never}
+use borrow.Author.Tests.{eqb-true, eqb-false, ne-eqb}
+use Rattle.integers.specs.Choice.{if_then_else_, by-cases, never}
 use Rattle.integers.specs.Operations.{number}
 use Rattle.integers.specs.Parts.{integers, apart}
+use Rattle.signals.specs.Bits.{bit}
 use Rattle.signals.specs.RefusalLaws.{Above, Ascending}
 use Rattle.signals.specs.Refusals.{declinedBy}
-use Rattle.words.specs.Written.{conditionsWritten, mdTests}
+use Rattle.modes.specs.Modes.{isOpenCause}
+use Rattle.modes.specs.declared.Request.the-variants.{Manual, Auto, Remote}
+use Rattle.words.specs.Written.{conditionsWritten, exactlyOne, mdTests}
 use Rattle.parameters.specs.Legal.{Legal, inRange, pairInOrder}
 use Rattle.parameters.specs.LegalLaws.{inside}
 use Rattle.parameters.specs.RuleLaws.{not-from, known, settable}
@@ -25,7 +28,7 @@ use Rattle.outputs.specs.OutputLaws.{Stored, limited-still-stored}
 use Rattle.outputs.specs.Outputs.{limitsWritten}
 use Rattle.controller.specs.Scan.{modeNow, refused, controllerAfter, handedBack}
 use Rattle.controller.specs.Valid.{Valid}
-use Rattle.controller.specs.ValidLaws.{passed, by-verdict}
+use Rattle.controller.specs.ValidLaws.{Passed, passed, by-verdict}
 use Rattle.controller.specs.Write.{wordOf, setpointTests, stateTests, writeTests, coreWith, mdWritten, dsWritten, parameterWritten, coreWritten, writeAccepted, writeCore, controllerWritten, write}
 use Rattle.controller.specs.declared.Controller.{Controller}
 use Rattle.controller.specs.declared.Core.{Core}
@@ -123,6 +126,31 @@ module _ (c : Core) (n : ℕ) (v : ℤ) where
   unfolding mdWritten dsWritten parameterWritten coreWith conditionsWritten
   pins-stay = by-kind (λ k. k .conditions .pins ≡ c .conditions .pins) refl refl refl
 
+-- ---- a fault that a write leaves comes with the request Manual
+
+manual-word : (fault b13 b12 b11 b8 opened : Bool) → let after = if fault && not b8 then false else fault in
+    not (exactlyOne b13 b12 b11) ≡ false → (b12 || b11) && (after || opened) ≡ false → after ≡ true →
+    (if fault && not b8 then Manual else if b13 then Manual else if b12 then Auto else Remote) ≡ Manual
+manual-word false b13 b12 b11 b8 opened e d f = never f
+manual-word true b13 b12 b11 false opened e d f = never f
+manual-word true true b12 b11 true opened e d f = refl
+manual-word true false true b11 true opened e d f = never (sym d)
+manual-word true false false true true opened e d f = never (sym d)
+manual-word true false false false true opened e d f = never (sym e)
+
+manual-written : (c : Core) (n : ℕ) (v : ℤ) → declinedBy (writeTests c n v) ≡ none → (c .conditions .fault ≡ true → c .conditions .request ≡ Manual) →
+    coreWritten c n v .conditions .fault ≡ true → coreWritten c n v .conditions .request ≡ Manual
+unfolding coreWritten mdWritten dsWritten parameterWritten coreWith conditionsWritten writeTests stateTests mdTests
+manual-written c n v accepted before =
+    let w = wordOf v in
+    let P : Core → Type 0 = λ k. k .conditions .fault ≡ true → k .conditions .request ≡ Manual in
+    by-cases P (eqb n 24) (mdWritten c w) _
+    (λ e. let t = passed (writeTests c n v) accepted .1 .1 .1 .1 in
+    let tests : stateTests c n v ≡ mdTests (c .conditions) w = rw (ne-eqb n 20 (λ q. omega (arith, eqb-true n 24 e)), e) refl in
+    let k = subst Passed tests t in
+    manual-word (c .conditions .fault) (bit w 13) (bit w 12) (bit w 11) (bit w 8) (isOpenCause (c .conditions .opens)) (k .0) (k .1 .1 .0))
+    (λ e. by-cases P (eqb n 25) (dsWritten c w) (parameterWritten c n v) (λ f. before) (λ f. before))
+
 -- ---- valid
 
 pub written-valid : (c : Controller) (n : ℕ) (v : ℤ) → Valid c → declinedBy (writeTests (c .core) n v) ≡ none → Valid (controllerWritten c n v)
@@ -132,6 +160,7 @@ written-valid c n v valid accepted =
       legal = core-legal (c .core) n v (valid .legal) accepted;
       kept = rw (history-stays (c .core) n v) (valid .kept);
       readable = rw (readings-stay (c .core) n v) (valid .readable);
+      manual = manual-written (c .core) n v accepted (valid .manual);
       stored =
           by-cases (λ (l : Limits). Stored (limitedTo storedArithmetic l (c .output))) (isFrom n 15 16) _ unlimited
           (λ e. limited-still-stored _ (core-legal (c .core) n v (valid .legal) accepted) (modeNow (c .core)) (c .output) (valid .stored))

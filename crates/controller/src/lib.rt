@@ -1,11 +1,11 @@
-// The controller: its state, and start fresh. Scans, writes, reads and the table of parameters are in files of their own.
+// The controller: its state, and start fresh. The other calls and the table of parameters are in files of their own.
 ghost use mathlib.Core.Path.{_≡_};
 ghost use Prim.Native.Nat.{_≤_};
 ghost use Rattle.parameters.specs.Legal.{Legal};
 ghost use Rattle.outputs.specs.OutputLaws.{Stored};
 ghost use Rattle.controller.specs.Answers.{opOf, electricalOf};
 ghost use Rattle.controller.specs.Scan.{modeNow, mdNow, dsNow};
-ghost use Rattle.controller.specs.State.{startConditions, startReadings, freshController};
+ghost use Rattle.controller.specs.State.{startConditions, startReadings, startCore, freshController};
 use modes::Conditions;
 use modes::Mode;
 use modes::Request;
@@ -17,7 +17,10 @@ use signals::Verdict;
 use words::Marks;
 use words::Shown;
 
+mod mended;
 mod read;
+mod restart;
+mod save;
 mod scan;
 mod table;
 mod write;
@@ -55,8 +58,8 @@ pub struct Scanned {
     pub answer: Answer,
 }
 
-// What a write hands back.
-pub struct Written {
+// What a write or a restart hands back.
+pub struct Judged {
     pub controller: Controller,
     pub verdict: Verdict,
 }
@@ -85,6 +88,29 @@ fn start_readings(p: Parameters) -> Readings
     let sp = p.get(parameters::SL);
     let er = integers::minus(pv, sp);
     Readings { pv, sp, er, mp: 0 }
+}
+
+// The state that a start leaves but for the output, with these settings. The contract rules out that anything of an earlier state is kept.
+fn start_core(sw: u16, parameters: Parameters, request: Request, fault: bool, marks: Marks) -> Core
+    requires { ⌜ Legal parameters ⌝ }
+    ensures { λ r. ⌜ r ≡ startCore sw parameters request fault marks ⌝ }
+{
+    let conditions = start_conditions(request, fault);
+    let readings = start_readings(parameters);
+    Core {
+        sw,
+        parameters,
+        conditions,
+        marks,
+        readings,
+        shown: Shown {
+            buttons: 0,
+            batterylow: false,
+            lowalarm: false,
+            highalarm: false,
+        },
+        history: History::Nothing,
+    }
 }
 
 fn op_of(output: i64) -> u16
@@ -140,28 +166,12 @@ impl Controller {
     {
         let values = Self::DEFAULTS;
         let parameters = Parameters { values };
-        let conditions = start_conditions(Request::Manual, false);
-        let readings = start_readings(parameters);
-        Controller {
-            core: Core {
-                sw,
-                parameters,
-                conditions,
-                marks: Marks {
-                    user1: false,
-                    user2: false,
-                    measuredpower: false,
-                },
-                readings,
-                shown: Shown {
-                    buttons: 0,
-                    batterylow: false,
-                    lowalarm: false,
-                    highalarm: false,
-                },
-                history: History::Nothing,
-            },
-            output: 0,
-        }
+        let marks = Marks {
+            user1: false,
+            user2: false,
+            measuredpower: false,
+        };
+        let core = start_core(sw, parameters, Request::Manual, false, marks);
+        Controller { core, output: 0 }
     }
 }

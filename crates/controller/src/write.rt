@@ -2,12 +2,12 @@
 ghost use mathlib.Core.Path.{_≡_};
 ghost use mathlib.Core.Option.{none};
 ghost use Rattle.signals.specs.Refusals.{numberIn, declinedBy};
-ghost use Rattle.controller.specs.Answers.{handedOfWrite};
+ghost use Rattle.controller.specs.Answers.{handedWithVerdict};
 ghost use Rattle.controller.specs.Valid.{Valid};
 ghost use Rattle.controller.specs.Write.{setpointTests, wordOf, stateTests, writeTests, coreWith, mdWritten, dsWritten, parameterWritten, coreWritten, controllerWritten, write};
 use crate::Controller;
 use crate::Core;
-use crate::Written;
+use crate::Judged;
 use modes::Conditions;
 use parameters::Parameters;
 use signals::Refusal;
@@ -149,21 +149,21 @@ impl Controller {
     // One write of a value, in the parameter's own units (`parameters` has the numbers by name): the next controller and that it was accepted, or a
     // refusal from 4 to 11 and the controller as it was. The contract gives the whole of both, so it rules out a write that changes anything else,
     // one that forgets what it should do besides, and a refusal for no listed cause.
-    pub fn write(self, number: u64, value: i32) -> Written
+    pub fn write(self, number: u64, value: i32) -> Judged
         requires { ⌜ Valid self ⌝ }
-        ensures { λ r. ⌜ handedOfWrite r ≡ write self number value ⌝ }
+        ensures { λ r. ⌜ handedWithVerdict r ≡ write self number value ⌝ }
     {
         let core = self.core;
         let v = integers::wide(value);
         let verdict = core.write_verdict(number, v);
         match verdict {
-            Verdict::Refused(refusal) => Written {
+            Verdict::Refused(refusal) => Judged {
                 controller: self,
                 verdict: Verdict::Refused(refusal),
             },
             Verdict::Accepted => {
                 let controller = self.written(number, v);
-                Written {
+                Judged {
                     controller,
                     verdict: Verdict::Accepted,
                 }

@@ -1,6 +1,6 @@
 -- The fields looked at so far, their values, and their sum.
 use mathlib.Core.Path.{_≡_, refl, ap, _∙_}
-use mathlib.Core.Bool.{true, false, _&&_}
+use mathlib.Core.Bool.{true, false}
 use mathlib.Core.List.{List, [], _∷_, _++_, append-nil}
 use Prim.Native.Nat.{ℕ, suc, zero, _+_, _-_, _%_, _≤_, _<_}
 use native.Mathlib.Nat.{le-of-suc-le-suc, not-suc-le-zero}
@@ -8,10 +8,10 @@ use native.Mathlib.Numerals.{add-one}
 use native.Mathlib.Omega.{arith}
 use lib.Dec.{eqb}
 use lib.ListN.{length, set, take, drop, getD, length-drop, length-set}
-use lib.Seq.{take-all, drop-drop, take-suc-set, append-snoc, sets-eq}
+use lib.Seq.{take-all, drop-drop, take-suc-set, append-snoc}
 use borrow.Author.Tests.{eq-eqb}
 use Rattle.fields.specs.FieldLaws.{startOf, next-start, start-most}
-use Rattle.fields.specs.Fields.{tagOf, lengthOf, sum, sumOf, withSumcheck}
+use Rattle.fields.specs.Fields.{tagOf, lengthOf, sum, sumOf}
 use Rattle.fields.specs.Reading.{isHeaded, valueIn, formedFrom, valuesFrom}
 use Rattle.fields.specs.RoundTrip.{formed-more, values-more}
 

@@ -6,11 +6,11 @@ use Prim.Native.Nat.{ℕ, zero, suc, _+_, _*_, _/_, _%_, _^_, _≤_, _<_}
 use native.Mathlib.Nat.{not-suc-le-zero, add-zero, zero-add}
 use native.Mathlib.Omega.{arith}
 use lib.Dec.{eqb}
-use lib.ListN.{length, drop, getD, length-drop}
+use lib.ListN.{length, drop, getD, length-append, length-drop}
 use lib.Seq.{getD-drop}
 use borrow.Author.Tests.{eq-eqb, eqb-true}
 use Rattle.integers.specs.Choice.{never}
-use Rattle.fields.specs.FieldLaws.{by-length, startOf, next-start, start-grows}
+use Rattle.fields.specs.FieldLaws.{by-length, length-field, startOf, next-start, start-grows}
 use Rattle.fields.specs.Fields.{tagOf, lengthOf, valueBytes, fieldBytes, fieldsFrom}
 use Rattle.fields.specs.Reading.{isHeaded, valueIn, formedFrom, valuesFrom}
 
@@ -151,3 +151,41 @@ saved-values vs size fit = cc (laid-values vs 0 [] fit, append-nil (fieldsFrom 0
 pub saved-again : (b : List ℕ) → length b ≡ 137 → Bytes b → formedFrom 0 28 b ≡ true → fieldsFrom 0 (valuesFrom 0 28 b) ≡ b
 unfolding startOf
 saved-again b size bytes formed = taken-fields 28 0 b (omega arith) (zero-add (length b) ∙ size) bytes formed
+
+-- every value of bytes is a word of 16 bits
+value-most : (place : ℕ) (b : List ℕ) → Bytes b → valueIn (lengthOf place) b < 65536
+unfolding valueIn
+value-most place b y =
+    let high = y 3 in
+    let low = y 4 in
+    by-length (λ (n : ℕ). valueIn n b < 65536) (omega arith) (omega arith) place
+
+pub words-of : (many place : ℕ) (b : List ℕ) → Bytes b → (n : ℕ) → getD (valuesFrom place many b) n 0 < 65536
+unfolding valuesFrom
+words-of zero place b y n = omega arith
+words-of (suc many) place b y zero = value-most place b y
+words-of (suc many) place b y (suc n) = words-of many (suc place) (drop (3 + lengthOf place) b) (drop-bytes (3 + lengthOf place) b y) n
+
+pub values-length : (many place : ℕ) (b : List ℕ) → length (valuesFrom place many b) ≡ many
+unfolding valuesFrom
+values-length zero place b = refl
+values-length (suc many) place b = ap suc (values-length many (suc place) (drop (3 + lengthOf place) b))
+
+-- fields from this place on, up to the place behind them
+fields-length : (vs : List ℕ) (place : ℕ) → place + length vs ≤ 28 → startOf place + length (fieldsFrom place vs) ≡ startOf (place + length vs)
+unfolding fieldsFrom
+fields-length [] place h = let z : startOf (place + 0) ≡ startOf place = ap startOf (add-zero place) in omega arith
+fields-length (v ∷ vs) place h =
+    let field = fieldBytes (tagOf place) (lengthOf place) v in
+    let s : place + suc (length vs) ≡ suc place + length vs = omega arith in
+    let s1 : place + 1 ≡ suc place = omega arith in
+    let o1 : startOf (place + 1) ≡ startOf (suc place) = ap startOf s1 in
+    let oe : startOf (place + suc (length vs)) ≡ startOf (suc place + length vs) = ap startOf s in
+    omega (arith, next-start place (omega arith), length-field (tagOf place) place v, length-append field (fieldsFrom (suc place) vs), fields-length vs (suc place) (omega arith))
+
+pub image-length : (vs : List ℕ) → length vs ≡ 28 → length (fieldsFrom 0 vs) ≡ 137
+unfolding startOf
+image-length vs size =
+    let whole : 0 + length vs ≡ 28 = omega arith in
+    let end : startOf (0 + length vs) ≡ startOf 28 = ap startOf whole in
+    omega (arith, fields-length vs 0 (omega arith))

@@ -8,7 +8,7 @@ ghost use Rattle.fields.specs.Fields.{tagOf, lengthOf, fieldBytes, field
 use signals::Refusal;
 use signals::Verdict;
 
-mod reading;
+pub mod reading;
 
 fn tag_of(place: usize) -> u8
     requires { ⌜ place < 28 ⌝ }

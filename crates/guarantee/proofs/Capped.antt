@@ -1,6 +1,7 @@
 -- The rules look at the open count only up to 85: a controller that stops counting there has the same outcomes as one that counts on.
 use mathlib.Core.Path.{_≡_, refl, sym, ap, _∙_}
 use mathlib.Core.Bool.{Bool, true, false, _||_}
+use mathlib.Core.List.{List}
 use mathlib.Core.Option.{Option, some, none}
 use Prim.Native.Nat.{ℕ, min}
 use native.Mathlib.Omega.{arith}
@@ -22,11 +23,12 @@ use Rattle.outputs.specs.Instruction.{Instruction}
 use Rattle.outputs.specs.Outputs.{instructionOf}
 use Rattle.outputs.specs.declared.Situation.{Situation}
 use Rattle.controller.specs.Read.{readIn}
+use Rattle.controller.specs.Restart.{valuesIn, restartTests, restartAccepted, restartCore}
 use Rattle.controller.specs.Scan.{modeNow, situationOf, reckonedIn, shownAfter, coreAfter, Status, statusOf, Outcome, accepted, refused, unless, scanCore}
 use Rattle.controller.specs.Write.{wordOf, setpointTests, stateTests, writeTests, coreWith, mdWritten, dsWritten, parameterWritten, coreWritten, writeAccepted, writeCore}
 use Rattle.controller.specs.declared.Core.{Core}
 use Rattle.guarantee.specs.Claim.{capped}
-use Rattle.guarantee.specs.Exact.{Call, scan, write, oneMore, outcomeOf}
+use Rattle.guarantee.specs.Exact.{Call, scan, write, restart, oneMore, outcomeOf}
 
 abbrev pub cappedConditions : Conditions → Conditions
 cappedConditions k = record { request = k .request; fault = k .fault; opens = min 85 (k .opens); pins = k .pins }
@@ -163,6 +165,12 @@ write-capped : (c : Core) (n : ℕ) (v : ℤ) → writeAccepted (capped c) n v �
 unfolding writeAccepted cappedOutcome
 write-capped c n v = rw (written-capped c n v, now-capped c, parameters-capped (coreWritten c n v)) refl
 
+-- ---- a restart, which looks at nothing but the switch word
+
+restart-capped : (c : Core) (image : List ℕ) → restartAccepted (capped c) (valuesIn image) ≡ cappedOutcome (restartAccepted c (valuesIn image))
+unfolding restartAccepted cappedOutcome capped
+restart-capped c image = refl
+
 -- ---- any call
 
 unless-capped : (d : Option ℕ) (c : Core) (o : Outcome) → unless d (capped c) (cappedOutcome o) ≡ cappedOutcome (unless d c o)
@@ -171,10 +179,11 @@ unless-capped none c o = refl
 unless-capped (some n) c o = refl
 
 pub outcome-capped : (c : Core) (x : Call) → outcomeOf counted (capped c) x ≡ cappedOutcome (outcomeOf oneMore c x)
-unfolding outcomeOf scanCore writeCore
+unfolding outcomeOf scanCore writeCore restartCore
 outcome-capped c (scan i) =
     ap (λ (o : Outcome). unless (declinedBy (scanTests i)) (capped c) o) (accepted-capped c i) ∙ unless-capped (declinedBy (scanTests i)) c (accepted oneMore c i)
 outcome-capped c (write n v) = rw (tests-capped c n v, write-capped c n v) (unless-capped (declinedBy (writeTests c n v)) c (writeAccepted c n v))
+outcome-capped c (restart image) = rw (restart-capped c image) (unless-capped (declinedBy (restartTests image)) c (restartAccepted c (valuesIn image)))
 
 pub capped-twice : (c : Core) → capped (capped c) ≡ capped c
 unfolding capped

@@ -19,16 +19,17 @@ use Rattle.modes.specs.declared.Mode.the-variants.{Hold, Track, Forced, Manual,
 use Rattle.parameters.specs.declared.Parameters.{Parameters}
 use Rattle.setpoints.specs.declared.Readings.{Readings}
 use Rattle.outputs.specs.Instruction.{Change, keep, setTo, moveBy, addTerms}
-use Rattle.outputs.specs.Outputs.{pushed, byHand, termsOf, byTerms, changeIn, minimumOf, instructionOf}
+use Rattle.outputs.specs.Outputs.{pushed, byHand, termsOf, byTerms, changeIn, minimumOf, instructionOf, restartInstruction}
 use Rattle.outputs.specs.declared.History.{History}
 use Rattle.outputs.specs.declared.Situation.{Situation}
+use Rattle.controller.specs.Restart.{valuesIn, restartTests, restartAccepted, restartCore}
 use Rattle.controller.specs.Scan.{modeNow, situationOf, coreAfter, statusOf, accepted, refused, scanCore}
 use Rattle.controller.specs.ValidLaws.{by-verdict}
 use Rattle.controller.specs.Write.{writeTests, writeAccepted, writeCore}
 use Rattle.controller.specs.declared.Core.{Core}
 use Rattle.guarantee.specs.Claim.{modeIn}
 use Rattle.guarantee.specs.Count.{automatic, tracks, manualOrForced, toMinimum, setsOutright, isAutomaticScan, countAfter}
-use Rattle.guarantee.specs.Exact.{Call, scan, write, oneMore, outcomeOf}
+use Rattle.guarantee.specs.Exact.{Call, scan, write, restart, oneMore, outcomeOf}
 use Rattle.guarantee.proofs.Modes.{mode-is-first}
 
 abbrev pub changeCount : Change → ℕ → ℕ
@@ -115,10 +116,13 @@ module _ (c : Core) (i : Input) where
       rw (mode-next, minimum-is) (counts-in (x .mode) (c .parameters) x _ (c .history) n)
 
 pub counts : (c : Core) (x : Call) (n : ℕ) → let o = outcomeOf oneMore c x in countAfter c (o .next) x (o .answer) n ≡ changeCount (o .instruction .change) n
-unfolding outcomeOf scanCore writeCore writeAccepted refused countAfter setsOutright isAutomaticScan next accepted
+unfolding outcomeOf scanCore writeCore writeAccepted restartCore restartAccepted restartInstruction refused countAfter setsOutright isAutomaticScan next accepted
 counts c (scan i) n =
     by-verdict (λ o. countAfter c (o .next) (scan i) (o .answer) n ≡ changeCount (o .instruction .change) n) (declinedBy (scanTests i)) c (accepted oneMore c i)
     (λ e. accepted-counts c i n) (λ k. refl)
 counts c (write number v) n =
     by-verdict (λ o. countAfter c (o .next) (write number v) (o .answer) n ≡ changeCount (o .instruction .change) n) (declinedBy (writeTests c number v)) c (writeAccepted c number v)
     (λ e. refl) (λ k. refl)
+counts c (restart image) n =
+    by-verdict (λ o. countAfter c (o .next) (restart image) (o .answer) n ≡ changeCount (o .instruction .change) n) (declinedBy (restartTests image)) c
+    (restartAccepted c (valuesIn image)) (λ e. refl) (λ k. refl)

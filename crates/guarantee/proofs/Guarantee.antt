@@ -4,21 +4,23 @@ use mathlib.Core.List.{List, _∷_}
 use mathlib.Core.Option.{some}
 use Prim.Native.Nat.{ℕ}
 use lib.IntN.{ℤ}
+use denote.Ref.{now}
 use Rattle.signals.specs.declared.Input.{Input}
 use Rattle.modes.specs.Modes.{counted}
-use Rattle.controller.specs.Answers.{Said, Handed, handed, handedOfWrite}
-use Rattle.controller.specs.Scan.{controllerAfter, modeNow, Status, Outcome, withOutput, handedBack}
+use Rattle.controller.specs.Answers.{Said, Handed, handed, saidOfVerdict, handedWithVerdict}
+use Rattle.controller.specs.Restart as restarts
 use Rattle.controller.specs.Scan as rules
+use Rattle.controller.specs.Scan.{controllerAfter, modeNow, Status, Outcome, withOutput, handedBack}
 use Rattle.controller.specs.Valid.{Valid}
 use Rattle.controller.specs.Write as writes
 use Rattle.controller.specs.declared.Controller.{Controller}
+use Rattle.controller.specs.declared.Judged.{Judged}
 use Rattle.controller.specs.declared.Scanned.{Scanned}
-use Rattle.controller.specs.declared.Written.{Written}
 use Rattle.guarantee.specs.Claim.{capped, SameReading, SameAnswer, SameAnswers, no-answer, and-answer}
 use Rattle.guarantee.specs.Demand.{Demand3}
-use Rattle.guarantee.specs.Exact.{Call, scan, write, Calls, _then_, outcomeOf, exactAfter, exact, exactAnswer}
-use Rattle.guarantee.specs.Linked.{ScanEnsures, WriteEnsures, Linked, started, scanned, wrote, Ready}
-use Rattle.guarantee.proofs.Answers.{outcome-shows, same-answer, same-reading}
+use Rattle.guarantee.specs.Exact.{Call, scan, write, restart, Calls, _then_, outcomeOf, exactAfter, exact, exactAnswer}
+use Rattle.guarantee.specs.Linked.{ScanEnsures, WriteEnsures, RestartEnsures, Lent, Lifetime, Linked, started, scanned, wrote, restarted, Ready}
+use Rattle.guarantee.proofs.Answers.{outcome-shows, same-answer, same-reading, same-save}
 use Rattle.guarantee.proofs.Capped.{cappedOutcome, capped-twice, now-capped}
 use Rattle.guarantee.proofs.Faults.{fault-after}
 use Rattle.guarantee.proofs.Limits.{within-after}
@@ -28,10 +30,11 @@ use Rattle.guarantee.proofs.Ours.{ours, cores, outcomes, switch-word, o
 -- ---- what the contracts hand on is what the rules give
 
 pub linked : {word : ℕ} {xs : Calls} {hs : List Handed} {c : Controller} → Linked word xs hs c → c ≡ ours word xs
-unfolding ours rules.scan writes.write outcomeOf rules.scanCore
+unfolding ours rules.scan writes.write restarts.restart outcomeOf rules.scanCore
 linked (started r e) = e
 linked (scanned i r l e) = ap (λ (h : Handed). h .next) e ∙ ap (λ (k : Controller). rules.scan k i .next) (linked l)
 linked (wrote n v r l e) = ap (λ (h : Handed). h .next) e ∙ ap (λ (k : Controller). writes.write k n v .next) (linked l)
+linked (restarted life image r l e) = ap (λ (h : Handed). h .next) e ∙ ap (λ (k : Controller). restarts.restart k (now image) .next) (linked l)
 
 -- what a call hands back, in the exact controller's answer and our own output
 handed-answer : (word : ℕ) (xs : Calls) (x : Call) → let h = handedBack (ours word xs) (outcomeOf counted (ours word xs .core) x) in
@@ -46,16 +49,21 @@ handed-answer word xs x =
     subst (λ (s : Status). SameAnswer next now (withOutput s (ours word xs .core .sw) (next .output)) (exactAnswer word xs x)) answers-are
     (subst (λ (sw : ℕ). SameAnswer next now (withOutput (exactAnswer word xs x) sw (next .output)) (exactAnswer word xs x)) (switch-word (ours word xs .core) x) answer)
 
--- the contract of a scan, made after these calls, and that of a write
+-- the contract of a scan, made after these calls, that of a write, and that of a restart
 scan-is : {word : ℕ} {xs : Calls} {hs : List Handed} {c : Controller} (i : Input) (r : Scanned) → Linked word xs hs c → ScanEnsures c i r →
     handed r ≡ handedBack (ours word xs) (outcomeOf counted (ours word xs .core) (scan i))
 unfolding rules.scan outcomeOf
 scan-is i r l e = e ∙ ap (λ (k : Controller). rules.scan k i) (linked l)
 
-write-is : {word : ℕ} {xs : Calls} {hs : List Handed} {c : Controller} (n : ℕ) (v : ℤ) (r : Written) → Linked word xs hs c → WriteEnsures c n v r →
-    handedOfWrite r ≡ handedBack (ours word xs) (outcomeOf counted (ours word xs .core) (write n v))
+write-is : {word : ℕ} {xs : Calls} {hs : List Handed} {c : Controller} (n : ℕ) (v : ℤ) (r : Judged) → Linked word xs hs c → WriteEnsures c n v r →
+    handedWithVerdict r ≡ handedBack (ours word xs) (outcomeOf counted (ours word xs .core) (write n v))
 unfolding writes.write outcomeOf
 write-is n v r l e = e ∙ ap (λ (k : Controller). writes.write k n v) (linked l)
+
+restart-is : {word : ℕ} {xs : Calls} {hs : List Handed} {c : Controller} (life : Lifetime) (image : Lent) (r : Judged) → Linked word xs hs c → RestartEnsures life c image r →
+    handedWithVerdict r ≡ handedBack (ours word xs) (outcomeOf counted (ours word xs .core) (restart (now image)))
+unfolding restarts.restart outcomeOf
+restart-is life image r l e = e ∙ ap (λ (k : Controller). restarts.restart k (now image)) (linked l)
 
 -- one answer more
 answered : {word : ℕ} {xs : Calls} {hs : List Handed} (x : Call) (h : Handed) → h ≡ handedBack (ours word xs) (outcomeOf counted (ours word xs .core) x) →
@@ -67,7 +75,8 @@ answered {word} {xs} x h e earlier =
 answers : {word : ℕ} {xs : Calls} {hs : List Handed} {c : Controller} → Linked word xs hs c → SameAnswers word xs hs
 answers (started r e) = no-answer
 answers (scanned i r l e) = answered (scan i) (handed r) (scan-is i r l e) (answers l)
-answers (wrote n v r l e) = answered (write n v) (handedOfWrite r) (write-is n v r l e) (answers l)
+answers (wrote n v r l e) = answered (write n v) (handedWithVerdict r) (write-is n v r l e) (answers l)
+answers (restarted life image r l e) = answered (restart (now image)) (handedWithVerdict r) (restart-is life image r l e) (answers l)
 
 -- ---- demand 3
 
@@ -85,6 +94,7 @@ guarantee word calls hs c l =
       same-reads = λ n r h.
           subst (λ (said : Said). SameReading c (exact word calls .core) n said) (sym h)
           (same-reading c (exact word calls .core) n core-is (rw e (valid-after word calls .stored)));
+      same-saves = λ life buffer r after h. same-save c (exact word calls .core) (now buffer) (saidOfVerdict r) after core-is (rw e (valid-after word calls .stored)) (h .0) (h .1);
       bound = rw e (bound-after word calls);
     }
 
@@ -92,4 +102,4 @@ guarantee word calls hs c l =
 pub ready : (word : ℕ) (calls : Calls) (hs : List Handed) (c : Controller) → Linked word calls hs c → Ready c
 ready word calls hs c l =
     let valid : Valid c = rw (linked l) (valid-after word calls) in
-    record { scan-ready = λ i. valid; write-ready = λ n v. valid; read-ready = λ n. valid }
+    record { scan-ready = λ i. valid; write-ready = λ n v. valid; restart-ready = λ life image. tt; read-ready = λ n. valid; save-ready = λ life buffer. valid }

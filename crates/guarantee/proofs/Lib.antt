@@ -1,10 +1,12 @@
 pub mod Answers
 pub mod Bound
+pub mod Brought
 pub mod Capped
 pub mod Counting
 pub mod Existence
 pub mod Faults
 pub mod Guarantee
+pub mod Images
 pub mod Limits
 pub mod Modes
 pub mod Ours

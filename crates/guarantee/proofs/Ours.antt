@@ -8,20 +8,24 @@ use Rattle.parameters.specs.Legal.{Legal}
 use Rattle.terms.specs.Fraction.{storedUnits}
 use Rattle.terms.specs.Near.{Near}
 use Rattle.terms.specs.NearLaws.{whole-near}
-use Rattle.controller.specs.Scan.{controllerAfter, coreAfter, statusOf, Outcome, accepted, refused, scanCore, handedBack}
+use Rattle.outputs.specs.Outputs.{restartInstruction}
+use Rattle.controller.specs.Restart as restarts
+use Rattle.controller.specs.Restart.{valuesIn, restartTests, restartAccepted, restartCore}
+use Rattle.controller.specs.RestartLaws.{valid-restart}
 use Rattle.controller.specs.Scan as rules
+use Rattle.controller.specs.Scan.{controllerAfter, coreAfter, statusOf, Outcome, accepted, refused, scanCore, handedBack}
 use Rattle.controller.specs.State.{freshController, freshCore}
 use Rattle.controller.specs.Valid.{Valid}
 use Rattle.controller.specs.ValidLaws.{by-verdict, valid-fresh, valid-scan}
-use Rattle.controller.specs.Write.{writeTests, writeAccepted, writeCore}
 use Rattle.controller.specs.Write as writes
+use Rattle.controller.specs.Write.{writeTests, writeAccepted, writeCore}
 use Rattle.controller.specs.WriteLaws.{sw-stays, opens-stay, valid-write}
 use Rattle.controller.specs.declared.Controller.{Controller}
 use Rattle.controller.specs.declared.Core.{Core}
 use Rattle.guarantee.specs.Claim.{capped}
 use Rattle.guarantee.specs.Count.{openAfter, openScans, automaticScans}
-use Rattle.guarantee.specs.Exact.{Call, scan, write, Calls, none, _then_, oneMore, outcomeOf, exactOutcome, exactAfter, exact, exactAnswer}
-use Rattle.guarantee.proofs.Bound.{Sound, keeps, instruction-sound, carried-near}
+use Rattle.guarantee.specs.Exact.{Call, scan, write, restart, Calls, none, _then_, oneMore, outcomeOf, exactOutcome, exactAfter, exact, exactAnswer}
+use Rattle.guarantee.proofs.Bound.{Sound, keeps, sets, instruction-sound, carried-near}
 use Rattle.guarantee.proofs.Capped.{cappedOutcome, outcome-capped}
 use Rattle.guarantee.proofs.Counting.{counts}
 
@@ -45,16 +49,18 @@ pub outcomes : (word : ℕ) (xs : Calls) (x : Call) → outcomeOf counted (ours 
 outcomes word xs x = ap (λ (k : Core). outcomeOf counted k x) (cores word xs) ∙ outcome-capped (exact word xs .core) x
 
 pub valid-after : (word : ℕ) (xs : Calls) → Valid (ours word xs)
-unfolding ours outcomeOf rules.scan writes.write
+unfolding ours outcomeOf rules.scan writes.write restarts.restart
 valid-after word none = valid-fresh word
 valid-after word (xs then scan i) = valid-scan (ours word xs) i (valid-after word xs)
 valid-after word (xs then write n v) = valid-write (ours word xs) n v (valid-after word xs)
+valid-after word (xs then restart image) = valid-restart (ours word xs) image (valid-after word xs)
 
 -- the switch word stays
 pub switch-word : (c : Core) (x : Call) → outcomeOf counted c x .next .sw ≡ c .sw
-unfolding outcomeOf scanCore writeCore writeAccepted refused accepted coreAfter
+unfolding outcomeOf scanCore writeCore writeAccepted restartCore restartAccepted refused accepted coreAfter
 switch-word c (scan i) = by-verdict (λ o. o .next .sw ≡ c .sw) (declinedBy (scanTests i)) c (accepted counted c i) (λ e. refl) (λ n. refl)
 switch-word c (write n v) = by-verdict (λ o. o .next .sw ≡ c .sw) (declinedBy (writeTests c n v)) c (writeAccepted c n v) (λ e. sw-stays c n v) (λ m. refl)
+switch-word c (restart image) = by-verdict (λ o. o .next .sw ≡ c .sw) (declinedBy (restartTests image)) c (restartAccepted c (valuesIn image)) (λ e. refl) (λ m. refl)
 
 -- ---- the bound
 
@@ -63,12 +69,14 @@ unfolding capped
 exact-legal word xs = subst (λ (k : Core). Legal (k .parameters)) (cores word xs) (valid-after word xs .legal)
 
 outcome-sound : (c : Core) (x : Call) → Legal (c .parameters) → Sound (outcomeOf oneMore c x .instruction .change)
-unfolding outcomeOf scanCore writeCore writeAccepted refused accepted
+unfolding outcomeOf scanCore writeCore writeAccepted restartCore restartAccepted restartInstruction refused accepted
 outcome-sound c (scan i) legal =
     by-verdict (λ o. Sound (o .instruction .change)) (declinedBy (scanTests i)) c (accepted oneMore c i)
     (λ e. instruction-sound (c .parameters) _ _ (c .history) legal) (λ n. keeps)
 outcome-sound c (write n v) legal =
     by-verdict (λ o. Sound (o .instruction .change)) (declinedBy (writeTests c n v)) c (writeAccepted c n v) (λ e. keeps) (λ m. keeps)
+outcome-sound c (restart image) legal =
+    by-verdict (λ o. Sound (o .instruction .change)) (declinedBy (restartTests image)) c (restartAccepted c (valuesIn image)) (λ e. sets) (λ m. keeps)
 
 pub bound-after : (word : ℕ) (xs : Calls) → Near (ours word xs .output) (exact word xs .output) (3 * automaticScans word xs)
 unfolding ours exact exactAfter exactAnswer automaticScans freshController handedBack controllerAfter storedUnits cappedOutcome
@@ -81,13 +89,16 @@ bound-after word (xs then x) =
 -- ---- the open count
 
 open-counts : (c : Core) (x : Call) → let o = outcomeOf oneMore c x in o .next .conditions .opens ≡ openAfter x (o .answer) (c .conditions .opens)
-unfolding outcomeOf scanCore writeCore writeAccepted refused accepted coreAfter conditionsAfter opensAfter statusOf openAfter
+unfolding outcomeOf scanCore writeCore writeAccepted restartCore restartAccepted refused accepted coreAfter conditionsAfter opensAfter statusOf openAfter
 open-counts c (scan i) =
     by-verdict (λ o. o .next .conditions .opens ≡ openAfter (scan i) (o .answer) (c .conditions .opens)) (declinedBy (scanTests i)) c (accepted oneMore c i)
     (λ e. refl) (λ n. refl)
 open-counts c (write n v) =
     by-verdict (λ o. o .next .conditions .opens ≡ openAfter (write n v) (o .answer) (c .conditions .opens)) (declinedBy (writeTests c n v)) c (writeAccepted c n v)
     (λ e. opens-stay c n v) (λ m. refl)
+open-counts c (restart image) =
+    by-verdict (λ o. o .next .conditions .opens ≡ openAfter (restart image) (o .answer) (c .conditions .opens)) (declinedBy (restartTests image)) c (restartAccepted c (valuesIn image))
+    (λ e. refl) (λ m. refl)
 
 pub opens-after : (word : ℕ) (xs : Calls) → exact word xs .core .conditions .opens ≡ openScans word xs
 unfolding exact exactAfter exactAnswer openScans freshCore

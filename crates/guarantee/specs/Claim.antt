@@ -1,13 +1,14 @@
 -- The parts of demand 3, written out again from document 01's words. Shared with the rules are the types of the state and of the answers, the bits of a word, the value
--- of a parameter, what a read answers, and the exact controller. The conditions, their order, 85, the limits and what a word shows of the mode stand here a second time, so that a
+-- of a parameter, what a read answers, the bytes of an image, and the exact controller. The conditions, their order, 85, the limits and what a word shows of the mode stand here a second time, so that a
 -- rule isn't judged by itself.
 use mathlib.Core.Path.{_≡_}
 use mathlib.Core.Bool.{Bool, true, false, not, _&&_, _||_}
-use mathlib.Core.List.{List, [], _∷_}
+use mathlib.Core.List.{List, [], _∷_, _++_}
 use mathlib.Core.Option.{Option, some}
 use Prim.Native.Nat.{ℕ, _+_, _-_, _*_, _/_, min}
-use lib.Dec.{leb}
+use lib.Dec.{leb, ltb}
 use lib.IntN.{ℤ, pos, _*ℤ_}
+use lib.ListN.{length, drop}
 use lib.Signed.{_≤ℤ_, _<ℤ_}
 use Rattle.integers.specs.Choice.{if_then_else_}
 use Rattle.signals.specs.Bits.{bit}
@@ -16,8 +17,10 @@ use Rattle.modes.specs.declared.Mode.the-variants.{Hold, Track, Forced, Manual,
 use Rattle.modes.specs.declared.Request.{Request}
 use Rattle.modes.specs.declared.Request.the-variants as request
 use Rattle.parameters.specs.Table.{value}
+use Rattle.settings.specs.Settings.{imageOf}
 use Rattle.controller.specs.Answers.{Said, words, reading, acceptance, number, Handed}
 use Rattle.controller.specs.Read.{readIn}
+use Rattle.controller.specs.Save.{settingsOf}
 use Rattle.controller.specs.Scan.{Status, status, accepts, declined}
 use Rattle.controller.specs.declared.Controller.{Controller}
 use Rattle.controller.specs.declared.Core.{Core}
@@ -142,3 +145,11 @@ pub record SameReading (c : Controller) (now : Core) (n : ℕ) (said : Said) : T
   pub shows : ShowsMode md now
   pub md-is : n ≡ 24 → said ≡ reading (pos md)
   pub op-is : n ≡ 28 → said ≡ reading (pos op)
+
+-- ---- saves: of a controller c, beside the exact controller's state `now`; the OP that is saved is that of our own stored output. Fewer than 137 bytes are declined and stay
+pub record SameSave (c : Controller) (now : Core) (buffer : List ℕ) (said : Said) (after : List ℕ) : Type 0 where
+  pub op : ℕ
+  pub electrical : ℕ
+  pub own : OwnOutput c op electrical
+  pub same : said ≡ (if ltb (length buffer) 137 then number 15 else acceptance)
+  pub bytes : after ≡ (if ltb (length buffer) 137 then buffer else imageOf (settingsOf now op) ++ drop 137 buffer)

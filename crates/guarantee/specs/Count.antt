@@ -11,7 +11,7 @@ use Rattle.modes.specs.declared.Mode.the-variants.{Hold, Track, Forced, Manual,
 use Rattle.controller.specs.Scan.{Status, status, accepts, declined}
 use Rattle.controller.specs.declared.Core.{Core}
 use Rattle.guarantee.specs.Claim.{modeIn}
-use Rattle.guarantee.specs.Exact.{Call, scan, write, Calls, none, _then_, exact, exactAnswer}
+use Rattle.guarantee.specs.Exact.{Call, scan, write, restart, Calls, none, _then_, exact, exactAnswer}
 
 -- ---- by the mode, as its conditions give it
 
@@ -58,11 +58,12 @@ isAccepted (status md ds) = true
 isAccepted accepts = true
 isAccepted (declined n) = false
 
--- consecutive open scans, told by the calls and by which of them were accepted: an accepted open scan is one more, an accepted scan that isn't open starts anew, a declined scan and a
--- write leave the count
+-- consecutive open scans, told by the calls and by which of them were accepted: an accepted open scan is one more, an accepted scan that isn't open starts anew, and so does an
+-- accepted restart; a declined call and a write leave the count
 unfoldable pub openAfter : Call → Status → ℕ → ℕ
 openAfter (scan i) answer n = if not (isAccepted answer) then n else if bit (i .sensors) 0 then n + 1 else 0
 openAfter (write number value) answer n = n
+openAfter (restart image) answer n = if isAccepted answer then 0 else n
 
 unfoldable pub openScans : ℕ → Calls → ℕ
 openScans word none = 0
@@ -72,15 +73,18 @@ openScans word (xs then x) = openAfter x (exactAnswer word xs x) (openScans word
 unfoldable pub toMinimum : Core → Core → Bool
 toMinimum before now = eqb (now .conditions .opens) 85 && automatic (modeIn before) && bit (now .sw) 11
 
--- "Track, minimum, start fresh and accepted restart set the output outright": an accepted scan in Track, or one in Manual or Forced that goes to minimum
+-- "Track, minimum, start fresh and accepted restart set the output outright": an accepted scan in Track, or one in Manual or Forced that goes to minimum, or an accepted
+-- restart
 unfoldable pub setsOutright : Core → Core → Call → Bool
 setsOutright before now (scan i) = tracks (modeIn now) || manualOrForced (modeIn now) && toMinimum before now
 setsOutright before now (write number value) = false
+setsOutright before now (restart image) = true
 
 -- step 6: "Automatic and open: kept. Automatic otherwise, an automatic scan"
 unfoldable pub isAutomaticScan : Core → Call → Bool
 isAutomaticScan now (scan i) = automatic (modeIn now) && not (bit (i .sensors) 0)
 isAutomaticScan now (write number value) = false
+isAutomaticScan now (restart image) = false
 
 -- n after one call more
 unfoldable pub countAfter : Core → Core → Call → Status → ℕ → ℕ

@@ -4,16 +4,18 @@ use mathlib.Core.Bool.{false}
 use mathlib.Core.List.{List}
 use mathlib.Core.Option.{some}
 use Prim.Native.Nat.{ℕ, _*_}
+use denote.Ref.{now}
+use Rattle.signals.specs.declared.Verdict.{Verdict}
 use Rattle.terms.specs.Near.{Near}
-use Rattle.controller.specs.Answers.{Handed, saidOfRead}
+use Rattle.controller.specs.Answers.{Handed, saidOfVerdict, saidOfRead}
 use Rattle.controller.specs.Scan.{modeNow}
 use Rattle.controller.specs.declared.Controller.{Controller}
 use Rattle.controller.specs.declared.ReadAnswer.{ReadAnswer}
-use Rattle.guarantee.specs.Claim.{modeIn, isHoldOrTrack, WithinLimits, capped, SameAnswers, SameReading}
+use Rattle.guarantee.specs.Claim.{modeIn, isHoldOrTrack, WithinLimits, capped, SameAnswers, SameReading, SameSave}
 use Rattle.guarantee.specs.Count.{openScans, automaticScans}
 use Rattle.guarantee.specs.Exact.{Calls, exact}
 use Rattle.guarantee.specs.Fault.{faultStands}
-use Rattle.guarantee.specs.Linked.{ReadEnsures}
+use Rattle.guarantee.specs.Linked.{ReadEnsures, SaveEnsures, Lent, Lifetime}
 
 pub record Demand3 (word : ℕ) (calls : Calls) (hs : List Handed) (c : Controller) : Type 0 where
   -- the mode is the first in the priority order whose condition is present; conditions are read from the exact controller
@@ -29,5 +31,8 @@ pub record Demand3 (word : ℕ) (calls : Calls) (hs : List Handed) (c : Controll
   pub same-answers : SameAnswers word calls hs
   -- and so does every read that is made now, which changes nothing
   pub same-reads : (n : ℕ) (r : ReadAnswer) → ReadEnsures c n r → SameReading c (exact word calls .core) n (saidOfRead r)
+  -- and every save, which changes nothing either, of any buffer: the answer and every byte
+  pub same-saves : (life : Lifetime) (buffer : Lent) (r : Verdict) (after : List ℕ) → SaveEnsures life c buffer r after →
+      SameSave c (exact word calls .core) (now buffer) (saidOfVerdict r) after
   -- the stored output is within 3/2 × n × 1/65,536 unit of the exact controller's: `Near` counts halves of 1/65,536 unit
   pub bound : Near (c .output) (exact word calls .output) (3 * automaticScans word calls)

@@ -1,10 +1,12 @@
 -- Document 01, "The exact controller": the same steps and rules, its own copy of every state item, the output a fraction, the terms unrounded. It is fed
 -- the switch word and the calls, and nothing of ours.
+use mathlib.Core.List.{List}
 use Prim.Native.Nat.{ℕ, _+_}
 use lib.IntN.{ℤ, pos}
 use Rattle.signals.specs.declared.Input.{Input}
 use Rattle.terms.specs.Fraction.{Fraction, whole}
 use Rattle.outputs.specs.Instruction.{exactArithmetic, carriedOut}
+use Rattle.controller.specs.Restart.{restartCore}
 use Rattle.controller.specs.Scan.{Status, Outcome, scanCore}
 use Rattle.controller.specs.State.{freshCore}
 use Rattle.controller.specs.Write.{writeCore}
@@ -12,11 +14,13 @@ use Rattle.controller.specs.declared.Core.{Core}
 
 -- ---- calls, and lists of them, the latest last
 
--- a further kind of call is a further case here, in `outcomeOf`, in `Linked`, in `openAfter`, `setsOutright` and `isAutomaticScan` (Count), and in `eventOf` (Fault); `Ready` gets its `requires`
+-- the four calls are these and start fresh, with which every list begins
 pub data Call : Type 0 where
   scan : Input → Call
   -- to the parameter with this number, of this value: any natural number, any integer
   write : ℕ → ℤ → Call
+  -- with these bytes: any numbers, so many of them as may be
+  restart : List ℕ → Call
 
 infixl 20 _then_
 pub data Calls : Type 0 where
@@ -27,6 +31,7 @@ pub data Calls : Type 0 where
 unfoldable pub outcomeOf : (ℕ → ℕ) → Core → Call → Outcome
 outcomeOf more c (scan i) = scanCore more c i
 outcomeOf more c (write n v) = writeCore c n v
+outcomeOf more c (restart image) = restartCore c image
 
 -- ---- the exact controller
 

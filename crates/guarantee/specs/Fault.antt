@@ -1,17 +1,18 @@
 -- Document 01, "The exact controller": "The memory fault stands exactly when the last accepted restart brought it and no accepted write of MD with bit 8 zero came
--- after that restart." Said in full of the accepted calls, restarts among them; no call of this level is a restart yet.
+-- after that restart."
 use mathlib.Core.Path.{_≡_}
 use mathlib.Core.Bool.{Bool, false, not, _&&_, _||_}
 use mathlib.Core.List.{List, [], _∷_}
-use Prim.Native.Nat.{ℕ}
+use Prim.Native.Nat.{ℕ, zero, suc, _+_, _*_, _%_}
 use lib.Dec.{eqb}
 use lib.IntN.{natAbs}
+use lib.ListN.{getD}
 use Rattle.integers.specs.Choice.{if_then_else_}
 use Rattle.signals.specs.Bits.{bit}
 use Rattle.modes.specs.Modes.{counted}
 use Rattle.controller.specs.declared.Core.{Core}
 use Rattle.guarantee.specs.Count.{isAccepted}
-use Rattle.guarantee.specs.Exact.{Call, scan, write, Calls, none, _then_, outcomeOf, exactAnswer}
+use Rattle.guarantee.specs.Exact.{Call, scan, write, restart, Calls, none, _then_, outcomeOf, exactAnswer}
 
 -- what an accepted call is to that sentence
 pub data Event : Type 0 where
@@ -21,10 +22,28 @@ pub data Event : Type 0 where
   wrote : ℕ → Event
   another : Event
 
+-- "A fault of 1 or a wrong sumcheck brings the memory fault, any other accepted restart ends it.", told by the bytes of an accepted image. Before each value stand three bytes of
+-- tag and length; the values of 1 to 23 and of 41h have two bytes each and begin at byte 3, those of 42h, 43h and 44h are bytes 123, 127 and 131, the sumcheck begins at byte 135
+
+-- two bytes, "high byte first"
+abbrev pub wordAt : List ℕ → ℕ → ℕ
+wordAt image k = 256 * getD image k 0 + getD image (k + 1) 0
+
+-- the sum of so many two-byte values
+unfoldable pub twoByteSum : List ℕ → ℕ → ℕ
+twoByteSum image zero = 0
+twoByteSum image (suc n) = twoByteSum image n + wordAt image (5 * n + 3)
+
+unfoldable pub brings : List ℕ → Bool
+brings image =
+    eqb (getD image 127 0) 1
+    || not (eqb (wordAt image 135) ((twoByteSum image 24 + getD image 123 0 + getD image 127 0 + getD image 131 0) % 65536))
+
 -- MD is parameter 24
 unfoldable pub eventOf : Call → Event
 eventOf (scan i) = another
 eventOf (write n v) = if eqb n 24 then wrote (natAbs v) else another
+eventOf (restart image) = restarted (brings image)
 
 -- the fault after one accepted call more
 abbrev pub faultAfter : Event → Bool → Bool
@@ -32,7 +51,7 @@ faultAfter (restarted brought) fault = brought
 faultAfter (wrote word) fault = fault && bit word 8
 faultAfter another fault = fault
 
--- what one call does to the fault in any state, the fault standing or not: so much of the sentence doesn't wait for restarts
+-- what one call does to the fault in any state, reached by calls or not
 abbrev pub FaultStep : Type 0
 FaultStep = (c : Core) (x : Call) → let o = outcomeOf counted c x in
     o .next .conditions .fault ≡ (if isAccepted (o .answer) then faultAfter (eventOf x) (c .conditions .fault) else c .conditions .fault)

@@ -3,4 +3,5 @@ pub mod Count
 pub mod Demand
 pub mod Exact
 pub mod Fault
+pub mod Images
 pub mod Linked

@@ -28,7 +28,7 @@ use Rattle.terms.specs.Terms.{storedTerm, TuningRange}
 use Rattle.outputs.specs.Deviation.{deviation, earlierSetpoint, changeOfDeviation, secondDifference, tuningOf}
 use Rattle.outputs.specs.History.{remembered, historyAfter, recalled}
 use Rattle.outputs.specs.Instruction.{unlimited, between, storedArithmetic, changed, limitedTo, carriedOut}
-use Rattle.outputs.specs.Outputs.{changeIn, limitsIn, minimumOf, instructionOf, restartedTo}
+use Rattle.outputs.specs.Outputs.{changeIn, limitsIn, minimumOf, instructionOf, restartedTo, restartInstruction}
 use Rattle.outputs.specs.declared.History.{History}
 use Rattle.outputs.specs.declared.History.the-variants.{Nothing, One, Two}
 use Rattle.outputs.specs.declared.Past.{Past}
@@ -253,3 +253,13 @@ module _ (p : Parameters) (legal : Legal p) where
   pub output-stored : (x : Situation) (r : Readings) (h : History) (output : ℤ) → Stored output → Stored (carriedOut storedArithmetic (instructionOf p x r h) output)
   unfolding carriedOut instructionOf
   output-stored x r h output k = stored-in (x .mode) x r h output k
+
+  -- after a restart
+  pub restart-in-units : (s : Switches) (tominimum : Bool) (op : ℕ) (output : ℤ) → InUnits (LO p) (HO p) (carriedOut storedArithmetic (restartInstruction p s tominimum op) output)
+  unfolding carriedOut restartInstruction limitedTo storedArithmetic
+  restart-in-units s tominimum op output = limited-in-units (LO p) (HO p) _ (ranges p legal .outputs .order)
+
+  pub restart-stored : (s : Switches) (tominimum : Bool) (op : ℕ) (output : ℤ) → Stored (carriedOut storedArithmetic (restartInstruction p s tominimum op) output)
+  restart-stored s tominimum op output =
+      let r = ranges p legal in
+      in-units-stored (LO p) (HO p) _ (r .outputs .not-below) (r .outputs .not-above) (restart-in-units s tominimum op output)

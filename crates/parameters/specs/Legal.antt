@@ -3,7 +3,7 @@ use mathlib.Core.Path.{_≡_}
 use mathlib.Core.Bool.{Bool, true, false, _&&_}
 use Prim.Native.Nat.{ℕ, _+_, _-_, _%_, _≤_}
 use lib.Dec.{eqb}
-use lib.IntN.{ℤ}
+use lib.IntN.{ℤ, pos}
 use lib.ListN.{length}
 use lib.Signed.{leZ, ltZ}
 use Rattle.integers.specs.Choice.{if_then_else_}
@@ -77,4 +77,6 @@ areLegal p = every (λ n. keeps (ruleOf n) (value p) n) 1 23
 
 pub record Legal (p : Parameters) : Type 0 where
   pub size : length (p .values) ≡ 24
+  -- the entry that is not used
+  pub unused : value p 0 ≡ pos 0
   pub rules : (n : ℕ) → 1 ≤ n → n ≤ 23 → keeps (ruleOf n) (value p) n ≡ true

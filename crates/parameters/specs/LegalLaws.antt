@@ -14,8 +14,8 @@ use Rattle.integers.specs.Operations.{number}
 use Rattle.integers.specs.Parts.{integers, apart}
 use Rattle.parameters.specs.Legal.{Legal, keeps, inRange, pairInOrder, isWithin, inOrder, partner}
 use Rattle.parameters.specs.Range.{Each, each-in, each-of}
-use Rattle.parameters.specs.Table.{value, withValue, ruleOf, defaults}
 use Rattle.parameters.specs.Table as t
+use Rattle.parameters.specs.Table.{value, withValue, ruleOf, defaults}
 use Rattle.parameters.specs.declared.Parameters.{Parameters}
 use Rattle.parameters.specs.declared.Rule.{Rule}
 use Rattle.parameters.specs.declared.Rule.the-variants.{Unknown, ReadOnly, Word, Free, Pair, Between}
@@ -29,6 +29,7 @@ unfolding value ruleOf
 defaults-legal =
     record {
       size = refl;
+      unused = refl;
       rules = λ n a b.
           each-in (λ (m : ℕ). keeps (ruleOf m) (value fresh) m ≡ true) 23 1 n
           (refl, (refl, (refl, (refl, (refl, (refl, (refl, (refl, (refl, (refl, (refl, (refl, (refl, (refl, (refl, (refl, (refl, (refl, (refl, (refl, (refl, (refl, (refl, tt)))))))))))))))))))))))
@@ -67,13 +68,14 @@ pub and-true : {b : Bool} → b ≡ true → b && true ≡ true
 and-true e = rw e refl
 
 -- row by row: those before SL and RS, those after them, and these two
-pub legal-by : (p : Parameters) → length (p .values) ≡ 24 →
+pub legal-by : (p : Parameters) → length (p .values) ≡ 24 → value p 0 ≡ pos 0 →
     ((n : ℕ) → 1 ≤ n → n ≤ 19 → keeps (ruleOf n) (value p) n ≡ true) → ((n : ℕ) → 22 ≤ n → n ≤ 23 → keeps (ruleOf n) (value p) n ≡ true) →
     keeps (ruleOf 20) (value p) 20 ≡ true → keeps (ruleOf 21) (value p) 21 ≡ true → Legal p
-legal-by p size before after sl rs =
+legal-by p size unused before after sl rs =
     let P : ℕ → Type 0 = λ m. keeps (ruleOf m) (value p) m ≡ true in
     record {
       size = size;
+      unused = unused;
       rules = λ n a b.
           by-place n 20 (λ l. before n a (omega arith)) (λ q. subst P (sym q) sl)
           (λ l. by-place n 21 (λ k. absurd (omega arith)) (λ q. subst P (sym q) rs) (λ k. after n (omega arith) b));
@@ -104,7 +106,7 @@ module _ (p : Parameters) (legal : Legal p) (sl rs : ℤ) where
   settings-legal e d =
       let q = withValue (withValue p 20 sl) 21 rs in
       let same : (n : ℕ) → keeps (ruleOf n) (value q) n ≡ keeps (ruleOf n) settings n = λ n. keeps-same (ruleOf n) (value q) settings n settings-are in
-      legal-by q (length-set (set (p .values) 20 sl) 21 rs ∙ settings-size)
+      legal-by q (length-set (set (p .values) 20 sl) 21 rs ∙ settings-size) (settings-are 0 ∙ legal .unused)
       (λ n a b. same n ∙ each-in (λ (m : ℕ). keeps (ruleOf m) settings m ≡ true) 19 1 n (rules-from p legal 19 1 (omega arith) (omega arith)) a (omega arith))
       (λ n a b. same n ∙ each-in (λ (m : ℕ). keeps (ruleOf m) settings m ≡ true) 2 22 n (rules-from p legal 2 22 (omega arith) (omega arith)) a (omega arith))
       (same 20 ∙ and-true e) (same 21 ∙ and-true d)

@@ -6,3 +6,4 @@ pub mod Table
 pub mod Written
 pub mod WrittenLaws
 pub mod Mended
+pub mod MendedLaws

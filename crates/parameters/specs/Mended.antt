@@ -1,5 +1,5 @@
 -- Document 01, "The image": what an accepted restart makes of parameters 1 to 23 under a wrong sumcheck.
-use mathlib.Core.Bool.{Bool, _||_}
+use mathlib.Core.Bool.{_||_}
 use Prim.Native.Nat.{ℕ}
 use lib.Dec.{eqb}
 use lib.IntN.{ℤ, pos}

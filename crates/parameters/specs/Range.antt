@@ -1,8 +1,8 @@
 -- A statement or a test of each number of a short range.
 use mathlib.Core.Path.{_≡_, refl, subst}
-use mathlib.Core.Bool.{Bool, true, false, _&&_}
 use mathlib.Core.Logic.{⊎-elim}
-use Prim.Native.Nat.{ℕ, zero, suc, _+_, _≤_, _<_}
+use mathlib.Core.Bool.{Bool, true, false, _&&_}
+use Prim.Native.Nat.{ℕ, zero, suc, _+_, _-_, _≤_, _<_}
 use native.Mathlib.Nat.{eq-or-lt-of-le}
 use native.Mathlib.Omega.{arith}
 use Rattle.integers.specs.Choice.{never}
@@ -40,3 +40,25 @@ pub tested-each : (test : ℕ → Bool) (many first : ℕ) → Each (λ (n : ℕ
 unfolding every
 tested-each test zero first e = refl
 tested-each test (suc many) first e = rw (e .0) (tested-each test many (suc first) (e .1))
+
+-- ---- as a loop goes: from n up to an end
+
+module _ (test : ℕ → Bool) (n end : ℕ) where
+  pub every-next : n < end → test n ≡ true → every test n (end - n) ≡ every test (n + 1) (end - (n + 1))
+  unfolding every
+  every-next h e =
+      let one : end - n ≡ suc (end - (n + 1)) = omega arith in
+      let two : n + 1 ≡ suc n = omega arith in
+      rw (one, two, e) refl
+
+  pub every-not : n < end → test n ≡ false → every test n (end - n) ≡ false
+  unfolding every
+  every-not h e =
+      let one : end - n ≡ suc (end - (n + 1)) = omega arith in
+      rw (one, e) refl
+
+  pub every-done : end ≤ n → every test n (end - n) ≡ true
+  unfolding every
+  every-done h =
+      let none : end - n ≡ 0 = omega arith in
+      rw none refl

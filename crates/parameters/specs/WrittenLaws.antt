@@ -292,7 +292,7 @@ module _ (p : Parameters) (legal : Legal p) (k : ℕ) (v : ℤ) (first : 1 ≤ k
         let g = value (written p k v) in
         let kept-9 = kept-to-19 9 (omega arith) (omega arith) in
         let kept-7 = kept-to-19 7 (omega arith) (omega arith) in
-        legal-by (written p k v) written-size kept-to-19 kept-from-22
+        legal-by (written p k v) written-size (elsewhere 0 (λ q. omega arith) (λ q. omega arith) ∙ rw (ne-eqb 0 k (λ q. omega arith)) (legal .unused)) kept-to-19 kept-from-22
         (between-kept 20 10 9 (isFrom k 9 10) (value next 20) (omega arith) (omega arith) (omega arith) (omega arith) refl (both (inRange (ruleOf 9) g (g 9)) (leZ (g 10) (g 9)) kept-9 .1) setpoint-anew
         (λ e. (setpoint-stays e, not-from k 9 10 e 10 (omega arith) (omega arith), not-from k 9 10 e 9 (omega arith) (omega arith))))
         (between-kept 21 8 7 (isFrom k 7 8) (value next 21) (omega arith) (omega arith) (omega arith) (omega arith) refl (both (inRange (ruleOf 7) g (g 7)) (leZ (g 8) (g 7)) kept-7 .1) ratio-anew

@@ -1,10 +1,11 @@
+-- `fields::lay_field` meets its contract.
 use mathlib.Core.Path.{_≡_}
 use mathlib.Core.Logic.{⊎-elim}
 use native.Mathlib.Nat.{eq-or-lt-of-le}
 use native.Mathlib.Omega.{arith}
 use lib.ListN.{length-set}
-use Rattle.fields.proofs.Laying.{laid-one, laid-two}
 use borrow.Author.Needs.{needs}
+use Rattle.fields.proofs.Laying.{laid-one, laid-two}
 use Rattle.fields.proofs.lay_field.Statement.{statement}
 use Rattle.fields.proofs.lay_field.Tie as tie
 

@@ -1,3 +1,4 @@
+-- `fields::length_of` meets its contract.
 use borrow.Author.Tests.{lt-ltb, le-ltb}
 use Rattle.fields.specs.Fields.{lengthOf}
 use Rattle.fields.proofs.length_of.Statement.{statement}

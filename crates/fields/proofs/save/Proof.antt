@@ -1,7 +1,8 @@
+-- `fields::save` meets its contract.
+use borrow.Author.Needs.{needs}
 use borrow.Author.Tests.{lt-ltb, le-ltb, lt-leb, le-leb}
 use Rattle.signals.specs.Refusals.{declinedBy}
 use Rattle.fields.specs.Fields.{saveTests, savedIn}
-use borrow.Author.Needs.{needs}
 use Rattle.fields.proofs.save.Statement.{statement}
 use Rattle.fields.proofs.save.Tie as tie
 

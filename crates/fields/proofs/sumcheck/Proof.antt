@@ -1,8 +1,9 @@
+-- `fields::sumcheck` meets its contract.
 use mathlib.Core.Path.{_≡_, refl, subst}
 use Prim.Native.Nat.{ℕ, _-_, _≤_}
 use native.Mathlib.Omega.{arith}
-use borrow.Author.Needs.{needs}
 use lib.ListN.{length, take}
+use borrow.Author.Needs.{needs}
 use Rattle.fields.specs.Fields.{sum, sumOf}
 use Rattle.fields.proofs.Taking.{sum-next}
 use Rattle.fields.proofs.sumcheck.Statement.{statement}

@@ -1,6 +1,7 @@
+-- `fields::tag_of` meets its contract.
+use borrow.Author.Needs.{needs}
 use borrow.Author.Tests.{lt-ltb, le-ltb}
 use Rattle.fields.specs.Fields.{tagOf}
-use borrow.Author.Needs.{needs}
 use Rattle.fields.proofs.tag_of.Statement.{statement}
 use Rattle.fields.proofs.tag_of.Tie as tie
 

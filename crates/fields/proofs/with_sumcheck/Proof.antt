@@ -1,11 +1,12 @@
+-- `fields::with_sumcheck` meets its contract.
 use mathlib.Core.Path.{_≡_, sym, ap, _∙_}
 use mathlib.Core.List.{[], _∷_, _++_}
 use Prim.Native.Nat.{ℕ}
 use native.Mathlib.Omega.{arith}
 use lib.ListN.{length, set, take, length-set}
 use lib.Seq.{take-all, take-suc-set}
-use Rattle.fields.specs.Fields.{withSumcheck}
 use borrow.Author.Needs.{needs}
+use Rattle.fields.specs.Fields.{withSumcheck}
 use Rattle.fields.proofs.with_sumcheck.Statement.{statement}
 use Rattle.fields.proofs.with_sumcheck.Tie as tie
 

@@ -1,15 +1,14 @@
+-- `integers::as_word` meets its contract.
 use mathlib.Core.Path.{_≡_, refl, sym, ap, _∙_}
 use mathlib.Core.Bool.{true, false}
-use lib.IntN.{natAbs}
-use mir.Facts.{toZ-ofZ}
-use mathlib.Core.Path.{_≡_, refl, sym, _∙_}
-use mathlib.Core.Bool.{true}
 use native.Mathlib.Omega.{arith}
+use lib.IntN.{natAbs}
+use borrow.Author.Needs.{needs}
+use mir.Facts.{toZ-ofZ}
 use Rattle.integers.specs.Operations.{number}
 use Rattle.integers.specs.Parts.{integers}
 use Rattle.integers.specs.Sign.{isNegative}
 use Rattle.integers.specs.TwosComplement.{asWord}
-use borrow.Author.Needs.{needs}
 use Rattle.integers.proofs.as_word.Statement.{statement}
 use Rattle.integers.proofs.as_word.Tie as tie
 

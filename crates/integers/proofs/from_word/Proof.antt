@@ -1,13 +1,14 @@
+-- `integers::from_word` meets its contract.
 use native.Mathlib.Omega.{arith}
 use lib.IntN.{pos, _-ℤ_}
+use borrow.Author.Needs.{needs}
 use borrow.Author.Tests.{lt-ltb, le-ltb}
-use mir.Syntax.{w64}
 use mir.Facts.{toZ-ofZ}
+use mir.Syntax.{w64}
+use Rattle.integers.specs.Machine.{cast-back}
 use Rattle.integers.specs.Operations.{difference}
 use Rattle.integers.specs.Parts.{integers}
-use Rattle.integers.specs.Machine.{cast-back}
 use Rattle.integers.specs.TwosComplement.{fromWord}
-use borrow.Author.Needs.{needs}
 use Rattle.integers.proofs.from_word.Statement.{statement}
 use Rattle.integers.proofs.from_word.Tie as tie
 

@@ -1,9 +1,10 @@
-use Rattle.integers.specs.Machine.{back}
-use mir.Syntax.{w64}
+-- `outputs::limited` meets its contract.
+use borrow.Author.Needs.{needs}
 use mir.Facts.{toZ-ofZ}
+use mir.Syntax.{w64}
+use Rattle.integers.specs.Machine.{back}
 use Rattle.terms.specs.Fraction.{limitedStored}
 use Rattle.outputs.specs.OutputLaws.{low-limit-most, high-limit-most}
-use borrow.Author.Needs.{needs}
 use Rattle.outputs.proofs.limited.Statement.{statement}
 use Rattle.outputs.proofs.limited.Tie as tie
 

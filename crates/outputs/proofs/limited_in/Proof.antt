@@ -1,11 +1,12 @@
-use Rattle.integers.specs.Machine.{back}
-use mir.Syntax.{w64}
+-- `outputs::limited_in` meets its contract.
+use borrow.Author.Needs.{needs}
 use mir.Facts.{toZ-ofZ}
+use mir.Syntax.{w64}
+use Rattle.integers.specs.Machine.{back}
 use Rattle.modes.specs.Modes.{isLimiting}
 use Rattle.parameters.specs.Table.{HO, LO}
 use Rattle.outputs.specs.OutputLaws.{limited-choice}
 use Rattle.outputs.specs.Outputs.{limitsIn}
-use borrow.Author.Needs.{needs}
 use Rattle.outputs.proofs.limited_in.Statement.{statement}
 use Rattle.outputs.proofs.limited_in.Tie as tie
 

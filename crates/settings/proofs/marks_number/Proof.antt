@@ -1,5 +1,6 @@
-use Rattle.settings.specs.Settings.{marksNumber}
+-- `settings::marks_number` meets its contract.
 use borrow.Author.Needs.{needs}
+use Rattle.settings.specs.Settings.{marksNumber}
 use Rattle.settings.proofs.marks_number.Statement.{statement}
 use Rattle.settings.proofs.marks_number.Tie as tie
 

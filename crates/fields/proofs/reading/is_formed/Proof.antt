@@ -1,3 +1,4 @@
+-- `fields::reading::is_formed` meets its contract.
 use mathlib.Core.Path.{refl, sym, _∙_}
 use Prim.Native.Nat.{_-_}
 use native.Mathlib.Omega.{arith}

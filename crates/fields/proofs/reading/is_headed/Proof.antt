@@ -1,7 +1,8 @@
+-- `fields::reading::is_headed` meets its contract.
+use borrow.Author.Needs.{needs}
 use borrow.Author.Tests.{eq-eqb, ne-eqb}
 use Rattle.fields.specs.Reading.{isHeaded}
 use Rattle.fields.proofs.Taking.{headed-last}
-use borrow.Author.Needs.{needs}
 use Rattle.fields.proofs.reading.is_headed.Statement.{statement}
 use Rattle.fields.proofs.reading.is_headed.Tie as tie
 

@@ -1,6 +1,7 @@
+-- `fields::reading::value_in` meets its contract.
+use borrow.Author.Needs.{needs}
 use borrow.Author.Tests.{eq-eqb, ne-eqb}
 use Rattle.fields.specs.Reading.{valueIn}
-use borrow.Author.Needs.{needs}
 use Rattle.fields.proofs.reading.value_in.Statement.{statement}
 use Rattle.fields.proofs.reading.value_in.Tie as tie
 

@@ -1,9 +1,10 @@
+-- `outputs::restarted::output_restarted` meets its contract.
 use native.Mathlib.Omega.{arith}
-use Rattle.integers.specs.Machine.{back, cast-back}
+use borrow.Author.Needs.{needs}
 use mir.Syntax.{w64}
+use Rattle.integers.specs.Machine.{back, cast-back}
 use Rattle.outputs.specs.OutputLaws.{restarted-most}
 use Rattle.outputs.specs.Outputs.{restartedTo}
-use borrow.Author.Needs.{needs}
 use Rattle.outputs.proofs.restarted.output_restarted.Statement.{statement}
 use Rattle.outputs.proofs.restarted.output_restarted.Tie as tie
 

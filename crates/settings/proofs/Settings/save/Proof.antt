@@ -1,9 +1,10 @@
+-- `settings::Settings::save` meets its contract.
 use mathlib.Core.Path.{ap, _∙_}
 use mathlib.Core.List.{List}
 use Prim.Native.Nat.{ℕ}
+use borrow.Author.Needs.{needs}
 use Rattle.fields.specs.Fields.{fieldsFrom, savedIn}
 use Rattle.settings.specs.Settings.{imageOf}
-use borrow.Author.Needs.{needs}
 use Rattle.settings.proofs.Settings.save.Statement.{statement}
 use Rattle.settings.proofs.Settings.save.Tie as tie
 

@@ -1,16 +1,17 @@
-use lib.IntN.{natAbs}
-use mir.Val.{toZ, ofZ}
+-- `settings::Settings::value_at` meets its contract.
 use mathlib.Core.Path.{_≡_, sym, ap, _∙_}
 use Prim.Native.Nat.{_+_}
 use native.Mathlib.Omega.{arith}
+use lib.IntN.{natAbs}
+use borrow.Author.Needs.{needs}
 use borrow.Author.Tests.{lt-ltb, le-ltb, eq-eqb, ne-eqb}
 use mir.Syntax.{w64}
+use mir.Val.{toZ, ofZ}
 use Rattle.integers.specs.Machine.{back}
 use Rattle.integers.specs.TwosComplement.{asWord}
 use Rattle.parameters.specs.LegalLaws.{value-most}
 use Rattle.parameters.specs.Table.{value}
 use Rattle.settings.specs.Settings.{valueAt}
-use borrow.Author.Needs.{needs}
 use Rattle.settings.proofs.Settings.value_at.Statement.{statement}
 use Rattle.settings.proofs.Settings.value_at.Tie as tie
 

@@ -1,6 +1,7 @@
+-- `settings::carried::are_others_legal` meets its contract.
 use mathlib.Core.Path.{refl}
-use Rattle.settings.specs.Settings.{areOthersLegal}
 use borrow.Author.Needs.{needs}
+use Rattle.settings.specs.Settings.{areOthersLegal}
 use Rattle.settings.proofs.carried.are_others_legal.Statement.{statement}
 use Rattle.settings.proofs.carried.are_others_legal.Tie as tie
 

@@ -1,5 +1,6 @@
-use Rattle.settings.specs.Settings.{isSumRight}
+-- `settings::carried::is_sum_right` meets its contract.
 use borrow.Author.Needs.{needs}
+use Rattle.settings.specs.Settings.{isSumRight}
 use Rattle.settings.proofs.carried.is_sum_right.Statement.{statement}
 use Rattle.settings.proofs.carried.is_sum_right.Tie as tie
 

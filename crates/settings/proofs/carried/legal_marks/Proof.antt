@@ -1,6 +1,7 @@
+-- `settings::carried::legal_marks` meets its contract.
+use borrow.Author.Needs.{needs}
 use borrow.Author.Tests.{le-leb, lt-leb}
 use Rattle.settings.specs.Settings.{legalMarks}
-use borrow.Author.Needs.{needs}
 use Rattle.settings.proofs.carried.legal_marks.Statement.{statement}
 use Rattle.settings.proofs.carried.legal_marks.Tie as tie
 

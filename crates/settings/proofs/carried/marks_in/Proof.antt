@@ -1,5 +1,6 @@
-use Rattle.settings.specs.Settings.{marksIn}
+-- `settings::carried::marks_in` meets its contract.
 use borrow.Author.Needs.{needs}
+use Rattle.settings.specs.Settings.{marksIn}
 use Rattle.settings.proofs.carried.marks_in.Statement.{statement}
 use Rattle.settings.proofs.carried.marks_in.Tie as tie
 

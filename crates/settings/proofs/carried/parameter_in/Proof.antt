@@ -1,9 +1,10 @@
+-- `settings::carried::parameter_in` meets its contract.
 use mathlib.Core.Path.{_∙_}
+use borrow.Author.Needs.{needs}
 use borrow.Author.Tests.{eq-eqb, ne-eqb}
 use mir.Syntax.{w64}
 use Rattle.integers.specs.Machine.{back}
 use Rattle.settings.specs.Settings.{parameterIn}
-use borrow.Author.Needs.{needs}
 use Rattle.settings.proofs.carried.parameter_in.Statement.{statement}
 use Rattle.settings.proofs.carried.parameter_in.Tie as tie
 

@@ -1,11 +1,12 @@
+-- `settings::carried::parameters_in` meets its contract.
 use mathlib.Core.Path.{refl, ap, _∙_}
 use mathlib.Core.List.{List}
 use Prim.Native.Nat.{_-_}
-use lib.IntN.{ℤ}
 use native.Mathlib.Omega.{arith}
+use lib.IntN.{ℤ}
 use borrow.Author.Needs.{needs}
-use Rattle.integers.specs.Listed.{Filled, filled-start, filled-next, filled-all}
 use mir.Syntax.{w64}
+use Rattle.integers.specs.Listed.{Filled, filled-start, filled-next, filled-all}
 use Rattle.integers.specs.Machine.{back}
 use Rattle.settings.specs.Settings.{parameterIn, parametersIn}
 use Rattle.settings.proofs.carried.parameters_in.Statement.{statement}

@@ -1,3 +1,4 @@
+-- `settings::carried::request_in` meets its contract.
 use native.Mathlib.Omega.{arith}
 use borrow.Author.Tests.{eq-eqb, ne-eqb}
 use Rattle.settings.proofs.carried.request_in.Statement.{statement}

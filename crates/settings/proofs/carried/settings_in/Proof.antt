@@ -1,5 +1,6 @@
-use Rattle.settings.specs.Settings.{settingsIn}
+-- `settings::carried::settings_in` meets its contract.
 use borrow.Author.Needs.{needs}
+use Rattle.settings.specs.Settings.{settingsIn}
 use Rattle.settings.proofs.carried.settings_in.Statement.{statement}
 use Rattle.settings.proofs.carried.settings_in.Tie as tie
 
