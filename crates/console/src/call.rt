@@ -1,4 +1,6 @@
 // What a line asks of the controller, and what comes of it. Every controller that is handed on is valid, so that the next call may be made.
+ghost use Prim.Native.Nat.{_≤_};
+ghost use lib.ListN.{length};
 ghost use Rattle.controller.specs.Valid.{Valid};
 use controller::Answer;
 use controller::Controller;
@@ -16,6 +18,8 @@ pub enum Reply {
         op: u16,
         electrical: u16,
     },
+    // the image that was saved in the buffer beside
+    Image,
     Refused(u8),
     NoCall,
 }
@@ -43,7 +47,7 @@ fn reply_of(answer: Answer) -> Reply {
     }
 }
 
-fn reply_to_write(verdict: Verdict) -> Reply {
+pub fn reply_to_verdict(verdict: Verdict) -> Reply {
     match verdict {
         Verdict::Accepted => Reply::Accepted,
         Verdict::Refused(refusal) => Reply::Refused(refusal.number()),
@@ -57,7 +61,7 @@ fn reply_to_read(answer: ReadAnswer) -> Reply {
     }
 }
 
-fn no_call(controller: Controller) -> Step
+pub fn no_call(controller: Controller) -> Step
     requires { ⌜ Valid controller ⌝ }
     ensures { λ r. ⌜ Valid (r .controller) ⌝ }
 {
@@ -150,7 +154,7 @@ fn written(controller: Controller, number: u64, value: i32) -> Step
     let verdict = r.verdict;
     Step {
         controller: next,
-        reply: reply_to_write(verdict),
+        reply: reply_to_verdict(verdict),
     }
 }
 
@@ -181,8 +185,9 @@ fn read(controller: Controller, values: [i64; 6]) -> Step
     }
 }
 
-fn of_call(controller: Controller, name: &[u8], a: Arguments) -> Step
-    requires { ⌜ Valid controller ⌝ }
+// A call whose arguments are numbers.
+fn of_numbers(controller: Controller, name: &[u8], a: Arguments, buffer: &mut [u8]) -> Step
+    requires { ⌜ Valid controller × 300 ≤ length (now buffer) ⌝ }
     ensures { λ r. ⌜ Valid (r .controller) ⌝ }
 {
     let values = a.values;
@@ -198,12 +203,30 @@ fn of_call(controller: Controller, name: &[u8], a: Arguments) -> Step
     if check::same(name, b"fresh") && lines::has(a, 1) {
         return fresh(controller, values);
     }
+    if check::same(name, b"save") && lines::has(a, 1) {
+        return crate::image::save(controller, values[0], buffer);
+    }
     no_call(controller)
 }
 
-// What a line asks. One that fills the whole buffer is too long. The contract rules out a controller that the next call could not take.
-pub fn of_line(controller: Controller, line: &[u8], len: usize) -> Step
-    requires { ⌜ Valid controller ⌝ }
+// A restart has one argument, which is no number.
+fn of_image(controller: Controller, call: &[u8], start: usize) -> Step
+    requires { ⌜ Valid controller × start ≤ length (now call) ⌝ }
+    ensures { λ r. ⌜ Valid (r .controller) ⌝ }
+{
+    let w = text::word(call, start);
+    let from = w.from;
+    let to = w.to;
+    let behind = text::word(call, to);
+    if behind.from == behind.to {
+        return crate::image::restart(controller, &call[from..to]);
+    }
+    no_call(controller)
+}
+
+// What a line asks, with a buffer to save into. A line that fills its whole buffer is too long. The contract rules out a controller that the next call could not take.
+pub fn of_line(controller: Controller, line: &[u8], len: usize, buffer: &mut [u8]) -> Step
+    requires { ⌜ Valid controller × 300 ≤ length (now buffer) ⌝ }
     ensures { λ r. ⌜ Valid (r .controller) ⌝ }
 {
     if line.len() <= len {
@@ -213,6 +236,9 @@ pub fn of_line(controller: Controller, line: &[u8], len: usize) -> Step
     let w = text::word(call, 0);
     let from = w.from;
     let to = w.to;
+    if check::same(&call[from..to], b"restart") {
+        return of_image(controller, call, to);
+    }
     let a = lines::arguments_of(call, to);
-    of_call(controller, &call[from..to], a)
+    of_numbers(controller, &call[from..to], a, buffer)
 }

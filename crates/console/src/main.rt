@@ -3,12 +3,15 @@
 //     scan PINS S1 S2 S3 BUTTONS SENSORS     scan MD DS OP ELECTRICAL, or refused N
 //     write NUMBER VALUE                     ok, or refused N
 //     read NUMBER                            value V, or refused N
+//     restart HEX, or - for no bytes         ok, or refused N
+//     save LENGTH                            image HEX, or refused N
 // A line that is no such call gets `error` and changes nothing. Before the first `fresh` the controller is fresh with SW 0.
 ghost use Rattle.controller.specs.Valid.{Valid};
 use controller::Controller;
 use lines::Place;
 
 mod call;
+mod image;
 mod say;
 
 // The controller, how much of the output is used, and where reading stands.
@@ -35,12 +38,13 @@ fn line_answer(
     ensures { λ r. ⌜ Valid (r .controller) ⌝ }
 {
     let free = lines::room(out, used);
-    let step = call::of_line(controller, line, len);
+    let mut buffer = [0u8; 300];
+    let step = call::of_line(controller, line, len, &mut buffer);
     let next = step.controller;
     let reply = step.reply;
     Answered {
         controller: next,
-        used: say::reply(out, free, reply),
+        used: say::reply(out, free, reply, &buffer),
     }
 }
 

@@ -24,7 +24,16 @@ fn value(out: &mut [u8], used: usize, v: i32) -> usize {
     lines::signed(out, name, integers::wide(v))
 }
 
-fn content(out: &mut [u8], used: usize, reply: Reply) -> usize {
+// The image is the first 137 bytes of the buffer.
+fn image(out: &mut [u8], used: usize, buffer: &[u8]) -> usize {
+    let name = lines::bytes(out, used, b"image ");
+    if buffer.len() < 137 {
+        return name;
+    }
+    lines::hexadecimal::write(out, name, &buffer[0..137])
+}
+
+fn content(out: &mut [u8], used: usize, reply: Reply, buffer: &[u8]) -> usize {
     match reply {
         Reply::Accepted => lines::bytes(out, used, b"ok"),
         Reply::Value(v) => value(out, used, v),
@@ -34,12 +43,13 @@ fn content(out: &mut [u8], used: usize, reply: Reply) -> usize {
             op,
             electrical,
         } => words(out, used, md, ds, op, electrical),
+        Reply::Image => image(out, used, buffer),
         Reply::Refused(number) => refused(out, used, number),
         Reply::NoCall => lines::bytes(out, used, b"error"),
     }
 }
 
-pub fn reply(out: &mut [u8], used: usize, reply: Reply) -> usize {
-    let n = content(out, used, reply);
+pub fn reply(out: &mut [u8], used: usize, reply: Reply, buffer: &[u8]) -> usize {
+    let n = content(out, used, reply, buffer);
     lines::push(out, n, b'\n')
 }

@@ -6,6 +6,8 @@ use libc::STDIN_FILENO;
 use libc::STDOUT_FILENO;
 use text::Reading;
 
+pub mod hexadecimal;
+
 // Where reading stands: bytes `at` to `end` of the last read are not taken yet, `len` bytes of the line are filled, `complete` says whether its end was
 // met, and `more` whether the input goes on.
 pub struct Place {

@@ -1,16 +1,23 @@
 -- Document 01's figures worked by hand hold of the rules: each side of each equation computes to the same number.
 use mathlib.Core.Path.{_≡_, refl}
+use mathlib.Core.List.{[], _∷_}
+use Prim.Native.Nat.{ℕ}
 use lib.Dec.{lit<}
 use lib.IntN.{pos}
-use Rattle.integers.specs.Rounding.{halfUp, halfEven, nearestAway, nearestEven}
+use lib.ListN.{drop}
 use Rattle.integers.specs.Limit as Limit
+use Rattle.integers.specs.Listed.{listed}
+use Rattle.integers.specs.Rounding.{halfUp, halfEven, nearestAway, nearestEven}
+use Rattle.integers.specs.TwosComplement.{asWord}
 use Rattle.signals.specs.Refusals.{declinedBy, scanTests}
 use Rattle.signals.specs.Signals.{buttonsOf, pinsOf, switchesOf, pushOf}
+use Rattle.fields.specs.Fields as f
 use Rattle.modes.specs.Modes as m
 use Rattle.modes.specs.Modes.{counted, opensAfter}
-use Rattle.words.specs.Written.{mdTests}
 use Rattle.words.specs.Words.{byteOf, mdHigh, mdLow, MD, dsLow, DS}
+use Rattle.words.specs.Written.{mdTests}
 use Rattle.parameters.specs.Table.{value, withValue, ruleOf}
+use Rattle.settings.specs.Settings as t
 use Rattle.scaling.specs.Ratio.{ratioQuotient, inverseQuotient}
 use Rattle.scaling.specs.Scale.{scaled}
 use Rattle.setpoints.specs.Reckoning as r
@@ -22,6 +29,8 @@ use Rattle.outputs.specs.Instruction as o
 use Rattle.outputs.specs.Outputs as u
 use Rattle.controller.specs.Answers as a
 use Rattle.controller.specs.Answers.{words, number}
+use Rattle.controller.specs.Save as c
+use Rattle.controller.specs.Save.{savedImage}
 use Rattle.controller.specs.Scan as s
 use Rattle.controller.specs.Scan.{scan}
 use Rattle.controller.specs.State as State
@@ -44,6 +53,10 @@ write-figures : (c : Controller) → (write c 24 (pos 0x0000) ≡ record { next 
 unfolding w.write w.writeCore w.writeTests w.stateTests mdTests ruleOf declinedBy s.handedBack s.controllerAfter s.refused o.changed o.limitedTo o.carriedOut
 write-figures c = (refl, refl)
 
+image-figure : (sw : ℕ) → drop 132 (savedImage (freshController sw)) ≡ 0x7F ∷ 0 ∷ 2 ∷ 0xAC ∷ 0x42 ∷ []
+unfolding c.savedImage c.settingsNow c.settingsOf State.freshController State.freshCore a.opOf t.imageOf t.valuesOf t.valueAt t.marksNumber listed asWord value f.fieldsFrom f.fieldBytes f.valueBytes f.tagOf f.lengthOf f.withSumcheck f.sumOf f.sum
+image-figure sw = refl
+
 pub worked : AllHold figures
 unfolding figures proportionalTerm integralTerm derivativeTerm limitedTerm storedTerm whole atLeast atMost limited stored storedUnits nearestEven nearestAway halfEven halfUp scaled ratioQuotient inverseQuotient counted opensAfter byteOf mdHigh mdLow MD dsLow DS buttonsOf pinsOf switchesOf
 worked =
@@ -59,4 +72,5 @@ worked =
     refl and
     scan-figure and
     (λ c. write-figures c .0) and (λ c. write-figures c .1) and
+    image-figure and
     tt

@@ -1,10 +1,11 @@
--- Document 01, "Worked by hand (all to be proved)": one list of statements about the rules, in the paper's order, but for the one on the image, which comes
--- with it. proofs/Worked.antt proves it.
+-- Document 01, "Worked by hand (all to be proved)": one list of statements about the rules, in the paper's order. proofs/Worked.antt proves
+-- it.
+use mathlib.Core.Path.{_≡_}
 use mathlib.Core.Bool.{true, false}
 use mathlib.Core.List.{List, [], _∷_}
-use mathlib.Core.Path.{_≡_}
 use Prim.Native.Nat.{ℕ, zero, suc}
 use lib.IntN.{ℤ, pos, negℤ, _*ℤ_}
+use lib.ListN.{drop}
 use Rattle.signals.specs.declared.Input.{Input}
 use Rattle.modes.specs.Modes.{isCause, counted, opensAfter}
 use Rattle.modes.specs.declared.Conditions.{Conditions}
@@ -17,6 +18,7 @@ use Rattle.terms.specs.Fraction.{Fraction, Positive, whole}
 use Rattle.terms.specs.Terms.{proportionalTerm, integralTerm, derivativeTerm, limitedTerm, storedTerm}
 use Rattle.terms.specs.declared.Tuning.{Tuning}
 use Rattle.controller.specs.Answers.{words, number}
+use Rattle.controller.specs.Save.{savedImage}
 use Rattle.controller.specs.Scan.{scan}
 use Rattle.controller.specs.State.{startShown, freshController}
 use Rattle.controller.specs.Write.{write}
@@ -80,4 +82,6 @@ figures =
     -- "Writing 0000h or 1800h to MD: 9.", whatever the state, and the controller stays
     ∷ ((c : Controller) → write c 24 (pos 0x0000) ≡ record { next = c; answer = number 9 })
     ∷ ((c : Controller) → write c 24 (pos 0x1800) ≡ record { next = c; answer = number 9 })
+    -- "A fresh image's sumcheck is AC42h.", whatever the switch word: the image's last field
+    ∷ ((sw : ℕ) → drop 132 (savedImage (freshController sw)) ≡ 0x7F ∷ 0 ∷ 2 ∷ 0xAC ∷ 0x42 ∷ [])
     ∷ []

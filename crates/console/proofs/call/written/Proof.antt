@@ -10,8 +10,8 @@ use Rattle.console.proofs.call.written.Tie as tie
 write-requires : tie.Need-write-requires
 write-requires c κs = search needs
 
-reply-to-write-requires : tie.Need-reply-to-write-requires
-reply-to-write-requires c κs = search needs
+reply-to-verdict-requires : tie.Need-reply-to-verdict-requires
+reply-to-verdict-requires c κs = search needs
 
 returns : tie.Need-returns
 returns c = let write = c .before .before in
@@ -19,4 +19,4 @@ returns c = let write = c .before .before in
     subst Valid (sym (ap (λ (h : Handed). h .next) (write .write .ensures))) (valid-write (start .args .controller) (start .args .number) _ (start .pre))
 
 pub written-spec : {M : Type 1} → statement M
-written-spec = tie.close (tie.spec write-requires reply-to-write-requires returns)
+written-spec = tie.close (tie.spec write-requires reply-to-verdict-requires returns)

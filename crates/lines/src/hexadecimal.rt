@@ -1,0 +1,84 @@
+// Bytes in hexadecimal digits, read and written.
+ghost use Prim.Native.Nat.{_≤_};
+ghost use lib.ListN.{length};
+
+// Bytes taken from a word: whether it was one, and how many.
+pub struct Taken {
+    pub ok: bool,
+    pub count: usize,
+}
+
+// The value of a digit of either case; 16 for another byte.
+fn digit(b: u8) -> u8
+    ensures { λ r. ⌜ r ≤ 16 ⌝ }
+{
+    match b {
+        b'0'..=b'9' => b - b'0',
+        b'A'..=b'F' => b - b'A' + 10,
+        b'a'..=b'f' => b - b'a' + 10,
+        _ => 16,
+    }
+}
+
+fn within(ok: bool, count: usize, room: &[u8]) -> Taken
+    ensures { λ r. ⌜ r .count ≤ length (now (room .entry)) ⌝ }
+{
+    if count <= room.len() {
+        return Taken { ok, count };
+    }
+    Taken {
+        ok: false,
+        count: 0,
+    }
+}
+
+fn put(bytes: &mut [u8], n: usize, b: u8) {
+    if n < bytes.len() {
+        bytes[n] = b;
+    }
+}
+
+// The bytes of a word with two digits to a byte, or none for the word `-`. An odd number of digits, another character, or more bytes than there is room for
+// are none.
+pub fn bytes_in(word: &[u8], bytes: &mut [u8]) -> Taken
+    ensures { λ r. ⌜ r .count ≤ length (now (bytes .exit)) ⌝ }
+{
+    if check::same(word, b"-") {
+        return within(true, 0, bytes);
+    }
+    let half = word.len() / 2;
+    let even = word.len() % 2 == 0;
+    let mut n: usize = 0;
+    while n < half {
+        let high = digit(word[2 * n]);
+        let low = digit(word[2 * n + 1]);
+        if (high == 16) | (low == 16) {
+            return within(false, 0, bytes);
+        }
+        put(bytes, n, high % 16 * 16 + low % 16);
+        n += 1;
+    }
+    within(even & (0 < half), half, bytes)
+}
+
+// The digit of the low half of a byte.
+fn digit_of(byte: u8) -> u8 {
+    let value = byte % 16;
+    if value < 10 {
+        b'0' + value
+    } else {
+        b'A' + (value - 10)
+    }
+}
+
+// Two capitals for each byte.
+pub fn write(out: &mut [u8], used: usize, bytes: &[u8]) -> usize {
+    let mut n = used;
+    let mut i = 0;
+    while i < bytes.len() {
+        let high = crate::push(out, n, digit_of(bytes[i] / 16));
+        n = crate::push(out, high, digit_of(bytes[i]));
+        i += 1;
+    }
+    n
+}
