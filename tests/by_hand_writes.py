@@ -1,7 +1,4 @@
-"""Writes worked by hand, for each rule of write; in the form of tests/by_hand.py.
-
-The memory fault can't be had through the console until there is a restart: cases with it are for the reckoner alone.
-"""
+"""Writes worked by hand, for each rule of write; in the form of tests/by_hand.py."""
 
 from by_hand import LIMITS, LOWER, RAISE, S2_1, S2_5, S2_6, SP, A, Case, M, R, scan, track
 from table import NUMBER

@@ -6,7 +6,7 @@ of the other form or of the line error made of the call.  Each list begins with 
 
 from typing import NamedTuple
 
-from console_lines import LINE_ERRORS, OTHER_FORMS, line_errors_of, line_of
+from console_lines import LINE_ERRORS, OTHER_FORMS, line_errors_of, line_of, other_forms_of
 from reckoner import limit
 
 LOWER, RAISE, SP, R, A, M = 0x80, 0x40, 0x08, 0x04, 0x02, 0x01
@@ -253,9 +253,9 @@ def entries(operator, calls):
         if generator.random() < 0.02:
             yield Entry(line_of(operator.spoiled()), "call", "scan")
         if generator.random() < 0.03:
-            kind = generator.choice(line_errors_of(call))
+            kind = generator.choice(line_errors_of(call[0]))
             yield Entry(LINE_ERRORS[kind](generator, call), kind, call[0])
-        kind = generator.choice(tuple(OTHER_FORMS)) if generator.random() < 0.03 else "call"
+        kind = generator.choice(other_forms_of(call[0])) if generator.random() < 0.03 else "call"
         yield Entry(line_of(call) if kind == "call" else OTHER_FORMS[kind](generator, call), kind, call[0])
 
 

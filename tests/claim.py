@@ -1,4 +1,4 @@
-"""The claim over every list of calls (document 01, "The exact controller", demand 3), checked after every call, and what no write or read may change.
+"""The claim over every list of calls (document 01, "The exact controller", demand 3), checked after every call, and what each call may change.
 
 It is written apart from the rules: the conditions of the modes, the causes, the accepted automatic scans and the outright settings are
 written out here again from the paper's words, and are read from the exact controller.  Nothing of the rules is called.
@@ -9,6 +9,11 @@ AUTOMATIC_MODES = {"Auto", "Remote", "Ratio", "Fall-back"}
 # Words: "15 Hold, 14 Track, 13 Manual or Forced, 12 Auto or Fall-back, 11 Remote or Ratio"
 MODES_BY_MD_BIT = {15: {"Hold"}, 14: {"Track"}, 13: {"Manual", "Forced Manual"}, 12: {"Auto", "Fall-back"}, 11: {"Remote", "Ratio"}}
 MD, OP = 24, 28
+# Where an image has its values, counted from its first byte: parameters 1 to 23 and OP two bytes each, request, fault and 44h one, the sumcheck two
+TWO_BYTES, OP_AT, ONE_BYTE, FAULT_AT, SUMCHECK_AT = range(3, 120, 5), 118, (123, 127, 131), 127, 135
+# "A fresh start and an accepted restart leave"; and no earlier PV or SP is remembered
+LEFT = {"pins": 0x80, "buttons": 0, "open_count": 0, "MP": 0, "battery_low": False, "low_alarm": False, "high_alarm": False,
+        "previous_PV": None, "PV_before_previous": None, "previous_SP": None}
 # What no write may touch: "of these only scans and restarts change any", the switch word and what scans remember
 UNTOUCHED = ("SW", "open_count", "pins", "buttons", "PV", "SP", "ER", "MP", "battery_low", "low_alarm", "high_alarm",
              "previous_PV", "PV_before_previous", "previous_SP")
@@ -16,6 +21,20 @@ UNTOUCHED = ("SW", "open_count", "pins", "buttons", "PV", "SP", "ER", "MP", "bat
 
 def bit(number, place):
     return number >> place & 1
+
+
+def word_at(image, place):
+    return image[place] * 256 + image[place + 1]
+
+
+def sum_of(image):
+    """"The sumcheck is all earlier values, read unsigned, summed modulo 65,536"."""
+    return (sum(word_at(image, place) for place in TWO_BYTES) + sum(image[place] for place in ONE_BYTE)) % 65536
+
+
+def brings_fault(image):
+    """Of an accepted restart: "A fault of 1 or a wrong sumcheck brings the memory fault, any other accepted restart ends it"."""
+    return image[FAULT_AT] == 1 or word_at(image, SUMCHECK_AT) != sum_of(image)
 
 
 def first_mode_present(exact):
@@ -46,7 +65,7 @@ class Claim:
 
     def __init__(self):
         self.automatic_scans = 0
-        self.restart_brought_fault = False  # whether the last accepted restart brought the memory fault; there is no restart yet
+        self.restart_brought_fault = False  # whether the last accepted restart brought the memory fault
         self.cleared_since = False          # an accepted write of MD with bit 8 zero came after that restart
 
     def broken(self, call, before, after, answers, mode_shown):
@@ -56,7 +75,7 @@ class Claim:
         the mode that a controller of ours is in.
         """
         stored, exact = after
-        is_to_leave = call[0] == "read" or answers[0][0] == "refused"
+        is_to_leave = call[0] in ("read", "save") or answers[0][0] == "refused"
         if is_to_leave and stored is before[0] and exact is before[1]:  # all that was found of them still holds
             return [*broken_answers(call, stored, None, answers)]
         mode, shown = first_mode_present(exact), mode_shown(stored)
@@ -67,9 +86,11 @@ class Claim:
                 *([] if shown == mode else [f"the mode is {shown}, the first condition present is that of {mode}"])]
 
     def follow(self, call, exact_before, exact, exact_answer, mode):
-        """The outright settings, "Track, minimum, start fresh", the accepted automatic scans: automatic mode, not open; and what clears the fault."""
+        """The outright settings, "Track, minimum, start fresh and accepted restart", the accepted automatic scans: automatic mode, not open; and the fault."""
         if call[0] == "fresh":
             self.automatic_scans, self.restart_brought_fault, self.cleared_since = 0, False, False
+        elif call[0] == "restart" and exact_answer == ("ok",):
+            self.automatic_scans, self.restart_brought_fault, self.cleared_since = 0, brings_fault(call[1]), False
         elif exact_answer[0] == "scan":
             if mode == "Track" or is_minimum(exact_before, exact, mode):
                 self.automatic_scans = 0
@@ -104,18 +125,43 @@ class Claim:
 
 
 def broken_leaving(call, before, after, answers):
-    """A declined call and a read leave the controller; a write leaves all that only scans and restarts change."""
-    if (answers[0][0] == "refused" or call[0] == "read") and after != before:
-        yield f"a declined call or a read has changed a controller: {call}"
+    """A declined call, a read and a save leave the controller; a write leaves all that only scans and restarts change; and what starts leave."""
+    if (answers[0][0] == "refused" or call[0] in ("read", "save")) and after != before:
+        yield f"a declined call, a read or a save has changed a controller: {call}"
+    if call[0] in ("fresh", "restart") and answers[0] == ("ok",):
+        yield from broken_start(before[0].SW if call[0] == "restart" else call[1], after)
     if call[0] == "write":
         for item in UNTOUCHED:
             if any(getattr(now, item) != getattr(earlier, item) for earlier, now in zip(before, after, strict=True)):
                 yield f"a write has changed {item}"
 
 
+def broken_start(SW, after):
+    """"A fresh start and an accepted restart leave pins 80h, .., PV = 1L, SP = SL, ER = PV - SP"; "Restart keeps SW"; outputs are whole units."""
+    for each in after:
+        due = {**LEFT, "SW": SW, "PV": each.parameters.channel_1L, "SP": each.parameters.SL, "ER": each.parameters.channel_1L - each.parameters.SL}
+        yield from (f"a start has left {item} {getattr(each, item)}" for item, value in due.items() if getattr(each, item) != value)
+    if after[0].output % STEPS_IN_A_UNIT or after[0].output != STEPS_IN_A_UNIT * after[1].output:
+        yield f"a start has left the outputs {after[0].output} and {after[1].output}"
+
+
+def broken_image(stored, answers):
+    """Images are answers, and equal but for OP, which is that of our own stored output, and the sumcheck, which follows from it."""
+    ours, others = (answer[1] for answer in answers)
+    if ours[:OP_AT] + ours[OP_AT + 2:SUMCHECK_AT] != others[:OP_AT] + others[OP_AT + 2:SUMCHECK_AT] or len(ours) != len(others):
+        yield f"the image is {ours.hex()}, the exact controller's {others.hex()}"
+    if word_at(ours, OP_AT) != stored.output // STEPS_IN_A_UNIT:
+        yield f"the image's OP is {word_at(ours, OP_AT)}, that of the output {stored.output} is {stored.output // STEPS_IN_A_UNIT}"
+    if len(ours) != SUMCHECK_AT + 2 or word_at(ours, SUMCHECK_AT) != sum_of(ours):
+        yield f"the image's sumcheck isn't right: {ours.hex()}"
+
+
 def broken_answers(call, stored, mode, answers):
     """Compared: "all answers equal, save OP and electrical output, which are those of our own stored output"."""
     ours, others = answers
+    if ours[0] == others[0] == "image":
+        yield from broken_image(stored, answers)
+        return
     whole_units = stored.output // STEPS_IN_A_UNIT
     if call == ("read", OP):
         if ours != ("value", whole_units):

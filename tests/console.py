@@ -8,22 +8,26 @@ reckoner and against the program, for each whole input and for each thing that t
 """
 
 import argparse
-import collections
 import random
 import sys
 import textwrap
 
 sys.dont_write_bytecode = True  # leave no compiled files beside the sources
 import call_lists
+import image_lists
 import parameter_lists
+import power_cuts
+import restart_lists
 import tally
 import whole_inputs
 import worked
 import write_lists
 from console_lines import LINE_ERRORS, call_of, line_of
 from covered import Covered
+from covered_images import CoveredImages
 from covered_parameters import CoveredParameters
 from covered_writes import CoveredWrites
+from power_cuts import CoveredPowerCuts
 from pair import Pair, answers_of
 from program import NO_END, PROGRAM_SECONDS, SHORT_SECONDS, run, run_in_pieces, run_lines
 from shortest import show_broken_claim, show_wrong_answer
@@ -32,8 +36,6 @@ DEFAULT_SEED = 6360
 INPUTS = 4                # the lists are shared out among so many runs of the program
 FAULTS_SHOWN, COUNTS_SHOWN = 10, 12
 WIDTH = 150  # of a printed line
-LISTS_WITH_FAULT, CALLS_WITH_FAULT = 10, 15
-LEAST_WITH_FAULT = {"cleared by a write": 30, "kept by a write": 10, "kept by a scan": 100, "refused 11": 10}
 
 
 class Results:
@@ -104,18 +106,17 @@ def compare(program, lists, results):
     return wrong
 
 
-def all_lists(generator, scans, parameters, writes):
+def all_lists(generator, scans, parameters, writes, images, cuts):
     """Every list with the object that counts what it meets, shared out among the runs; each run begins with a list that has no fresh start."""
-    lists = [(*each, scans) for each in call_lists.all_lists(generator)]
-    lists += [(*each, parameters) for each in parameter_lists.all_lists(generator)]
-    lists += [(*each, writes) for each in write_lists.all_lists(generator)]
+    kinds = ((call_lists, scans), (parameter_lists, parameters), (write_lists, writes), (image_lists, images), (restart_lists, images), (power_cuts, cuts))
+    lists = [(*each, covered) for module, covered in kinds for each in module.all_lists(generator)]
     generator.shuffle(lists)
     return [[(*call_lists.first_list(generator), scans), *lists[number::INPUTS]] for number in range(INPUTS)]
 
 
 def compare_lists(program, generator, results):
     """All lists; what they met."""
-    counted = Covered(), CoveredParameters(), CoveredWrites()
+    counted = Covered(), CoveredParameters(), CoveredWrites(), CoveredImages(), CoveredPowerCuts()
     wrong = [compare(program, part, results) for part in all_lists(generator, *counted)]
     found = [lines for lines in wrong if lines]
     if found:
@@ -136,25 +137,6 @@ def check_figures(program, results):
 
     for wrong, looked in (worked.wrong_in_the_reckoner(), worked.wrong_in(answers_of), worked.wrong_in(answers_of_program)):
         results.add(looked, wrong)
-
-
-def check_memory_fault(generator, results):
-    """The claim with the memory fault standing, in the reckoner alone: no call brings it yet."""
-    counts = collections.Counter()
-    for number in range(LISTS_WITH_FAULT):
-        pair = Pair()
-        calls = filter(None, (call_of(entry.line) for entry in write_lists.call_list(generator, write_lists.power_and_trim, number)))
-        for place, call in enumerate(calls):
-            if place % CALLS_WITH_FAULT == 1:
-                pair.bring_fault()
-            stood = pair.controllers[0].memory_fault
-            answer, broken = pair.make(call)
-            results.judge(not broken, f"the claim is broken with the memory fault, at {call}: {broken}")
-            if stood and call[0] != "read":
-                counts[f"{'kept' if pair.controllers[0].memory_fault else 'cleared'} by a {call[0]}"] += 1
-                counts[line_of(answer)] += 1
-    too_few = [f"too few with the memory fault: {name}: {counts[name]} of {least}" for name, least in LEAST_WITH_FAULT.items() if counts[name] < least]
-    results.add(len(LEAST_WITH_FAULT), too_few)
 
 
 def check_whole_inputs(program, generator, results):
@@ -188,7 +170,6 @@ def main():
     generator, results = random.Random(given.seed), Results()
     check_figures(given.program, results)
     counted = compare_lists(given.program, generator, results)
-    check_memory_fault(generator, results)
     check_whole_inputs(given.program, generator, results)
     if results.broken_claims:
         show_broken_claim(min(results.broken_claims, key=len))

@@ -1,25 +1,29 @@
 """The lines that the console reads, and those it answers: the form that was decided for them.
 
-A number is an optional minus and one to eighteen digits.  One or more blanks, spaces only, stand between words and may stand before and behind.
-A line has up to 700 bytes without its newline.  A line that isn't a call is answered error and changes nothing.
-Texts here have one character for each byte of the line.
+A number is an optional minus and one to eighteen digits.  Bytes are two hexadecimal digits each, of either case; a minus alone stands for none.  One
+or more blanks, spaces only, stand between words and may stand before and behind.  A line has up to 700 bytes without its newline.  A line that isn't a
+call is answered error and changes nothing.  Texts here have one character for each byte of the line.
 """
 
 import re
 
 LONGEST_LINE = 700
 NUMBER = re.compile("-?[0-9]{1,18}")
+BYTES = re.compile("-|(?:[0-9A-Fa-f]{2})+")
 # The least and the greatest of each number: SW and samples have 16 bits, pins, buttons and sensors 8, a value to be written 32 and a sign;
-# a parameter number may be any.  Further kinds of call are to be added here.
-BYTE, WORD, VALUE, ANY = (0, 255), (0, 65535), (-1 << 31, (1 << 31) - 1), (1 - 10 ** 18, 10 ** 18 - 1)
-RANGES = {"fresh": (WORD,), "scan": (BYTE, WORD, WORD, WORD, BYTE, BYTE), "write": (ANY, VALUE), "read": (ANY,)}
+# a parameter number may be any; up to 300 bytes are lent for saving.  A restart has bytes in place of numbers.  Further kinds of call are to be added here.
+BYTE, WORD, VALUE, ANY, LENT = (0, 255), (0, 65535), (-1 << 31, (1 << 31) - 1), (1 - 10 ** 18, 10 ** 18 - 1), (0, 300)
+RANGES = {"fresh": (WORD,), "scan": (BYTE, WORD, WORD, WORD, BYTE, BYTE), "write": (ANY, VALUE), "read": (ANY,), "save": (LENT,)}
+MOST_BYTES = 300  # of an image in the lists; what the console makes of more is left open
 
 
 def call_of(line):
-    """The call that a line makes, as its word and numbers; None for a line to be answered error."""
+    """The call that a line makes, as its word and numbers, a restart's as its word and bytes; None for a line to be answered error."""
     if len(line) > LONGEST_LINE:
         return None
     word, *texts = [part for part in line.split(" ") if part] or [""]
+    if word == "restart":
+        return (word, bytes_of(texts[0])) if len(texts) == 1 and BYTES.fullmatch(texts[0]) else None
     ranges = RANGES.get(word)
     if ranges is None or len(texts) != len(ranges) or not all(map(NUMBER.fullmatch, texts)):
         return None
@@ -29,9 +33,20 @@ def call_of(line):
     return (word, *numbers)
 
 
+def bytes_of(text):
+    return bytes.fromhex("" if text == "-" else text)
+
+
+def text_of(part):
+    """A word, a number or bytes; the console answers bytes in capitals."""
+    if isinstance(part, bytes):
+        return part.hex().upper() or "-"
+    return str(part)
+
+
 def line_of(call):
     """A call's plainest line; an answer's line too."""
-    return " ".join(map(str, call))
+    return " ".join(map(text_of, call))
 
 
 def lines_in(text):
@@ -61,7 +76,7 @@ def with_minus_zeros(generator, call):
 
 
 def with_more_blanks(generator, call):
-    line = (" " * generator.randint(1, 4)).join(map(str, call))
+    line = (" " * generator.randint(1, 4)).join(map(text_of, call))
     return " " * generator.randint(0, 3) + line + " " * generator.randint(0, 3)
 
 
@@ -72,15 +87,26 @@ def with_700_bytes(generator, call):
     return generator.choice([missing + line, line + missing, line.replace(" ", " " + missing, 1)])
 
 
+def in_small_letters(generator, call):
+    return f"{call[0]} {text_of(call[1]).lower()}"
+
+
+def in_both_cases(generator, call):
+    """Each digit above 9 in a capital or a small letter."""
+    return f"{call[0]} {''.join(generator.choice((digit, digit.lower())) for digit in text_of(call[1]))}"
+
+
 OTHER_FORMS = {"leading zeros": with_leading_zeros, "eighteen digits": with_eighteen_digits, "minus zero": with_minus_zeros,
-               "more blanks": with_more_blanks, "700 bytes": with_700_bytes}
+               "more blanks": with_more_blanks, "700 bytes": with_700_bytes, "small letters": in_small_letters, "both cases": in_both_cases}
 
 
 # Lines that are no call ----------------------------------------------------
 
 NO_NUMBERS = ("+5", "--5", "-", "5-", "1-2", "12x", "x12", "1.0", "1e3", "0x5", "80h", "1_0", "1,0", "\u00b2", "\xff")
+NO_BYTES = ("--", "-0", "-00", "0-", "00-", "+00", "0x00", "00h", "0h", "g0", "0G", "ag", "/0", ":0", "@0", "`0", "0/", "0:", "0@", "0`", "0_0", "0,0",
+            "\u00b2\u00b3", "\xff\xff", "0", "123")
 NO_WORDS = ("scam", "sca", "scann", "scan,", "scans", "freshen", "fres", "writ", "writes", "rewrite", "rea", "reads", "ok", "value", "refused", "error", "x",
-            "-", "128", "scan128", "read5")
+            "-", "128", "scan128", "read5", "sav", "saves", "restar", "restarts", "start", "image", "save137")
 OTHER_BLANKS = ("\t", "\v", "\f", "\r", "\0", "\xa0", ",")
 
 
@@ -154,7 +180,7 @@ def blanks_only(generator, call):
 
 def other_blank(generator, call):
     """One of the blanks, or one more before or behind, is no space; behind in half of the cases."""
-    words, blank = list(map(str, call)), generator.choice(OTHER_BLANKS)
+    words, blank = list(map(text_of, call)), generator.choice(OTHER_BLANKS)
     place = generator.choice((len(words), generator.randrange(len(words))))
     separators = ["", *[" "] * (len(words) - 1), ""]
     separators[place] = blank
@@ -172,14 +198,48 @@ def overlong_line(generator, call):
     return generator.choice([missing + line, line + missing, line.replace(" ", " " + missing, 1)])
 
 
+def spoiled(text, wrong, place):
+    """A text that isn't bytes, alone, before or behind those of a call, or in place of two digits."""
+    return wrong, wrong + text, text + wrong, text[:place] + wrong + text[place + 2:]
+
+
+def no_bytes(generator, call):
+    text, wrong = text_of(call[1]).replace("-", ""), generator.choice(NO_BYTES)
+    return f"{call[0]} {generator.choice(spoiled(text, wrong, 2 * generator.randint(0, len(text) // 2)))}"
+
+
+def odd_digits(generator, call):
+    """One digit more or less."""
+    text = text_of(call[1]).replace("-", "")
+    return f"{call[0]} {generator.choice((text + '0', '0' + text, text[1:] or 'A', text[:-1] or '7'))}"
+
+
+def blank_in_bytes(generator, call):
+    """Two or more parts: two arguments at least."""
+    text = text_of(call[1]) + "00"
+    place = generator.randint(1, len(text) - 1)
+    return f"{call[0]} {text[:place]} {text[place:]}"
+
+
 LINE_ERRORS = {"number missing": number_missing, "number too many": number_too_many, "number beyond its type": number_beyond_its_type,
                "number below zero": number_below_zero, "nineteen digits": nineteen_digits, "no number": no_number,
                "unknown word": unknown_word, "word in capitals": word_in_capitals, "no word": no_word, "word twice": word_twice,
                "empty line": empty_line, "blanks only": blanks_only, "other blank": other_blank, "two calls": two_calls,
-               "overlong line": overlong_line}
-NOT_OF = {"write": ("number below zero",), "read": ("number below zero", "number beyond its type")}  # such lines are calls all the same
+               "overlong line": overlong_line, "no bytes": no_bytes, "odd digits": odd_digits, "blank in bytes": blank_in_bytes}
+# Only a restart has bytes, and it has no numbers; some lines with a number that is wrong elsewhere are calls all the same.
+OF_BYTES = ("small letters", "both cases", "no bytes", "odd digits", "blank in bytes")
+OF_NUMBERS = ("leading zeros", "eighteen digits", "minus zero", "number beyond its type", "nineteen digits", "no number")
+NOT_OF = {"write": ("number below zero",), "read": ("number below zero", "number beyond its type")}
 
 
-def line_errors_of(call):
-    """The kinds of line error that can be made of a call."""
-    return [kind for kind in LINE_ERRORS if kind not in NOT_OF.get(call[0], ())]
+def applies(kind, word):
+    """Whether a call of this word can be put in this form or made into this line error."""
+    return kind not in (OF_NUMBERS if word == "restart" else OF_BYTES) and kind not in NOT_OF.get(word, ())
+
+
+def other_forms_of(word):
+    return [kind for kind in OTHER_FORMS if applies(kind, word)]
+
+
+def line_errors_of(word):
+    return [kind for kind in LINE_ERRORS if applies(kind, word)]

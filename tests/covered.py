@@ -3,7 +3,7 @@
 import collections
 from functools import lru_cache
 
-from console_lines import LINE_ERRORS, OTHER_FORMS
+from console_lines import line_errors_of, other_forms_of
 from words import AUTOMATIC, MODES, mode_of
 
 SWITCHES = {"S2.1": 15, "S2.2": 14, "S2.3": 13, "S2.4": 12, "S2.5": 11, "S2.6": 10, "S2.8": 8, "S1.1": 7}
@@ -39,7 +39,7 @@ def leasts():
     least.update({f"sample {channel} at {end}": 10 for channel in (1, 2, 3) for end in (10001, 65535)})
     least.update({"output moved by the terms": 5000, "SL moved by a button": 2000, "RS moved by a button": 1000, "SL set to PV": 2000})
     least.update({f"{limit} reached": 20 for limit in ("LS", "HS", "LR", "HR")})
-    least.update({f"line: {kind}": 100 for kind in (*LINE_ERRORS, *OTHER_FORMS)})
+    least.update({f"line: {kind}": 100 for kind in (*line_errors_of("scan"), *other_forms_of("scan"))})
     return least
 
 

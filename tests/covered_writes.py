@@ -1,6 +1,6 @@
 """What the lists with writes and reads have met, and how often each thing must be met at least."""
 
-from console_lines import LINE_ERRORS, NOT_OF, OTHER_FORMS
+from console_lines import line_errors_of, other_forms_of
 from covered import SWITCHES, Covered, on
 from state import Parameters
 from table import CHANNEL_PAIRS, NAMES, PAIR_OF, READ_ONLY, partner_of, range_of
@@ -41,7 +41,7 @@ def leasts():
     least.update({f"read {name}": 600 for name in NAMES})
     least.update({f"read {name} in {mode}": 100 for name in ("MD", "DS", "OP", "SL") for mode in MODES})
     least.update({"read OP with a fraction": 200, "fraction cut by HO": 10})
-    least.update({f"line: {kind} of {word}": 20 for word in ("write", "read") for kind in (*LINE_ERRORS, *OTHER_FORMS) if kind not in NOT_OF[word]})
+    least.update({f"line: {kind} of {word}": 20 for word in ("write", "read") for kind in (*line_errors_of(word), *other_forms_of(word))})
     return least
 
 

@@ -4,6 +4,7 @@ Each answer due is the manual's figure, put as document 01 has it: a rejected wo
 whose answer is no figure has None.
 """
 
+from by_hand_images import image
 from table import NUMBER
 
 
@@ -19,7 +20,14 @@ def scan(pins=0x80, first=0, second=0, third=0, buttons=0):
     return f"scan {pins} {first} {second} {third} {buttons} 0", None
 
 
+def restart(sumcheck, **values):
+    return f"restart {image(sumcheck, **values).hex().upper()}", "ok"
+
+
 A_BUTTON, R_BUTTON, SP_AND_RAISE = 0x02, 0x04, 0x48
+OPEN_SCANS = [("scan 128 0 0 0 0 1", None)] * 85
+# An image with HO 30.00 and LO 20.00 percent, OP 25.00 percent and the request Auto; its sumcheck is A280h
+LIMITS = {"HO": 3000, "LO": 2000, "OP": 2500, "request": 1}
 AUTO_WITH_POWER = (write("MD", 0x1010), read("MD", 0x1010))
 
 FIGURES = (
@@ -49,5 +57,23 @@ FIGURES = (
     # 30 s for the span: 833 scans of 36 ms and a part of one
     ("3.7.3: RS over its span", (("fresh 32768", "ok"), write("RS", 1), scan(0xA0, buttons=R_BUTTON), *[scan(0xA0, buttons=SP_AND_RAISE)] * 833,
                                  read("RS", 9997), scan(0xA0, buttons=SP_AND_RAISE), read("RS", 9999))),
+    # "HO, is set to 99.99%"; "LO, is set to zero"; "OP, is set to either LO or HO, whichever causes the controller electrical output to go to a minimum";
+    # "pin 32, will be set to 0V"; FORCED MANUAL; "bit 2 .. of the "DS" status word to logic zero"; "bit 8, will be set to logic one"
+    *((f"2.6.2: sumcheck failure, S2.2 {position}", (
+        (f"fresh {SW}", "ok"), restart(0x0000, **LIMITS), read("HO", 9999), read("LO", 0), read("OP", OP), read("MD", 0x2100), read("DS", 0x801B),
+        ("scan 128 0 0 0 2 0", f"scan {0x2102} {0x801B} {OP} 0")))
+      for position, SW, OP in (("OFF", 0, 0), ("ON", 0x4000, 9999))),
+    # "writing a logic zero to bit 8": bit 8 "will reset to logic zero"; "revert to the normal MANUAL operating mode"; bit 2 of DS "will reset to logic "1""; "Any
+    # other operating modes can be selected"
+    ("2.6.2: released", (restart(0x0000), write("MD", 0x2000, "ok"), read("MD", 0x2000), read("DS", 0x801F), write("MD", 0x1000, "ok"), read("MD", 0x1000))),
+    # S2 no. 5 OFF: "resumes operation in the mode in which it was operating"; ON: "MANUAL mode with the controller electrical output (pin 32) set to the Low
+    # Limit", which is LO, or HO with inversion
+    *((f"2.3.2: power failure, switch word {SW:04X}", (
+        (f"fresh {SW}", "ok"), restart(0xA280, **LIMITS), read("MD", MD), read("OP", OP), read("HO", 3000), read("LO", 2000)))
+      for SW, MD, OP in ((0x0000, 0x1000, 2500), (0x4000, 0x1000, 2500), (0x0800, 0x2000, 2000), (0x4800, 0x2000, 3000))),
+    # Table 2.4: bits 9 and 8 of MD, and the hardware alarm, which is bit 2 of DS
+    ("2.4: no alarm", (read("MD", 0x2000), read("DS", 0x801F))), ("2.4: sumcheck failure", (restart(0xAC43, fault=1), read("MD", 0x2100), read("DS", 0x801B))),
+    ("2.4: open circuit", (*OPEN_SCANS, read("MD", 0x2200), read("DS", 0x801B))),
+    ("2.4: both", (restart(0xAC43, fault=1), *OPEN_SCANS, read("MD", 0x2300), read("DS", 0x801B))),
     ("4.3.1, amended: II", (read("II", 0x3608),)),
 )

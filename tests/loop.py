@@ -6,10 +6,11 @@ Made from document 01 and never from the code, so that a comparison of the two i
 from functools import lru_cache
 
 import reckoner
+from images import restart, save
 from reckoner import limit
-from state import OPEN_CAUSE, Controller, Input, Parameters
-from words import (A_BUTTON, AUTOMATIC, BATTERY_SENSOR, LOWER, M_BUTTON, OPEN_SENSOR, R_BUTTON, RAISE, S1_1, S2_1, S2_2, S2_3, S2_4, S2_5, S2_6,
-                   S2_8, SP_BUTTON, has_cause, mode_of, scan_words)
+from state import OPEN_CAUSE, Input, Parameters, started
+from words import (A_BUTTON, AUTOMATIC, BATTERY_SENSOR, LOWER, M_BUTTON, OPEN_SENSOR, R_BUTTON, RAISE, S1_1, S2_1, S2_3, S2_4, S2_5, S2_6,
+                   S2_8, SP_BUTTON, has_cause, minimum, mode_of, scan_words)
 from writes import read, write
 
 # The same numbers come again and again: what the reckoner answered is kept, to save time.
@@ -19,13 +20,8 @@ scale = lru_cache(maxsize=1 << 17)(reckoner.scale)
 # The calls -----------------------------------------------------------------
 
 def fresh(SW, arithmetic):
-    """Start fresh: "requests Manual with output 0 ..."; "a fresh start ... leave pins 80h, no buttons, open count 0 ..."."""
-    parameters = Parameters()
-    PV, SP = parameters.channel_1L, parameters.SL
-    return Controller(SW=SW, parameters=parameters, request="M", memory_fault=False, user_bits=0, measured_power=False,
-                      open_count=0, output=arithmetic.of_units(0), pins=0x80, buttons=0, PV=PV, SP=SP, ER=PV - SP, MP=0,
-                      battery_low=False, low_alarm=False, high_alarm=False,
-                      previous_PV=None, PV_before_previous=None, previous_SP=None)
+    """Start fresh: "requests Manual with output 0, user bits and MD bit 4 zero, no memory fault", with the defaults."""
+    return started(SW, Parameters(), "M", memory_fault=False, user_bits=0, measured_power=False, output=arithmetic.of_units(0))
 
 
 def scan(controller, given, arithmetic):
@@ -47,16 +43,13 @@ def scan(controller, given, arithmetic):
 
 
 def make(controller, call, arithmetic):
-    """Any call, given as its word and numbers; further kinds of call are to be added here."""
-    word, *numbers = call
+    """Any call, given as its word and numbers, a restart with the image's bytes; further kinds of call are to be added here."""
+    word, *given = call
     if word == "fresh":
-        return fresh(*numbers, arithmetic), ("ok",)
-    if word == "write":
-        return write(controller, *numbers, arithmetic)
-    if word == "read":
-        return read(controller, *numbers, arithmetic)
-    assert word == "scan"
-    return scan(controller, Input(*numbers), arithmetic)
+        return fresh(*given, arithmetic), ("ok",)
+    if word == "scan":
+        return scan(controller, Input(*given), arithmetic)
+    return {"write": write, "read": read, "save": save, "restart": restart}[word](controller, *given, arithmetic)
 
 
 def declined(given):
@@ -138,11 +131,6 @@ def with_setpoint(now, mode, given):
                         high_alarm=now.PV > parameters.HA or ER > parameters.HD)
 
 
-def minimum(controller, arithmetic):
-    """Minimum: "sets OP to LO, or to HO with S2.2 ON"."""
-    return arithmetic.of_units(controller.parameters.HO if controller.SW & S2_2 else controller.parameters.LO)
-
-
 def next_output(before, now, mode, sample_3, is_open, arithmetic):
     """Step 6, and the limiting at its end."""
     output = before.output
@@ -153,7 +141,7 @@ def next_output(before, now, mode, sample_3, is_open, arithmetic):
     if mode in ("Manual", "Forced Manual"):
         is_85th = is_open and before.open_count == OPEN_CAUSE - 1
         if is_85th and mode_of(before) in AUTOMATIC and now.SW & S2_5:
-            output = minimum(now, arithmetic)
+            output = arithmetic.of_units(minimum(now.SW, now.parameters))
         elif not now.buttons & SP_BUTTON:
             output += arithmetic.of_units(12 * direction(now.buttons))
     elif not is_open:

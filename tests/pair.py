@@ -14,11 +14,6 @@ class Pair:
         self.claim = Claim()
         self.controllers = loop.fresh(0, Stored), loop.fresh(0, Exact)
 
-    def bring_fault(self):
-        """The memory fault and the request Manual in both, as an accepted restart with the fault would bring them; no call does so yet."""
-        self.controllers = tuple(controller._replace(memory_fault=True, request="M") for controller in self.controllers)
-        self.claim.restart_brought_fault, self.claim.cleared_since = True, False
-
     def make(self, call):
         """Makes the call; our answer and the parts of the claim that were broken."""
         before = self.controllers

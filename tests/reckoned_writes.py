@@ -3,7 +3,7 @@
 Usage: python3 tests/reckoned_writes.py [--write]
 
 Writes of every parameter with drawn values in drawn states, chosen until each answer to each parameter and each effect of a write was met by one;
-writes of MD with the memory fault standing, which no call of the console brings yet; and reads of every number in one state.
+writes of MD with the memory fault standing; and reads of every number in one state.
 crates/worked/specs/ReckonedWrites.antt states of each that the rules give the reckoner's whole next state and answer. Without --write the test
 fails if that file isn't what the reckoner gives. The last line printed is 'N passed, M failed'.
 """

@@ -3,7 +3,10 @@
 import collections
 import time
 
+import loop
 from console_lines import RANGES, call_of, line_of, with_number
+from images import IMAGE_BYTES, LAYOUT, TAGS, image_of
+from state import Stored
 
 MANY_LINES = 300  # more than this are first made fewer
 
@@ -65,16 +68,16 @@ class Shrinking:
         return lines
 
     def with_simpler_numbers(self, lines):
-        """In each call by itself smaller numbers and fewer bits."""
+        """In each call by itself smaller numbers and fewer bits, and simpler images."""
         for place in range(len(lines)):
             if place >= len(lines) or self.is_over():
                 return lines
             if call_of(lines[place]) is None:
                 continue
             for number_place in range(1, len(call_of(lines[place]))):
-                for number in simpler_numbers(call_of(lines[place])[number_place]):
+                for number in simpler_than(call_of(lines[place])[number_place]):
                     call = call_of(lines[place])
-                    if abs(number) < abs(call[number_place]):
+                    if isinstance(number, bytes) or abs(number) < abs(call[number_place]):
                         lines = self.still_wrong([*lines[:place], with_number(call, number_place, number), *lines[place + 1:]]) or lines
                     if place >= len(lines):
                         return lines
@@ -93,6 +96,22 @@ def simpler_columns(numbers):
         yield lambda number, same=same: same
     for bit in range(8) if max(numbers, default=0) < 256 else ():
         yield lambda number, bit=bit: number & ~(1 << bit)
+
+
+def simpler_than(given):
+    return simpler_images(given) if isinstance(given, bytes) else simpler_numbers(given)
+
+
+def simpler_images(image):
+    """The image with one more field as in a fresh image, the sumcheck right again if it was right; no bytes for one of another length."""
+    if len(image) != IMAGE_BYTES:
+        return [b""] if image else []
+    fresh = LAYOUT.unpack(loop.save(loop.fresh(0, Stored), IMAGE_BYTES, Stored)[1][1])
+    parts = LAYOUT.unpack(image)
+    simpler = [LAYOUT.pack(*parts[:3 * field], *fresh[3 * field:3 * field + 3], *parts[3 * field + 3:]) for field in range(len(TAGS))]
+    if image_of(parts[2:-1:3])[-2:] == image[-2:]:
+        simpler = [each[:-2] + image_of(LAYOUT.unpack(each)[2:-1:3])[-2:] for each in simpler]
+    return [each for each in dict.fromkeys(simpler) if each != image]
 
 
 def simpler_numbers(number):

@@ -90,6 +90,17 @@ class Controller(NamedTuple):
     previous_SP: object
 
 
+def started(SW, parameters, request, memory_fault, user_bits, measured_power, output):
+    """"A fresh start and an accepted restart leave pins 80h, no buttons, open count 0, PV = 1L, SP = SL, ER = PV - SP, MP 0, battery good, no alarms".
+
+    Of the one "no earlier PV or SP remembered", of the other "All earlier PV and SP are forgotten".
+    """
+    PV, SP = parameters.channel_1L, parameters.SL
+    return Controller(SW=SW, parameters=parameters, request=request, memory_fault=memory_fault, user_bits=user_bits, measured_power=measured_power,
+                      open_count=0, output=output, pins=0x80, buttons=0, PV=PV, SP=SP, ER=PV - SP, MP=0,
+                      battery_low=False, low_alarm=False, high_alarm=False, previous_PV=None, PV_before_previous=None, previous_SP=None)
+
+
 class Input(NamedTuple):
     pins: int
     sample_1: int

@@ -44,7 +44,9 @@ def range_of(parameters, number):
     if number in WORDS:
         return 0, 65535
     _, least, greatest, _ = ROWS[number - 1]
-    return tuple(getattr(parameters, end) if isinstance(end, str) else end for end in (least, greatest))
+    if isinstance(least, str):
+        return getattr(parameters, least), getattr(parameters, greatest)
+    return least, greatest
 
 
 def is_in_order(parameters, name):

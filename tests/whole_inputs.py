@@ -1,10 +1,12 @@
 """Whole inputs for the console, each with the whole output due: ends of input, overlong lines, and input that comes in pieces."""
 
+from by_hand_images import FRESH
 from console_lines import LONGEST_LINE, lines_in
 
 # Worked by hand.  SW 0, pins 80h, all else 0: Manual is MD 2000h; DS is 80h, then bits 4, 3, 2, 1, 0: 801Fh; output 0.
 FIRST_SCAN = "scan 128 0 0 0 0 0"
 FIRST_ANSWER = "scan 8192 32799 0 0"
+IMAGE = FRESH.split()[1]  # a fresh controller's
 BY_HAND = (
     ("no input", "", ""),
     ("no newline at the end", "fresh 0", "ok\n"),
@@ -33,6 +35,16 @@ BY_HAND = (
     ("the ends of 32 bits", "write 22 2147483647\nwrite 22 2147483648\nwrite 22 -2147483648\nwrite 22 -2147483649\nwrite 0 2147483648\n",
      "refused 6\nerror\nrefused 6\nerror\nerror\n"),
     ("no writes and no reads", "write\nread\nwrite 20\nwrite 20 5 5\nread 20 5\nread\t20\nwrite 20 +5\nWrite 20 5\nwrite20 5\nread 20\n", "error\n" * 9 + "value 0\n"),
+    ("a save, and a restart from it", f"save 137\nwrite 20 5\nrestart {IMAGE}\nread 20\nrestart {IMAGE.lower()}\n", f"image {IMAGE}\nok\nok\nvalue 0\nok\n"),
+    ("the ends of a buffer's length", "save 136\nsave 0\nsave -0\nsave 300\nsave 0000137\nsave 301\nsave -1\nsave 65673\n",
+     "refused 15\n" * 3 + f"image {IMAGE}\n" * 2 + "error\n" * 3),
+    ("no bytes, one byte, and too many", f"restart -\nrestart 00\nrestart {IMAGE}00\nrestart {'0' * 600}\nrestart 0{IMAGE[:-1]}\n",
+     "refused 12\n" * 4 + "refused 13\n"),
+    ("no saves and no restarts", f"save\nrestart\nsave 137 137\nsave x\nsave +137\nSave 137\nsave137\nsave -\nrestart {IMAGE} -\nrestart - {IMAGE}\nrestart --\n"
+     f"restart {IMAGE[:-1]}\nrestart {IMAGE}0\nrestart 0x{IMAGE}\nrestart {IMAGE}h\nrestart -{IMAGE}\nrestart +{IMAGE}\nrestart {IMAGE[:40]} {IMAGE[40:]}\n"
+     f"restart {IMAGE[:-2]}4g\nrestart {IMAGE[:-2]}:2\nrestart {IMAGE[:-2]}`2\nrestart {IMAGE[:-2]}@2\nrestart {IMAGE[:-2]}/2\n"
+     f"Restart {IMAGE}\nrestart{IMAGE}\nread 24\n",
+     "error\n" * 25 + "value 8192\n"),
     ("the lowest refusal wins", "scan 0 10001 0 0 48 255\nscan 0 0 0 0 16 4\nscan 0 0 0 0 0 4\n", "refused 1\nrefused 2\nrefused 3\n"),
 )
 
@@ -47,14 +59,20 @@ def overlong():
             yield f"{length} bytes, blanks {name}, no newline", line, f"{due}\n"
         yield (f"{length} bytes between scans", f"{FIRST_SCAN}\nfresh 0{missing}\n{FIRST_SCAN}\n", f"{FIRST_ANSWER}\n{due}\n{FIRST_ANSWER}\n")
         yield f"{length} digits and letters", f"{'7' * length}\n{'x' * length}\nfresh 1\n", "error\nerror\nok\n"
+    for length in (LONGEST_LINE, LONGEST_LINE + 1):
+        due = "ok" if length <= LONGEST_LINE else "error"
+        yield f"a restart of {length} bytes", f"restart {IMAGE.rjust(length - len('restart '))}\n", f"{due}\n"
     calls = "fresh 0 " * 100  # 800 bytes: what stands behind the 700th byte is no call of its own
     yield "an overlong line of calls", f"{calls}\n{FIRST_SCAN}\n", f"error\n{FIRST_ANSWER}\n"
 
 
 def cut_short(answers_of):
-    """An input that ends after any byte of its last line."""
-    for text in ("fresh 1024\nscan 192 4990 20 5000 4 0\nscan 0160  10001 -0 070 66 03", "write 22 -7\nwrite 0022  -2147483649", "write 22 -7\nread 0022"):
-        for length in range(text.index("\n") + 1, len(text) + 1):
+    """An input that ends after any byte of its last line; of an image after some bytes only."""
+    for text in ("fresh 1024\nscan 192 4990 20 5000 4 0\nscan 0160  10001 -0 070 66 03", "write 22 -7\nwrite 0022  -2147483649", "write 22 -7\nread 0022",
+                 "write 22 -7\nsave  0000000137 ", f"write 22 -7\nrestart {IMAGE} "):
+        first = text.index("\n") + 1
+        lengths = range(first, len(text) + 1)
+        for length in lengths if len(lengths) < 100 else (*lengths[:14], *lengths[14:-6:25], *lengths[-6:]):
             yield f"cut after {length} bytes", text[:length], "".join(answer + "\n" for answer in answers_of(lines_in(text[:length])))
 
 

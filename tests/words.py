@@ -20,6 +20,11 @@ AUTOMATIC = ("Auto", "Remote", "Ratio", "Fall-back")
 MD_BIT = {"Hold": 15, "Track": 14, "Manual": 13, "Forced Manual": 13, "Auto": 12, "Fall-back": 12, "Remote": 11, "Ratio": 11}
 
 
+def minimum(SW, parameters):
+    """In units: ""Minimum" sets OP to LO, or to HO with S2.2 ON"."""
+    return parameters.HO if SW & S2_2 else parameters.LO
+
+
 def has_open_cause(controller):
     return controller.open_count >= OPEN_CAUSE
 

@@ -1,6 +1,7 @@
 """Holds what was worked by hand, and the manual's own figures, against the reckoner and against a program."""
 
 import by_hand
+import by_hand_images
 import by_hand_writes
 import loop
 from console_lines import line_of
@@ -9,7 +10,7 @@ from parameter_lists import writes_of
 from state import Exact, Parameters, Stored
 from table import NUMBER
 
-CASES = (*by_hand.CASES, *by_hand_writes.CASES)
+CASES = (*by_hand.CASES, *by_hand_writes.CASES, *by_hand_images.CASES)
 # "requests Manual with output 0, user bits and MD bit 4 zero, no memory fault, and no earlier PV or SP remembered"; "pins 80h, no buttons, open
 # count 0, PV = 1L, SP = SL, ER = PV - SP, MP 0, battery good, no alarms"; 1L and SL are 0.
 FRESH = {"SW": 0x1234, "request": "M", "output": 0, "user_bits": 0, "measured_power": False, "memory_fault": False, "previous_PV": None,
@@ -19,10 +20,11 @@ SCAN_WORDS = ("MD", "DS", "OP", "electrical")
 
 
 def calls_of(case):
-    """A fresh start, the writes of what is set before, and the case's calls."""
+    """A fresh start, the writes of what is set before, and the case's calls; the memory fault, set alone, comes by a restart."""
     given = dict(case.set_before)
+    if given == {"memory_fault": True}:
+        return [("fresh", case.SW), by_hand_images.FAULT, *case.calls]
     request, user_bits, power = given.pop("request", "M"), given.pop("user_bits", 0), given.pop("measured_power", False)
-    given.pop("memory_fault", None)
     return [("fresh", case.SW), *writes_of(Parameters(**given), request, user_bits, power), *case.calls]
 
 
@@ -30,8 +32,6 @@ def outcome(case, arithmetic):
     """What the last call left and answered in the reckoner, by name."""
     controller, calls = None, calls_of(case)
     for place, call in enumerate(calls):
-        if place == len(calls) - len(case.calls):
-            controller = controller._replace(memory_fault=case.set_before.get("memory_fault", False))
         controller, answer = loop.make(controller, call, arithmetic)
         assert answer == ("ok",) or place >= len(calls) - len(case.calls), (case.name, call)
     found = {**controller._asdict(), **controller.parameters._asdict(), "answer": line_of(answer)}
@@ -91,8 +91,7 @@ def is_answer(answer, due):
 def all_lines():
     """The name, the line and what is due of it, for each line of each case and figure; each begins with a fresh start."""
     for case in CASES:
-        if "memory_fault" not in case.set_before:
-            yield from ((case.name, *line) for line in lines_of(case))
+        yield from ((case.name, *line) for line in lines_of(case))
     for name, steps in FIGURES:
         yield from ((name, *line) for line in (("fresh 0", "ok"), *steps))
 

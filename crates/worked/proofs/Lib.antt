@@ -1,3 +1,4 @@
 pub mod Reckoned
+pub mod ReckonedRestarts
 pub mod ReckonedWrites
 pub mod Worked

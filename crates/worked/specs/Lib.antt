@@ -1,3 +1,4 @@
 pub mod Figures
 pub mod Reckoned
+pub mod ReckonedRestarts
 pub mod ReckonedWrites

@@ -32,10 +32,12 @@ output-restarted-requires c κs = subst (λ (s : Settings). Legal (s .parameters
 
 returns : tie.Need-returns
 unfolding controllerRestarted controllerAfter restartAccepted carriedOut changed limitedTo restartInstruction storedArithmetic
-returns c = simp (back w64 (c .output-restarted .result) (c .output-restarted .ok))
-    (simp (c .before .before .start-core .ensures, c .output-restarted .ensures)
-    (simp (c .before .before .before .restarted-request .ensures, c .before .before .before .before .is-sum-right .ensures)
-    (simp (c .before .before .before .before .before .before .before .taken-settings .ensures, c .before .before .before .before .before .before .before .before .switches-of .ensures))))
+returns c =
+    let o = c in
+    simp (back w64 (o .output-restarted .result) (o .output-restarted .ok))
+    (simp (o .before .before .start-core .ensures, o .output-restarted .ensures)
+    (simp (o .before .before .before .restarted-request .ensures, o .before .before .before .before .is-sum-right .ensures)
+    (simp (o .before .before .before .before .before .before .before .taken-settings .ensures, o .before .before .before .before .before .before .before .before .switches-of .ensures))))
 
 pub restarted-spec : {M : Type 1} → statement M
 restarted-spec =

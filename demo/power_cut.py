@@ -1,0 +1,132 @@
+"""Plays power cuts through the console: what it saved before a cut is handed back to it afterwards.
+
+Usage: python3 demo/power_cut.py CONSOLE
+
+A dryer runs and saves an image of its settings; then the console is ended, as a power cut would end it, and started anew. It is given that image, the same
+image with the power-fail switch ON, and every mixture of the image with a newer one that a cut in the midst of saving would leave. Ends with status 1 if a
+setting doesn't come back or a mixture is none of what it may be.
+"""
+
+import collections
+import subprocess
+import sys
+
+POWER_FAIL = 0x0800  # S2.5
+NAMES = {1: "1H", 2: "1L", 9: "HS", 15: "HO", 16: "LO", 17: "XP", 18: "TI", 19: "TD", 20: "SL"}
+SETTINGS = {1: 1200, 9: 1100, 15: 8500, 16: 500, 17: 400, 18: 900, 19: 20, 20: 650}
+MD, OP, SL, XP, TI = 24, 28, 20, 17, 18
+AUTO, MEMORY_FAULT, MANUAL = 0x1000, 0x0100, 0x2000
+IMAGE_BYTES = 137
+A_BUTTON, PINS = 0x02, 0x81
+
+
+class Console:
+    """The program, asked line by line; ending it is the power cut."""
+
+    def __init__(self, program, switches):
+        self.process = subprocess.Popen([program], stdin=subprocess.PIPE, stdout=subprocess.PIPE, text=True)
+        self.ask(f"fresh {switches}")
+
+    def ask(self, line):
+        self.process.stdin.write(line + "\n")
+        self.process.stdin.flush()
+        return self.process.stdout.readline().rstrip("\n")
+
+    def read(self, number):
+        return int(self.ask(f"read {number}").split()[1])
+
+    def scan(self, sample, buttons=0):
+        return [int(word) for word in self.ask(f"scan {PINS} {sample} 0 0 {buttons} 0").split()[1:]]
+
+    def save(self):
+        return self.ask(f"save {IMAGE_BYTES}").split()[1]
+
+    def end(self):
+        self.process.kill()
+        self.process.communicate()
+
+
+def standing(console):
+    """The settings and what a restart shows of them."""
+    return {**{NAMES[number]: console.read(number) for number in SETTINGS}, "MD": f"{console.read(MD):04X}h", "OP": console.read(OP)}
+
+
+def show(title, values):
+    print(f"  {title:<34}" + "  ".join(f"{name} {value}" for name, value in values.items()))
+
+
+def dry(console, samples):
+    for sample in samples:
+        md, _, op, _ = console.scan(sample)
+    return md, op
+
+
+def before_the_cut(program):
+    """A dryer in Auto with its own settings; an older and a newer image, and what stood when each was saved."""
+    console = Console(program, 0)
+    for number, value in SETTINGS.items():
+        console.ask(f"write {number} {value}")
+    console.scan(4800, A_BUTTON)
+    dry(console, range(4800, 5200, 10))
+    older = standing(console), console.save()
+    console.ask(f"write {SL} 700")
+    console.ask(f"write {XP} 350")
+    console.ask(f"write {TI} 1200")
+    dry(console, range(5200, 5600, 10))
+    newer = standing(console), console.save()
+    console.end()
+    return older, newer
+
+
+def after_the_cut(program, switches, image):
+    """A console started anew, and its answer to the image."""
+    console = Console(program, switches)
+    return console, console.ask(f"restart {image or '-'}")
+
+
+def torn(program, older, newer):
+    """What becomes of each mixture, the first bytes of the newer image over the older one; a state is told by the image that it saves to."""
+    console, counts, torn_once = Console(program, 0), collections.Counter(), None
+    states = {}
+    for name, image in (("the older image's settings", older), ("the newer image's settings", newer)):
+        console.ask(f"restart {image}")
+        states[console.save()] = name
+    for cut in range(IMAGE_BYTES + 1):
+        console.ask("fresh 0")
+        mixture = newer[:2 * cut] + older[2 * cut:]
+        answer = console.ask(f"restart {mixture}")
+        is_fault = answer == "ok" and console.read(MD) & MEMORY_FAULT
+        if answer == "ok" and not is_fault:
+            counts[states.get(console.save(), "UNSEEN by the sumcheck")] += 1
+        else:
+            counts["the memory fault" if is_fault else "declined"] += 1
+            torn_once = torn_once or (is_fault and mixture)
+    console.end()
+    return counts, torn_once
+
+
+def main():
+    program = sys.argv[1]
+    (older_standing, older), (newer_standing, newer) = before_the_cut(program)
+    print(f"\nA power cut\n\n  saved: {newer[:40]}.. ({len(newer) // 2} bytes)")
+    show("before the cut", newer_standing)
+    console = Console(program, 0)
+    show("started anew, before the restart", standing(console))
+    answer = console.ask(f"restart {newer}")
+    show(f"restarted: {answer}", standing(console))
+    survived = answer == "ok" and standing(console) == newer_standing and dry(console, [5600])[0] & AUTO
+    print("  every setting is back, and the next scan is in Auto" if survived else "  NOT AS BEFORE")
+    console, answer = after_the_cut(program, POWER_FAIL, newer)
+    show(f"power-fail switch ON: {answer}", standing(console))
+    counts, mixture = torn(program, older, newer)
+    print(f"\nThe power fails while the newer image is written over the older one: {IMAGE_BYTES + 1} mixtures\n")
+    print("\n".join(f"  {count:4}  {name}" for name, count in counts.items()))
+    console, answer = after_the_cut(program, 0, mixture)
+    show(f"one with the fault: {answer}", standing(console))
+    console.ask(f"write {MD} {MANUAL}")
+    show("MD 2000h is written", standing(console))
+    return 0 if survived and not counts["UNSEEN by the sumcheck"] else 1
+
+
+if __name__ == "__main__":
+    sys.exit(main())
