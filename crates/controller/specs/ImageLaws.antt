@@ -10,6 +10,7 @@ use lib.IntN.{ℤ, pos, natAbs, _*ℤ_}
 use lib.ListN.{length, getD}
 use lib.Signed.{_≤ℤ_}
 use borrow.Author.Tests.{eq-eqb, eqb-true}
+use Rattle.integers.specs.Choice.{both}
 use Rattle.integers.specs.Limit.{limited, limited-same}
 use Rattle.integers.specs.Operations.{product}
 use Rattle.integers.specs.Parts.{integers}
@@ -19,7 +20,6 @@ use Rattle.fields.specs.Fields.{fieldsFrom}
 use Rattle.fields.specs.Reading.{formedFrom}
 use Rattle.fields.specs.RoundTrip.{Bytes, saved-formed, saved-values, saved-again, words-of, values-length, image-length}
 use Rattle.parameters.specs.Legal.{areLegal, Legal}
-use Rattle.parameters.specs.LegalLaws.{both}
 use Rattle.parameters.specs.MendedLaws.{tested-legal, legal-tested}
 use Rattle.parameters.specs.Table.{LO, HO}
 use Rattle.settings.specs.Settings.{imageOf, parametersIn, settingsIn, isSumRight, areOthersLegal}
@@ -55,13 +55,13 @@ module _ (c : Controller) (valid : Valid c) where
   unfolding now settingsNow settingsOf
   now-op = op-most (c .output) (valid .stored)
 
-  values-are : valuesIn (savedImage c) ≡ saved now
+  pub values-are : valuesIn (savedImage c) ≡ saved (settingsNow c)
   unfolding now savedImage imageOf
   values-are = saved-values (saved now) (saved-length now) (saved-fits now now-legal (omega (arith, now-op)))
 
-  formed : formedFrom 0 28 (savedImage c) ≡ true
+  pub saved-headed : formedFrom 0 28 (savedImage c) ≡ true
   unfolding now savedImage imageOf
-  formed = saved-formed (saved now) (saved-length now)
+  saved-headed = saved-formed (saved now) (saved-length now)
 
   pub saved-size : length (savedImage c) ≡ 137
   unfolding now savedImage imageOf
@@ -73,16 +73,17 @@ module _ (c : Controller) (valid : Valid c) where
       rw (saved-parameters now now-legal, legal-tested (now .parameters) now-legal)
       (saved-legal now now-legal now-op (valid .manual))
 
-  -- "A saved image" is sound
+  -- a saved image is sound
   pub saved-sound : isSound (savedImage c) ≡ true
-  unfolding isSound
-  saved-sound = rw (eq-eqb (length (savedImage c)) 137 saved-size, formed, values-are, saved-right now, legal-values) refl
+  unfolding isSound now
+  saved-sound = rw (eq-eqb (length (savedImage c)) 137 saved-size, saved-headed, values-are, saved-right now, legal-values) refl
 
   pub saved-accepted : declinedBy (restartTests (savedImage c)) ≡ none
-  unfolding restartTests declinedBy
-  saved-accepted = rw (eq-eqb (length (savedImage c)) 137 saved-size, formed, values-are, saved-right now, legal-values) refl
+  unfolding restartTests declinedBy now
+  saved-accepted = rw (eq-eqb (length (savedImage c)) 137 saved-size, saved-headed, values-are, saved-right now, legal-values) refl
 
   pub saved-sum : isSumRight (valuesIn (savedImage c)) ≡ true
+  unfolding now
   saved-sum = ap isSumRight values-are ∙ saved-right now
 
   pub saved-taken : takenSettings (valuesIn (savedImage c)) ≡ settingsNow c
@@ -140,7 +141,7 @@ module _ (d : Controller) (image : List ℕ) (bytes : Bytes image) (sound : isSo
   unfolding vs settingsNow settingsOf controllerRestarted controllerAfter restartAccepted takenSettings settingsIn carriedOut changed limitedTo restartInstruction restartedTo storedArithmetic
   settings-are = rw (sound-of image sound .right, off) (rw (op-of-units (LO (parametersIn vs)) (HO (parametersIn vs)) (getD vs 23 0) least most) refl)
 
-  -- "saves to the same bytes"
+  -- it saves to the same bytes
   pub same-bytes : savedImage (restart d image .next) ≡ image
   unfolding savedImage imageOf restart restartCore handedBack controllerRestarted vs isLegal
   same-bytes =

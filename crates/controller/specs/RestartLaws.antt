@@ -1,15 +1,15 @@
 -- What an accepted restart has passed, and that a restart hands back a valid controller.
 use mathlib.Core.Path.{_≡_, refl, sym, _∙_}
-use mathlib.Core.Bool.{Bool, true, false, not, _&&_, _||_}
+use mathlib.Core.Bool.{Bool, true, false, _||_}
 use mathlib.Core.List.{List}
 use mathlib.Core.Option.{none}
 use Prim.Native.Nat.{ℕ}
 use native.Mathlib.Omega.{arith}
-use lib.Dec.{eqb, leb}
+use lib.Dec.{eqb}
 use lib.IntN.{pos}
 use lib.ListN.{length, getD}
-use borrow.Author.Tests.{eqb-true, ne-eqb}
-use Rattle.integers.specs.Choice.{by-cases, never}
+use borrow.Author.Tests.{eqb-true, ne-eqb, not-false}
+use Rattle.integers.specs.Choice.{by-cases, never, both}
 use Rattle.integers.specs.Listed.{listed}
 use Rattle.signals.specs.RefusalLaws.{Ascending}
 use Rattle.signals.specs.Refusals.{declinedBy}
@@ -18,10 +18,10 @@ use Rattle.fields.specs.Reading.{formedFrom}
 use Rattle.modes.specs.declared.Request.{Request}
 use Rattle.modes.specs.declared.Request.the-variants.{Manual}
 use Rattle.parameters.specs.Legal.{areLegal, Legal}
-use Rattle.parameters.specs.LegalLaws.{both}
 use Rattle.parameters.specs.MendedLaws.{tested-legal, mended-legal}
 use Rattle.parameters.specs.Table.{value}
 use Rattle.settings.specs.Settings.{requestIn, parameterIn, parametersIn, settingsIn, isSumRight, areOthersLegal}
+use Rattle.settings.specs.SettingsLaws.{others-of}
 use Rattle.settings.specs.declared.Settings.{Settings}
 use Rattle.outputs.specs.Instruction.{carriedOut, changed, limitedTo}
 use Rattle.outputs.specs.OutputLaws.{restart-stored}
@@ -39,10 +39,6 @@ restart-ascends image = ((omega arith, (omega arith, tt)), ((omega arith, tt), (
 
 -- ---- what an accepted restart has passed
 
-pub turned : (b : Bool) → not b ≡ false → b ≡ true
-turned true e = refl
-turned false e = never (sym e)
-
 pub record Taken (image : List ℕ) : Type 0 where
   pub size : length image ≡ 137
   pub formed : formedFrom 0 28 image ≡ true
@@ -53,8 +49,8 @@ unfolding restartTests
 taken image e =
     let t = passed (restartTests image) e in
     record {
-      size = eqb-true (length image) 137 (turned (eqb (length image) 137) (t .0));
-      formed = turned (formedFrom 0 28 image) (t .1 .0);
+      size = eqb-true (length image) 137 (not-false (eqb (length image) 137) (t .0));
+      formed = not-false (formedFrom 0 28 image) (t .1 .0);
       legal = t .1 .1 .0;
     }
 
@@ -93,15 +89,12 @@ request-manual request fault e one =
     go false q d = never (sym q ∙ d)
 
 taken-manual : (vs : List ℕ) → isIllegal vs ≡ false → takenSettings vs .fault ≡ true → takenSettings vs .request ≡ Manual
-unfolding takenSettings settingsIn mendedSettings isLegal areOthersLegal
+unfolding takenSettings settingsIn mendedSettings isLegal
 taken-manual vs e =
     by-cases (λ (s : Settings). s .fault ≡ true → s .request ≡ Manual) (isSumRight vs) (settingsIn vs) (mendedSettings vs)
     (λ right one.
-    let others = both (areLegal (parametersIn vs)) (areOthersLegal vs) (right-legal vs e right) .1 in
-    let first = leb (getD vs 23 0) 9999 && leb (getD vs 24 0) 2 in
-    let second = leb (getD vs 25 0) 1 && (eqb (getD vs 25 0) 0 || eqb (getD vs 24 0) 0) in
-    let fault = both first second (both (first && second) (leb (getD vs 26 0) 7) others .0) .1 in
-    request-manual (getD vs 24 0) (getD vs 25 0) (both (leb (getD vs 25 0) 1) (eqb (getD vs 25 0) 0 || eqb (getD vs 24 0) 0) fault .1) one)
+    let others = others-of vs (both (areLegal (parametersIn vs)) (areOthersLegal vs) (right-legal vs e right) .1) in
+    request-manual (getD vs 24 0) (getD vs 25 0) (others .manual) one)
     (λ wrong one. refl)
 
 pub restarted-valid : (c : Controller) (vs : List ℕ) → isIllegal vs ≡ false → Valid (controllerRestarted c vs)

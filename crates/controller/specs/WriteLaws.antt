@@ -7,7 +7,7 @@ use Prim.Native.Nat.{ℕ, _≤_, _<_}
 use native.Mathlib.Omega.{arith}
 use lib.Dec.{eqb}
 use lib.IntN.{ℤ, pos, natAbs}
-use borrow.Author.Tests.{eqb-true, eqb-false, ne-eqb}
+use borrow.Author.Tests.{eqb-true, eqb-false, ne-eqb, not-false}
 use Rattle.integers.specs.Choice.{if_then_else_, by-cases, never}
 use Rattle.integers.specs.Operations.{number}
 use Rattle.integers.specs.Parts.{integers, apart}
@@ -49,16 +49,12 @@ write-ascends c n v =
 
 -- ---- what an accepted write has passed
 
-turned : (b : Bool) → not b ≡ false → b ≡ true
-turned true e = refl
-turned false e = never (sym e)
-
 -- an accepted word of MD is the value itself
 pub word-is : (c : Core) (n : ℕ) (v : ℤ) → declinedBy (writeTests c n v) ≡ none → n ≡ 24 → wordOf v ≡ natAbs v
 unfolding writeTests ruleOf
 word-is c n v accepted e =
     let t = passed (writeTests c n v) accepted in
-    let w = subst (λ (m : ℕ). inRange (ruleOf m) (value (c .parameters)) v ≡ true) e (turned (inRange (ruleOf n) (value (c .parameters)) v) (t .1 .1 .0)) in
+    let w = subst (λ (m : ℕ). inRange (ruleOf m) (value (c .parameters)) v ≡ true) e (not-false (inRange (ruleOf n) (value (c .parameters)) v) (t .1 .1 .0)) in
     let k = inside (pos 0) (pos 65535) v w in
     omega (arith, integers, k .not-below, k .not-above, number v, apart v)
 
@@ -70,8 +66,8 @@ module _ (c : Core) (n : ℕ) (v : ℤ) (legal : Legal (c .parameters)) (accepte
       let t = passed (writeTests c n v) accepted in
       let k = known n (t .0) in
       let s = settable n (t .0) (t .1 .0) in
-      written-legal (c .parameters) legal n v (k .0) (omega arith) (turned (inRange (ruleOf n) (value (c .parameters)) v) (t .1 .1 .0))
-      (turned (pairInOrder (ruleOf n) (value (c .parameters)) n v) (t .1 .1 .1 .0))
+      written-legal (c .parameters) legal n v (k .0) (omega arith) (not-false (inRange (ruleOf n) (value (c .parameters)) v) (t .1 .1 .0))
+      (not-false (pairInOrder (ruleOf n) (value (c .parameters)) n v) (t .1 .1 .1 .0))
 
   pub core-legal : Legal (coreWritten c n v .parameters)
   unfolding coreWritten mdWritten dsWritten parameterWritten coreWith

@@ -1,6 +1,6 @@
 -- Values that are laid down are taken up again, and fields that are taken up are laid down as the same bytes.
 use mathlib.Core.Path.{_≡_, refl, ap, _∙_}
-use mathlib.Core.Bool.{Bool, true, false, _&&_}
+use mathlib.Core.Bool.{true, _&&_}
 use mathlib.Core.List.{List, [], _∷_, _++_, append-nil, append-assoc}
 use Prim.Native.Nat.{ℕ, zero, suc, _+_, _*_, _/_, _%_, _^_, _≤_, _<_}
 use native.Mathlib.Nat.{not-suc-le-zero, add-zero, zero-add}
@@ -9,7 +9,7 @@ use lib.Dec.{eqb}
 use lib.ListN.{length, drop, getD, length-append, length-drop}
 use lib.Seq.{getD-drop}
 use borrow.Author.Tests.{eq-eqb, eqb-true}
-use Rattle.integers.specs.Choice.{never}
+use Rattle.integers.specs.Choice.{both}
 use Rattle.fields.specs.FieldLaws.{by-length, length-field, startOf, next-start, start-grows}
 use Rattle.fields.specs.Fields.{tagOf, lengthOf, valueBytes, fieldBytes, fieldsFrom}
 use Rattle.fields.specs.Reading.{isHeaded, valueIn, formedFrom, valuesFrom}
@@ -68,14 +68,6 @@ laid-values (v ∷ vs) place rest f =
 abbrev pub Bytes : List ℕ → Type 0
 Bytes b = (k : ℕ) → getD b k 0 < 256
 
-left : (p q : Bool) → p && q ≡ true → p ≡ true
-left true q e = refl
-left false q e = e
-
-right : (p q : Bool) → p && q ≡ true → q ≡ true
-right true q e = e
-right false q e = never e
-
 -- what begins with a field is that field and the rest
 field-two : (tag : ℕ) (b : List ℕ) → 5 ≤ length b → Bytes b → isHeaded tag 2 b ≡ true → fieldBytes tag 2 (valueIn 2 b) ++ drop 5 b ≡ b
 unfolding fieldBytes valueBytes isHeaded valueIn
@@ -86,10 +78,10 @@ field-two tag (a ∷ b ∷ c ∷ []) h y e = let n : ⊥ = omega arith in absurd
 field-two tag (a ∷ b ∷ c ∷ d ∷ []) h y e = let n : ⊥ = omega arith in absurd n
 field-two tag (a ∷ b ∷ c ∷ d ∷ f ∷ r) h y e =
     let low : f < 256 = y 4 in
-    let e0 : a ≡ tag = eqb-true _ _ (left (eqb a tag) _ e) in
-    let e12 : (eqb b 0 && eqb c 2) ≡ true = right (eqb a tag) _ e in
-    let e1 : b ≡ 0 = eqb-true _ _ (left (eqb b 0) _ e12) in
-    let e2 : c ≡ 2 = eqb-true _ _ (right (eqb b 0) _ e12) in
+    let e0 : a ≡ tag = eqb-true _ _ (both (eqb a tag) _ e .0) in
+    let e12 : (eqb b 0 && eqb c 2) ≡ true = both (eqb a tag) _ e .1 in
+    let e1 : b ≡ 0 = eqb-true _ _ (both (eqb b 0) _ e12 .0) in
+    let e2 : c ≡ 2 = eqb-true _ _ (both (eqb b 0) _ e12 .1) in
     let e3 : (d * 256 + f) / 256 ≡ d = omega arith in
     let e4 : (d * 256 + f) % 256 ≡ f = omega arith in
     cc
@@ -102,10 +94,10 @@ field-one tag (a ∷ b ∷ []) h y e = let n : ⊥ = omega arith in absurd n
 field-one tag (a ∷ b ∷ c ∷ []) h y e = let n : ⊥ = omega arith in absurd n
 field-one tag (a ∷ b ∷ c ∷ d ∷ r) h y e =
     let low : d < 256 = y 3 in
-    let e0 : a ≡ tag = eqb-true _ _ (left (eqb a tag) _ e) in
-    let e12 : (eqb b 0 && eqb c 1) ≡ true = right (eqb a tag) _ e in
-    let e1 : b ≡ 0 = eqb-true _ _ (left (eqb b 0) _ e12) in
-    let e2 : c ≡ 1 = eqb-true _ _ (right (eqb b 0) _ e12) in
+    let e0 : a ≡ tag = eqb-true _ _ (both (eqb a tag) _ e .0) in
+    let e12 : (eqb b 0 && eqb c 1) ≡ true = both (eqb a tag) _ e .1 in
+    let e1 : b ≡ 0 = eqb-true _ _ (both (eqb b 0) _ e12 .0) in
+    let e2 : c ≡ 1 = eqb-true _ _ (both (eqb b 0) _ e12 .1) in
     let e3 : d % 256 ≡ d = omega arith in
     cc
 
@@ -127,7 +119,7 @@ taken-fields zero place (x ∷ b) h e y f =
     let z : startOf (place + 0) ≡ startOf place = ap startOf (add-zero place) in
     let n : ⊥ = omega arith in absurd n
 taken-fields (suc many) place b h e y f =
-    let hd : isHeaded (tagOf place) (lengthOf place) b ≡ true = left (isHeaded (tagOf place) (lengthOf place) b) _ f in
+    let hd : isHeaded (tagOf place) (lengthOf place) b ≡ true = both (isHeaded (tagOf place) (lengthOf place) b) _ f .0 in
     let o : startOf place + (3 + lengthOf place) ≡ startOf (place + 1) = next-start place (omega arith) in
     let s : place + suc many ≡ suc place + many = omega arith in
     let s1 : place + 1 ≡ suc place = omega arith in
@@ -137,7 +129,7 @@ taken-fields (suc many) place b h e y f =
     let fit : 3 + lengthOf place ≤ length b = omega arith in
     let rest : fieldsFrom (suc place) (valuesFrom (suc place) many (drop (3 + lengthOf place) b)) ≡ drop (3 + lengthOf place) b =
     taken-fields many (suc place) (drop (3 + lengthOf place) b) (omega arith) (omega (arith, length-drop (3 + lengthOf place) b)) (drop-bytes (3 + lengthOf place) b y)
-    (right (isHeaded (tagOf place) (lengthOf place) b) _ f) in
+    (both (isHeaded (tagOf place) (lengthOf place) b) _ f .1) in
     cc (field-is (tagOf place) place b fit y hd)
 
 -- ---- at a whole image

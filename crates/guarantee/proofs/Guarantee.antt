@@ -1,12 +1,13 @@
 -- The long guarantee, for every switch word and every list of calls, over the contracts of the calls themselves.
 use mathlib.Core.Path.{_≡_, sym, ap, subst, _∙_}
 use mathlib.Core.List.{List, _∷_}
-use mathlib.Core.Option.{some}
+use mathlib.Core.Option.{Option, some}
 use Prim.Native.Nat.{ℕ}
 use lib.IntN.{ℤ}
 use denote.Ref.{now}
 use Rattle.signals.specs.declared.Input.{Input}
 use Rattle.modes.specs.Modes.{counted}
+use Rattle.modes.specs.declared.Mode.{Mode}
 use Rattle.controller.specs.Answers.{Said, Handed, handed, saidOfVerdict, handedWithVerdict}
 use Rattle.controller.specs.Restart as restarts
 use Rattle.controller.specs.Scan as rules
@@ -16,7 +17,7 @@ use Rattle.controller.specs.Write as writes
 use Rattle.controller.specs.declared.Controller.{Controller}
 use Rattle.controller.specs.declared.Judged.{Judged}
 use Rattle.controller.specs.declared.Scanned.{Scanned}
-use Rattle.guarantee.specs.Claim.{capped, SameReading, SameAnswer, SameAnswers, no-answer, and-answer}
+use Rattle.guarantee.specs.Claim.{modeIn, isHoldOrTrack, capped, SameReading, SameAnswer, SameAnswers, no-answer, and-answer}
 use Rattle.guarantee.specs.Demand.{Demand3}
 use Rattle.guarantee.specs.Exact.{Call, scan, write, restart, Calls, _then_, outcomeOf, exactAfter, exact, exactAnswer}
 use Rattle.guarantee.specs.Linked.{ScanEnsures, WriteEnsures, RestartEnsures, Lent, Lifetime, Linked, started, scanned, wrote, restarted, Ready}
@@ -80,15 +81,24 @@ answers (restarted life image r l e) = answered (restart (now image)) (handedWit
 
 -- ---- demand 3
 
+-- the mode in an option, or another one
+abbrev the-mode : Option Mode → Mode → Mode
+the-mode Option.none other = other
+the-mode (some mode) other = mode
+
 pub guarantee : (word : ℕ) (calls : Calls) (hs : List Handed) (c : Controller) → Linked word calls hs c → Demand3 word calls hs c
 guarantee word calls hs c l =
     let e = linked l in
     let core-is : c .core ≡ capped (exact word calls .core) = ap (λ (k : Controller). k .core) e ∙ cores word calls in
+    let first : modeIn (exact word calls .core) ≡ some (modeNow (c .core)) =
+    mode-is-first (exact word calls .core) ∙ ap some (sym (ap modeNow core-is ∙ now-capped (exact word calls .core))) in
+    let here : Option Mode → Mode = λ o. the-mode o (modeNow (c .core)) in
     record {
-      mode-first = mode-is-first (exact word calls .core) ∙ ap some (sym (ap modeNow core-is ∙ now-capped (exact word calls .core)));
+      mode-first = first;
       opens-counted = opens-after word calls;
       fault-stands = rw e (fault-after word calls);
-      within-limits = rw e (within-after word calls);
+      within-limits = λ mode q outside.
+          rw e (within-after word calls (ap (λ (k : Controller). isHoldOrTrack (modeNow (k .core))) (sym e) ∙ ap isHoldOrTrack (ap here (sym first ∙ q)) ∙ outside));
       same-state = ap capped core-is ∙ capped-twice (exact word calls .core);
       same-answers = answers l;
       same-reads = λ n r h.

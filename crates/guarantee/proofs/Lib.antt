@@ -10,3 +10,5 @@ pub mod Images
 pub mod Limits
 pub mod Modes
 pub mod Ours
+pub mod Restarts
+pub mod Saves

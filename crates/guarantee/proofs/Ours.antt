@@ -25,7 +25,7 @@ use Rattle.controller.specs.declared.Core.{Core}
 use Rattle.guarantee.specs.Claim.{capped}
 use Rattle.guarantee.specs.Count.{openAfter, openScans, automaticScans}
 use Rattle.guarantee.specs.Exact.{Call, scan, write, restart, Calls, none, _then_, oneMore, outcomeOf, exactOutcome, exactAfter, exact, exactAnswer}
-use Rattle.guarantee.proofs.Bound.{Sound, keeps, sets, instruction-sound, carried-near}
+use Rattle.guarantee.proofs.Bound.{Divides, keeps, sets, instruction-sound, carried-near}
 use Rattle.guarantee.proofs.Capped.{cappedOutcome, outcome-capped}
 use Rattle.guarantee.proofs.Counting.{counts}
 
@@ -68,15 +68,15 @@ exact-legal : (word : ℕ) (xs : Calls) → Legal (exact word xs .core .paramete
 unfolding capped
 exact-legal word xs = subst (λ (k : Core). Legal (k .parameters)) (cores word xs) (valid-after word xs .legal)
 
-outcome-sound : (c : Core) (x : Call) → Legal (c .parameters) → Sound (outcomeOf oneMore c x .instruction .change)
+outcome-sound : (c : Core) (x : Call) → Legal (c .parameters) → Divides (outcomeOf oneMore c x .instruction .change)
 unfolding outcomeOf scanCore writeCore writeAccepted restartCore restartAccepted restartInstruction refused accepted
 outcome-sound c (scan i) legal =
-    by-verdict (λ o. Sound (o .instruction .change)) (declinedBy (scanTests i)) c (accepted oneMore c i)
+    by-verdict (λ o. Divides (o .instruction .change)) (declinedBy (scanTests i)) c (accepted oneMore c i)
     (λ e. instruction-sound (c .parameters) _ _ (c .history) legal) (λ n. keeps)
 outcome-sound c (write n v) legal =
-    by-verdict (λ o. Sound (o .instruction .change)) (declinedBy (writeTests c n v)) c (writeAccepted c n v) (λ e. keeps) (λ m. keeps)
+    by-verdict (λ o. Divides (o .instruction .change)) (declinedBy (writeTests c n v)) c (writeAccepted c n v) (λ e. keeps) (λ m. keeps)
 outcome-sound c (restart image) legal =
-    by-verdict (λ o. Sound (o .instruction .change)) (declinedBy (restartTests image)) c (restartAccepted c (valuesIn image)) (λ e. sets) (λ m. keeps)
+    by-verdict (λ o. Divides (o .instruction .change)) (declinedBy (restartTests image)) c (restartAccepted c (valuesIn image)) (λ e. sets) (λ m. keeps)
 
 pub bound-after : (word : ℕ) (xs : Calls) → Near (ours word xs .output) (exact word xs .output) (3 * automaticScans word xs)
 unfolding ours exact exactAfter exactAnswer automaticScans freshController handedBack controllerAfter storedUnits cappedOutcome

@@ -6,6 +6,7 @@ use mathlib.Core.Option.{some}
 use Prim.Native.Nat.{ℕ, _*_}
 use denote.Ref.{now}
 use Rattle.signals.specs.declared.Verdict.{Verdict}
+use Rattle.modes.specs.declared.Mode.{Mode}
 use Rattle.terms.specs.Near.{Near}
 use Rattle.controller.specs.Answers.{Handed, saidOfVerdict, saidOfRead}
 use Rattle.controller.specs.Scan.{modeNow}
@@ -24,8 +25,8 @@ pub record Demand3 (word : ℕ) (calls : Calls) (hs : List Handed) (c : Controll
   pub opens-counted : exact word calls .core .conditions .opens ≡ openScans word calls
   -- the memory fault stands exactly when document 01 says so
   pub fault-stands : c .core .conditions .fault ≡ faultStands word calls
-  -- outside Hold and Track the stored output is within its limits
-  pub within-limits : isHoldOrTrack (modeNow (c .core)) ≡ false → WithinLimits c
+  -- outside Hold and Track, by the conditions again, the stored output is within its limits
+  pub within-limits : (mode : Mode) → modeIn (exact word calls .core) ≡ some mode → isHoldOrTrack mode ≡ false → WithinLimits c
   -- apart from the output, the whole state and every answer equal those of the exact controller, OP and electrical output being our own
   pub same-state : capped (c .core) ≡ capped (exact word calls .core)
   pub same-answers : SameAnswers word calls hs

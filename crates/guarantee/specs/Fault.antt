@@ -34,10 +34,12 @@ unfoldable pub twoByteSum : List ℕ → ℕ → ℕ
 twoByteSum image zero = 0
 twoByteSum image (suc n) = twoByteSum image n + wordAt image (5 * n + 3)
 
+-- "all earlier values, read unsigned, summed modulo 65,536"
+unfoldable pub sumRight : List ℕ → Bool
+sumRight image = eqb (wordAt image 135) ((twoByteSum image 24 + getD image 123 0 + getD image 127 0 + getD image 131 0) % 65536)
+
 unfoldable pub brings : List ℕ → Bool
-brings image =
-    eqb (getD image 127 0) 1
-    || not (eqb (wordAt image 135) ((twoByteSum image 24 + getD image 123 0 + getD image 127 0 + getD image 131 0) % 65536))
+brings image = eqb (getD image 127 0) 1 || not (sumRight image)
 
 -- MD is parameter 24
 unfoldable pub eventOf : Call → Event

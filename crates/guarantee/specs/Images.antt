@@ -1,29 +1,70 @@
--- What document 01 promises of images, over the contracts of `Controller::save` and `Controller::restart`. Written out from the paper's words, as the parts of demand 3 are.
+-- What is promised of images, as README.md has it, over the contracts of `Controller::save` and `Controller::restart`. Bytes are told by their places. Shared with the rules is when values are
+-- legal (`isLegal`), and with it when an image is sound (`isSound`).
 use mathlib.Core.Path.{_≡_}
-use mathlib.Core.Bool.{true, false}
+use mathlib.Core.Bool.{Bool, true, false, not, _&&_}
 use mathlib.Core.List.{List, _++_}
-use Prim.Native.Nat.{ℕ, _≤_, _<_}
-use lib.IntN.{pos, _*ℤ_, _-ℤ_}
+use Prim.Native.Nat.{ℕ, zero, suc, _+_, _-_, _*_, _≤_, _<_}
+use lib.Dec.{leb, eqb}
+use lib.IntN.{ℤ, pos, natAbs, _*ℤ_, _-ℤ_}
 use lib.ListN.{length, getD, take, drop}
+use lib.Signed.{ltZ}
 use denote.Ref.{now}
 use Rattle.integers.specs.Choice.{if_then_else_}
 use Rattle.integers.specs.Limit.{limited}
 use Rattle.signals.specs.Bits.{bit}
+use Rattle.signals.specs.declared.Input.{Input}
 use Rattle.signals.specs.declared.Verdict.{Verdict}
-use Rattle.modes.specs.declared.Request.the-variants.{Manual}
+use Rattle.fields.specs.Reading.{valuesFrom}
+use Rattle.modes.specs.declared.Request.{Request}
+use Rattle.modes.specs.declared.Request.the-variants.{Manual, Auto, Remote}
+use Rattle.parameters.specs.Legal.{Legal}
 use Rattle.parameters.specs.Table.{value}
 use Rattle.outputs.specs.declared.History.the-variants.{Nothing}
-use Rattle.controller.specs.Answers.{acceptance, saidOfVerdict, Handed}
-use Rattle.controller.specs.Restart.{isSound}
+use Rattle.controller.specs.Answers.{Said, acceptance, number, said, saidOfVerdict, Handed}
+use Rattle.controller.specs.Restart.{isLegal, isSound}
 use Rattle.controller.specs.declared.Controller.{Controller}
 use Rattle.controller.specs.declared.Judged.{Judged}
+use Rattle.controller.specs.declared.Scanned.{Scanned}
 use Rattle.guarantee.specs.Claim.{OwnOutput}
 use Rattle.guarantee.specs.Exact.{Calls}
-use Rattle.guarantee.specs.Fault.{wordAt}
-use Rattle.guarantee.specs.Linked.{SaveEnsures, RestartEnsures, Lent, Lifetime, Linked}
+use Rattle.guarantee.specs.Fault.{wordAt, sumRight}
+use Rattle.guarantee.specs.Linked.{ScanEnsures, WriteEnsures, SaveEnsures, RestartEnsures, Lent, Lifetime, Linked}
 
-abbrev pub isTaken : Verdict → Type 0
-isTaken r = saidOfVerdict r ≡ acceptance
+abbrev pub Accepts : Verdict → Type 0
+Accepts r = saidOfVerdict r ≡ acceptance
+
+-- ---- when an image is declined, told by its bytes
+
+-- at this place stand a tag and a two-byte length
+abbrev pub headAt : List ℕ → ℕ → ℕ → ℕ → Bool
+headAt image place tag size = eqb (getD image place 0) tag && (eqb (getD image (place + 1) 0) 0 && eqb (getD image (place + 2) 0) size)
+
+-- so many tags from this one on, one every five bytes, tag 1 at byte 0; then 41h, 42h, 43h, 44h and 7Fh
+unfoldable pub headsFrom : List ℕ → ℕ → ℕ → Bool
+headsFrom image tag zero = headAt image 115 0x41 2 && (headAt image 120 0x42 1 && (headAt image 124 0x43 1 && (headAt image 128 0x44 1 && headAt image 132 0x7F 2)))
+headsFrom image tag (suc many) = headAt image (5 * (tag - 1)) tag 2 && headsFrom image (suc tag) many
+
+-- every tag and length right
+unfoldable pub headsRight : List ℕ → Bool
+headsRight image = headsFrom image 1 23
+
+-- "12 length not 137; 13 a wrong tag or length; 14 right sumcheck, illegal value"; else it is accepted, with a wrong sumcheck too
+unfoldable pub answerTo : List ℕ → Said
+answerTo image =
+    if not (eqb (length image) 137) then number 12 else
+    if not (headsRight image) then number 13 else
+    if sumRight image && not (isLegal (valuesFrom 0 28 image)) then number 14 else acceptance
+
+abbrev pub RestartAnswers : Type 0
+RestartAnswers =
+    (life : Lifetime) (d : Controller) (image : Lent) (j : Judged) → RestartEnsures life d image j → saidOfVerdict (j .verdict) ≡ answerTo (now image)
+
+-- "Controller and buffers stay.": of a declined restart, write or scan
+abbrev pub DeclinedStays : Type 0
+DeclinedStays =
+    ((life : Lifetime) (d : Controller) (image : Lent) (j : Judged) (n : ℕ) → RestartEnsures life d image j → saidOfVerdict (j .verdict) ≡ number n → j .controller ≡ d) ×
+    ((d : Controller) (p : ℕ) (v : ℤ) (j : Judged) (n : ℕ) → WriteEnsures d p v j → saidOfVerdict (j .verdict) ≡ number n → j .controller ≡ d) ×
+    ((d : Controller) (i : Input) (r : Scanned) (n : ℕ) → ScanEnsures d i r → said (r .answer) ≡ number n → r .controller ≡ d)
 
 -- ---- what every accepted restart leaves, of the controller d that it was given and the next one n
 
@@ -45,9 +86,57 @@ pub record Left (d n : Controller) : Type 0 where
 
 abbrev pub RestartLeaves : Type 0
 RestartLeaves =
-    (life : Lifetime) (d : Controller) (image : Lent) (j : Judged) → RestartEnsures life d image j → isTaken (j .verdict) → Left d (j .controller)
+    (life : Lifetime) (d : Controller) (image : Lent) (j : Judged) → RestartEnsures life d image j → Accepts (j .verdict) → Left d (j .controller)
 
--- ---- "A saved image restarts the settings it was saved from, request and output by the restart rules"
+-- ---- what a wrong sumcheck brings
+
+-- "request Manual, HO 9999, LO 0, OP minimum": "LO, or .. HO with S2.2 ON"; "an illegal 44h is 0", which is byte 131; and the parameters are legal whatever was carried
+pub record Mended (image : List ℕ) (d n : Controller) : Type 0 where
+  pub fault : n .core .conditions .fault ≡ true
+  pub request : n .core .conditions .request ≡ Manual
+  pub high : value (n .core .parameters) 15 ≡ pos 9999
+  pub low : value (n .core .parameters) 16 ≡ pos 0
+  pub output : n .output ≡ (if bit (d .core .sw) 14 then pos 9999 else pos 0) *ℤ pos 65536
+  pub user1 : n .core .marks .user1 ≡ (leb (getD image 131 0) 7 && bit (getD image 131 0) 0)
+  pub user2 : n .core .marks .user2 ≡ (leb (getD image 131 0) 7 && bit (getD image 131 0) 1)
+  pub power : n .core .marks .measuredpower ≡ (leb (getD image 131 0) 7 && bit (getD image 131 0) 2)
+  pub legal : Legal (n .core .parameters)
+
+abbrev pub WrongSumMends : Type 0
+WrongSumMends =
+    (life : Lifetime) (d : Controller) (image : Lent) (j : Judged) → RestartEnsures life d image j → Accepts (j .verdict) → sumRight (now image) ≡ false →
+    Mended (now image) d (j .controller)
+
+-- ---- the bytes of a saved image
+
+-- "two's complement"
+abbrev pub wordFor : ℤ → ℕ
+wordFor v = if ltZ v (pos 0) then 65536 - natAbs v else natAbs v
+
+-- "0 M, 1 A, 2 R"
+abbrev pub codeFor : Request → ℕ
+codeFor Manual = 0
+codeFor Auto = 1
+codeFor Remote = 2
+
+-- parameter 1 at byte 3, and every five bytes the next; OP, which is our own, at 118; request, fault and 44h at 123, 127 and 131: "bits 0, 1 user bits 1, 2, bit 2 MD bit 4"
+pub record SavedBytes (c : Controller) (image : List ℕ) : Type 0 where
+  pub size : length image ≡ 137
+  pub heads : headsRight image ≡ true
+  pub parameters : (n : ℕ) → n < 23 → wordAt image (5 * n + 3) ≡ wordFor (value (c .core .parameters) (n + 1))
+  pub electrical : ℕ
+  pub own : OwnOutput c (wordAt image 118) electrical
+  pub request : getD image 123 0 ≡ codeFor (c .core .conditions .request)
+  pub fault : getD image 127 0 ≡ (if c .core .conditions .fault then 1 else 0)
+  pub marks : getD image 131 0 ≡ (if c .core .marks .user1 then 1 else 0) + (if c .core .marks .user2 then 2 else 0) + (if c .core .marks .measuredpower then 4 else 0)
+  pub sum : sumRight image ≡ true
+
+abbrev pub SaveLays : Type 0
+SaveLays =
+    (word : ℕ) (calls : Calls) (hs : List Handed) (c : Controller) → Linked word calls hs c →
+    (life : Lifetime) (buffer : Lent) (r : Verdict) (after : List ℕ) → SaveEnsures life c buffer r after → Accepts r → SavedBytes c (take 137 after)
+
+-- ---- a saved image restarts the settings it was saved from, request and output by the restart rules
 
 -- of an image that was saved from c: what comes back, and what is set
 pub record ComesBack (c d n : Controller) : Type 0 where
@@ -69,11 +158,11 @@ pub record ComesBack (c d n : Controller) : Type 0 where
 abbrev pub SavedRestarts : Type 0
 SavedRestarts =
     (word : ℕ) (calls : Calls) (hs : List Handed) (c : Controller) → Linked word calls hs c →
-    (life : Lifetime) (buffer : Lent) (r : Verdict) (after : List ℕ) → SaveEnsures life c buffer r after → isTaken r →
+    (life : Lifetime) (buffer : Lent) (r : Verdict) (after : List ℕ) → SaveEnsures life c buffer r after → Accepts r →
     (later : Lifetime) (d : Controller) (image : Lent) (j : Judged) → now image ≡ take 137 after → RestartEnsures later d image j →
-    (isSound (now image) ≡ true) × isTaken (j .verdict) × ComesBack c d (j .controller)
+    (isSound (now image) ≡ true) × Accepts (j .verdict) × ComesBack c d (j .controller)
 
--- ---- "a sound image whose output is within its limits, restarted with the power-fail switch off, saves to the same bytes"
+-- ---- a sound image whose output is within its limits, restarted with the power-fail switch off, saves to the same bytes
 
 -- in an image's bytes the values of HO, LO and OP begin at 73, 78 and 118
 pub record WithinItsLimits (image : List ℕ) : Type 0 where
@@ -85,6 +174,6 @@ SavesTheSame =
     (life : Lifetime) (d : Controller) (image : Lent) (j : Judged) →
     ((k : ℕ) → getD (now image) k 0 < 256) → isSound (now image) ≡ true → WithinItsLimits (now image) → bit (d .core .sw) 11 ≡ false →
     RestartEnsures life d image j →
-    isTaken (j .verdict) ×
+    Accepts (j .verdict) ×
     ((later : Lifetime) (buffer : Lent) (r : Verdict) (after : List ℕ) → 137 ≤ length (now buffer) → SaveEnsures later (j .controller) buffer r after →
-    isTaken r × (after ≡ now image ++ drop 137 (now buffer)))
+    Accepts r × (after ≡ now image ++ drop 137 (now buffer)))

@@ -1,4 +1,4 @@
--- Document 01, One scan, step 6: what a scan does to the output, in each mode.
+-- Document 01: what a call does to the output. One scan, step 6, in each mode; a write; a restart.
 use mathlib.Core.Bool.{Bool}
 use Prim.Native.Nat.{ℕ, min}
 use lib.IntN.{ℤ, pos, negℤ}

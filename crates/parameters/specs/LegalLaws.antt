@@ -9,7 +9,7 @@ use lib.ListN.{length, getD, set, length-set}
 use lib.Seq.{getD-set-same, getD-set-other}
 use lib.Signed.{leZ, ltZ, _≤ℤ_, _<ℤ_}
 use borrow.Author.Tests.{eqb-true, eqb-false, ltb-true, ltb-false}
-use Rattle.integers.specs.Choice.{if_then_else_, by-cases, never}
+use Rattle.integers.specs.Choice.{if_then_else_, by-cases, never, both}
 use Rattle.integers.specs.Operations.{number}
 use Rattle.integers.specs.Parts.{integers, apart}
 use Rattle.parameters.specs.Legal.{Legal, keeps, inRange, pairInOrder, isWithin, inOrder, partner}
@@ -140,10 +140,6 @@ pub record Ranges (p : Parameters) : Type 0 where
   pub setpoint : Inside (t.LS p) (t.SL p) (t.HS p)
   pub ratio : Inside (t.LR p) (t.RS p) (t.HR p)
   pub bias : Inside (negℤ (pos 9999)) (t.RB p) (pos 9999)
-
-pub both : (a b : Bool) → a && b ≡ true → (a ≡ true) × (b ≡ true)
-both true b e = (refl, e)
-both false b e = (e, let z : _≡_ {A = Bool} false true = e in cc)
 
 pub inside : (low high v : ℤ) → isWithin low high v ≡ true → Inside low v high
 inside low high v e = let h = both (leZ low v) (leZ v high) e in omega (arith, integers, h .0, h .1)

@@ -32,8 +32,8 @@ unfoldable pub byPairs : Parameters → Parameters
 byPairs p = record { values = listed (pairedValue p) 0 24 }
 
 -- "then SL and RS as carried are limited"
-unfoldable pub settingsLimited : Parameters → Parameters
-settingsLimited p = limitedAnew (limitedAnew p 20 10 9) 21 8 7
+unfoldable pub setpointAndRatioLimited : Parameters → Parameters
+setpointAndRatioLimited p = limitedAnew (limitedAnew p 20 10 9) 21 8 7
 
 unfoldable pub mended : Parameters → Parameters
-mended p = settingsLimited (byPairs (byRange (widestOutput p)))
+mended p = setpointAndRatioLimited (byPairs (byRange (widestOutput p)))

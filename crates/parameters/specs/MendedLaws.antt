@@ -6,13 +6,13 @@ use native.Mathlib.Omega.{arith}
 use lib.IntN.{ℤ, pos, negℤ}
 use lib.ListN.{length, length-set}
 use lib.Signed.{leZ}
-use Rattle.integers.specs.Choice.{if_then_else_, by-cases}
+use Rattle.integers.specs.Choice.{if_then_else_, by-cases, both}
 use Rattle.integers.specs.Limit.{limited, limited-low, limited-high}
 use Rattle.integers.specs.Listed.{listed}
 use Rattle.integers.specs.Parts.{integers}
 use Rattle.parameters.specs.Legal.{isWithin, inOrder, keeps, areLegal, Legal}
-use Rattle.parameters.specs.LegalLaws.{both, and-true, value-with}
-use Rattle.parameters.specs.Mended.{widestOutput, rangedValue, byRange, pairedValue, byPairs, settingsLimited, mended}
+use Rattle.parameters.specs.LegalLaws.{and-true, value-with}
+use Rattle.parameters.specs.Mended.{widestOutput, rangedValue, byRange, pairedValue, byPairs, setpointAndRatioLimited, mended}
 use Rattle.parameters.specs.Range.{each-in, each-of, each-tested, tested-each}
 use Rattle.parameters.specs.Table.{value, withValue, ruleOf}
 use Rattle.parameters.specs.Written.{limitedAnew}
@@ -80,7 +80,7 @@ widest-unused p size unused =
     value-with (withValue p 15 (pos 9999)) 16 (pos 0) (length-set (p .values) 15 (pos 9999) ∙ size) (omega arith) 0 ∙ value-with p 15 (pos 9999) size (omega arith) 0 ∙ unused
 
 pub mended-legal : (p : Parameters) → length (p .values) ≡ 24 → value p 0 ≡ pos 0 → Legal (mended p)
-unfolding mended settingsLimited limitedAnew byPairs pairedValue byRange rangedValue listed value withValue ruleOf
+unfolding mended setpointAndRatioLimited limitedAnew byPairs pairedValue byRange rangedValue listed value withValue ruleOf
 mended-legal p size unused =
     let w : ℕ → ℤ = value (widestOutput p) in
     let q : ℕ → ℤ = value (byPairs (byRange (widestOutput p))) in

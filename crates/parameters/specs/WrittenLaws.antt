@@ -8,11 +8,11 @@ use lib.IntN.{ℤ}
 use lib.ListN.{length, set, length-set}
 use lib.Signed.{leZ}
 use borrow.Author.Tests.{eqb-true, eqb-false, eq-eqb, ne-eqb}
-use Rattle.integers.specs.Choice.{if_then_else_, by-cases, never}
+use Rattle.integers.specs.Choice.{if_then_else_, by-cases, never, both}
 use Rattle.integers.specs.Limit.{limited, limited-low, limited-high}
 use Rattle.integers.specs.Parts.{integers}
 use Rattle.parameters.specs.Legal.{Legal, keeps, inRange, pairInOrder, isWithin, inOrder, partner, ordered}
-use Rattle.parameters.specs.LegalLaws.{changed, value-with, both, and-true, legal-by}
+use Rattle.parameters.specs.LegalLaws.{changed, value-with, and-true, legal-by}
 use Rattle.parameters.specs.Range.{each-in}
 use Rattle.parameters.specs.RuleLaws.{is-from, not-from}
 use Rattle.parameters.specs.Table.{value, withValue, ruleOf, isFrom}
@@ -168,17 +168,22 @@ module _ (p : Parameters) (legal : Legal p) (k : ℕ) (v : ℤ) (first : 1 ≤ k
   set-later : (m : ℕ) (w : ℤ) → m < 24 → (n : ℕ) → (n ≡ m → ⊥) → value (withValue next m w) n ≡ changed (value p) k v n
   set-later m w l n d = value-with next m w next-size l n ∙ rw (ne-eqb n m d) (next-is n)
 
+  -- the three ways of a write: SL limited anew, RS limited anew, neither
+  by-way : (P : Parameters → Type 0) → (isFrom k 9 10 ≡ true → P (limitedAnew next 20 10 9)) → (isFrom k 9 10 ≡ false → isFrom k 7 8 ≡ true → P (limitedAnew next 21 8 7)) →
+      (isFrom k 9 10 ≡ false → isFrom k 7 8 ≡ false → P next) → P (written p k v)
+  unfolding written next
+  by-way P setpoint ratio neither =
+      by-cases P (isFrom k 9 10) _ _ setpoint (λ e. by-cases P (isFrom k 7 8) _ _ (ratio e) (neither e))
+
   pub elsewhere : (n : ℕ) → (n ≡ 20 → ⊥) → (n ≡ 21 → ⊥) → value (written p k v) n ≡ changed (value p) k v n
-  unfolding written limitedAnew next
+  unfolding limitedAnew
   elsewhere n a b =
-      by-cases (λ (q : Parameters). value q n ≡ changed (value p) k v n) (isFrom k 9 10) _ _ (λ e. set-later 20 _ (omega arith) n a)
-      (λ e. by-cases (λ (q : Parameters). value q n ≡ changed (value p) k v n) (isFrom k 7 8) _ _ (λ d. set-later 21 _ (omega arith) n b) (λ d. next-is n))
+      by-way (λ (q : Parameters). value q n ≡ changed (value p) k v n) (λ e. set-later 20 _ (omega arith) n a) (λ e d. set-later 21 _ (omega arith) n b) (λ e d. next-is n)
 
   written-size : length (written p k v .values) ≡ 24
-  unfolding written limitedAnew next withValue
+  unfolding limitedAnew withValue
   written-size =
-      by-cases (λ (q : Parameters). length (q .values) ≡ 24) (isFrom k 9 10) _ _ (λ e. length-set (set (p .values) k v) 20 _ ∙ next-size)
-      (λ e. by-cases (λ (q : Parameters). length (q .values) ≡ 24) (isFrom k 7 8) _ _ (λ d. length-set (set (p .values) k v) 21 _ ∙ next-size) (λ d. next-size))
+      by-way (λ (q : Parameters). length (q .values) ≡ 24) (λ e. length-set (next .values) 20 _ ∙ next-size) (λ e d. length-set (next .values) 21 _ ∙ next-size) (λ e d. next-size)
 
   -- ---- the values at 20 and 21
 
@@ -193,32 +198,24 @@ module _ (p : Parameters) (legal : Legal p) (k : ℕ) (v : ℤ) (first : 1 ≤ k
       rw (low-is, high-is) (value-with next m w next-size l m ∙ rw (eq-eqb m m refl) refl)
 
   setpoint-anew : isFrom k 9 10 ≡ true → let g = value (written p k v) in g 20 ≡ limited (g 10) (g 9) (value next 20)
-  unfolding written next
-  setpoint-anew =
-      by-cases (λ (q : Parameters). isFrom k 9 10 ≡ true → value q 20 ≡ limited (value q 10) (value q 9) (value next 20)) (isFrom k 9 10) _ _
-      (λ e d. limited-value 20 10 9 (omega arith) (λ q. omega arith) (λ q. omega arith)) (λ e d. never (sym e ∙ d))
+  setpoint-anew e =
+      by-way (λ (q : Parameters). value q 20 ≡ limited (value q 10) (value q 9) (value next 20)) (λ f. limited-value 20 10 9 (omega arith) (λ q. omega arith) (λ q. omega arith))
+      (λ f d. never (sym f ∙ e)) (λ f d. never (sym f ∙ e))
 
   ratio-anew : isFrom k 7 8 ≡ true → let g = value (written p k v) in g 21 ≡ limited (g 8) (g 7) (value next 21)
-  unfolding written next
-  ratio-anew =
-      by-cases (λ (q : Parameters). isFrom k 7 8 ≡ true → value q 21 ≡ limited (value q 8) (value q 7) (value next 21)) (isFrom k 9 10) _ _
-      (λ e d. let x = is-from k 9 10 e in let y = is-from k 7 8 d in absurd (omega arith))
-      (λ e. by-cases (λ (q : Parameters). isFrom k 7 8 ≡ true → value q 21 ≡ limited (value q 8) (value q 7) (value next 21)) (isFrom k 7 8) _ _
-      (λ f d. limited-value 21 8 7 (omega arith) (λ q. omega arith) (λ q. omega arith)) (λ f d. never (sym f ∙ d)))
+  ratio-anew e =
+      by-way (λ (q : Parameters). value q 21 ≡ limited (value q 8) (value q 7) (value next 21)) (λ f. let x = is-from k 9 10 f in let y = is-from k 7 8 e in absurd (omega arith))
+      (λ f d. limited-value 21 8 7 (omega arith) (λ q. omega arith) (λ q. omega arith)) (λ f d. never (sym d ∙ e))
 
   setpoint-stays : isFrom k 9 10 ≡ false → value (written p k v) 20 ≡ changed (value p) k v 20
-  unfolding written limitedAnew next
-  setpoint-stays =
-      by-cases (λ (q : Parameters). isFrom k 9 10 ≡ false → value q 20 ≡ changed (value p) k v 20) (isFrom k 9 10) _ _ (λ e d. never (sym d ∙ e))
-      (λ e. by-cases (λ (q : Parameters). isFrom k 9 10 ≡ false → value q 20 ≡ changed (value p) k v 20) (isFrom k 7 8) _ _
-      (λ f d. set-later 21 _ (omega arith) 20 (λ q. omega arith)) (λ f d. next-is 20))
+  unfolding limitedAnew
+  setpoint-stays e =
+      by-way (λ (q : Parameters). value q 20 ≡ changed (value p) k v 20) (λ f. never (sym e ∙ f)) (λ f d. set-later 21 _ (omega arith) 20 (λ q. omega arith)) (λ f d. next-is 20)
 
   ratio-stays : isFrom k 7 8 ≡ false → value (written p k v) 21 ≡ changed (value p) k v 21
-  unfolding written limitedAnew next
-  ratio-stays =
-      by-cases (λ (q : Parameters). isFrom k 7 8 ≡ false → value q 21 ≡ changed (value p) k v 21) (isFrom k 9 10) _ _
-      (λ e d. set-later 20 _ (omega arith) 21 (λ q. omega arith))
-      (λ e. by-cases (λ (q : Parameters). isFrom k 7 8 ≡ false → value q 21 ≡ changed (value p) k v 21) (isFrom k 7 8) _ _ (λ f d. never (sym d ∙ f)) (λ f d. next-is 21))
+  unfolding limitedAnew
+  ratio-stays e =
+      by-way (λ (q : Parameters). value q 21 ≡ changed (value p) k v 21) (λ f. set-later 20 _ (omega arith) 21 (λ q. omega arith)) (λ f d. never (sym e ∙ d)) (λ f d. next-is 21)
 
   module _ (range : inRange (ruleOf k) (value p) v ≡ true) (order : pairInOrder (ruleOf k) (value p) k v ≡ true) where
     row-kept : (n : ℕ) → 1 ≤ n → n ≤ 23 → (n ≡ 20 → ⊥) → (n ≡ 21 → ⊥) → isBetween (ruleOf n) ≡ false → (isPair (ruleOf n) ≡ true → Paired n) →

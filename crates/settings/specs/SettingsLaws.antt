@@ -11,6 +11,7 @@ use lib.IntN.{ℤ, pos}
 use lib.ListN.{length, getD, take, length-take, length-append, List·getD-append}
 use lib.Seq.{take-at, getD-at, ext-getD, getD-take, take-all, take-suc}
 use borrow.Author.Tests.{lt-ltb, eq-eqb, ne-eqb, le-leb, leb-true, eqb-true}
+use Rattle.integers.specs.Choice.{both}
 use Rattle.integers.specs.Listed.{listed, listed-at, listed-length}
 use Rattle.integers.specs.TwosComplement.{asWord, word-back, value-back, word-most}
 use Rattle.fields.specs.Fields.{lengthOf, sumOf, withSumcheck}
@@ -20,7 +21,7 @@ use Rattle.modes.specs.declared.Request.the-variants.{Manual, Auto, Remote}
 use Rattle.words.specs.WordLaws.{weight-most}
 use Rattle.words.specs.declared.Marks.{Marks}
 use Rattle.parameters.specs.Legal.{Legal}
-use Rattle.parameters.specs.LegalLaws.{value-most, by-place, both}
+use Rattle.parameters.specs.LegalLaws.{value-most, by-place}
 use Rattle.parameters.specs.Range.{each-in}
 use Rattle.parameters.specs.Table.{value}
 use Rattle.settings.specs.Settings.{requestNumber, faultNumber, marksNumber, valueAt, valuesOf, requestIn, marksIn, parameterIn, parametersIn, settingsIn, isSumRight, areOthersLegal}
@@ -105,7 +106,7 @@ module _ (s : Settings) where
   unfolding withSumcheck
   front = take-at (valuesOf s) (sumOf (valuesOf s) ∷ []) 27 long
 
-  saved-at : (n : ℕ) → n < 27 → getD saved n 0 ≡ valueAt s n
+  pub saved-at : (n : ℕ) → n < 27 → getD saved n 0 ≡ valueAt s n
   unfolding withSumcheck valuesOf
   saved-at n h =
       List·getD-append (valuesOf s) (sumOf (valuesOf s) ∷ []) 0 n (omega (arith, long)) ∙ listed-at (valueAt s) 0 0 27 n h ∙ ap (valueAt s) (zero-add n)

@@ -25,6 +25,6 @@ use Rattle.worked.specs.Figures.{AllHold}
 use Rattle.worked.specs.ReckonedRestarts.{reckonedRestarts}
 
 pub reckoned-restarts-hold : AllHold reckonedRestarts
-unfolding reckonedRestarts r.restart r.restartCore r.restartTests r.restartAccepted r.takenSettings r.mendedSettings r.isLegal v.savedImage v.settingsNow v.settingsOf startReadings opOf s.handedBack s.controllerAfter s.refused declinedBy switchesOf f.fieldsFrom f.fieldBytes f.valueBytes f.tagOf f.lengthOf f.withSumcheck f.sumOf f.sum f.saveTests f.savedIn g.formedFrom g.valuesFrom g.valueIn g.isHeaded areLegal every m.mended m.settingsLimited m.byPairs m.pairedValue m.byRange m.rangedValue m.widestOutput limitedAnew value withValue ruleOf t.imageOf t.valuesOf t.valueAt t.marksNumber t.marksIn t.parameterIn t.parametersIn t.settingsIn t.isSumRight t.areOthersLegal t.legalMarks listed asWord fromWord limited atLeast atMost storedUnits limitedStored o.storedArithmetic o.changed o.limitedTo o.carriedOut u.minimumOf u.restartedTo u.restartInstruction
+unfolding reckonedRestarts r.restart r.restartCore r.restartTests r.restartAccepted r.takenSettings r.mendedSettings r.isLegal v.savedImage v.settingsNow v.settingsOf startReadings opOf s.handedBack s.controllerAfter s.refused declinedBy switchesOf f.fieldsFrom f.fieldBytes f.valueBytes f.tagOf f.lengthOf f.withSumcheck f.sumOf f.sum f.saveTests f.savedIn g.formedFrom g.valuesFrom g.valueIn g.isHeaded areLegal every m.mended m.setpointAndRatioLimited m.byPairs m.pairedValue m.byRange m.rangedValue m.widestOutput limitedAnew value withValue ruleOf t.imageOf t.valuesOf t.valueAt t.marksNumber t.marksIn t.parameterIn t.parametersIn t.settingsIn t.isSumRight t.areOthersLegal t.legalMarks listed asWord fromWord limited atLeast atMost storedUnits limitedStored o.storedArithmetic o.changed o.limitedTo o.carriedOut u.minimumOf u.restartedTo u.restartInstruction
 reckoned-restarts-hold =
     (refl, (refl, (refl, (refl, (refl, (refl, (refl, (refl, (refl, (refl, (refl, (refl, (refl, (refl, (refl, (refl, (refl, (refl, (refl, (refl, (refl, (refl, (refl, (refl, (refl, (refl, (refl, (refl, (refl, (refl, (refl, (refl, (refl, (refl, (refl, (refl, (refl, (refl, (refl, (refl, (refl, (refl, (refl, (refl, (refl, (refl, (refl, (refl, (refl, (refl, (refl, (refl, (refl, (refl, (refl, (refl, (refl, (refl, (refl, (refl, (refl, (refl, (refl, (refl, (refl, (refl, (refl, (refl, (refl, (refl, (refl, (refl, (refl, (refl, (refl, (refl, (refl, (refl, (refl, (refl, (refl, (refl, (refl, (refl, (refl, (refl, (refl, (refl, (refl, (refl, (refl, ((refl, refl), ((refl, refl), ((refl, refl), ((refl, refl), ((refl, refl), ((refl, refl), ((refl, refl), ((refl, refl), ((refl, refl), ((refl, refl), tt)))))))))))))))))))))))))))))))))))))))))))))))))))))))))))))))))))))))))))))))))))))))))))))))))))))

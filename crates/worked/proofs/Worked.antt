@@ -22,7 +22,7 @@ use Rattle.scaling.specs.Ratio.{ratioQuotient, inverseQuotient}
 use Rattle.scaling.specs.Scale.{scaled}
 use Rattle.setpoints.specs.Reckoning as r
 use Rattle.setpoints.specs.Setpoints as p
-use Rattle.terms.specs.Fraction.{whole, atLeast, atMost, limited, stored, storedUnits, limitedStored}
+use Rattle.terms.specs.Fraction.{whole, plus, atLeast, atMost, limited, stored, storedUnits, limitedStored}
 use Rattle.terms.specs.Terms.{proportionalTerm, integralTerm, derivativeTerm, limitedTerm, storedTerm}
 use Rattle.outputs.specs.Deviation as d
 use Rattle.outputs.specs.Instruction as o
@@ -58,10 +58,11 @@ unfolding c.savedImage c.settingsNow c.settingsOf State.freshController State.fr
 image-figure sw = refl
 
 pub worked : AllHold figures
-unfolding figures proportionalTerm integralTerm derivativeTerm limitedTerm storedTerm whole atLeast atMost limited stored storedUnits nearestEven nearestAway halfEven halfUp scaled ratioQuotient inverseQuotient counted opensAfter byteOf mdHigh mdLow MD dsLow DS buttonsOf pinsOf switchesOf
+unfolding figures o.changed o.exactArithmetic plus proportionalTerm integralTerm derivativeTerm limitedTerm storedTerm whole atLeast atMost limited stored storedUnits nearestEven nearestAway halfEven halfUp scaled ratioQuotient inverseQuotient counted opensAfter byteOf mdHigh mdLow MD dsLow DS buttonsOf pinsOf switchesOf
 worked =
     (lit< tt, lit< tt, refl) and refl and
     (lit< tt, lit< tt, refl) and refl and
+    (lit< tt, lit< tt, refl) and
     refl and
     (lit< tt, lit< tt, refl) and refl and
     refl and refl and

@@ -17,6 +17,7 @@ use Rattle.scaling.specs.Scale.{scaled}
 use Rattle.terms.specs.Fraction.{Fraction, Positive, whole}
 use Rattle.terms.specs.Terms.{proportionalTerm, integralTerm, derivativeTerm, limitedTerm, storedTerm}
 use Rattle.terms.specs.declared.Tuning.{Tuning}
+use Rattle.outputs.specs.Instruction.{addTerms, exactArithmetic, changed}
 use Rattle.controller.specs.Answers.{words, number}
 use Rattle.controller.specs.Save.{savedImage}
 use Rattle.controller.specs.Scan.{scan}
@@ -57,6 +58,8 @@ figures =
     -- "c = 1, TI 10 gives 0.36 units, 23,593 stored"
     ∷ Equal (limitedTerm (integralTerm (example 10 0) (pos 1))) (record { numerator = pos 36; denominator = 100 })
     ∷ (storedTerm (integralTerm (example 10 0) (pos 1)) ≡ pos 23593)
+    -- the exact controller's output with that term and two that are 0: "its limited terms are added unrounded"
+    ∷ Equal (changed exactArithmetic (addTerms (proportionalTerm (example 10 0) (pos 0)) (integralTerm (example 10 0) (pos 1)) (derivativeTerm (example 10 0) (pos 0))) (whole (pos 0))) (record { numerator = pos 36; denominator = 100 })
     -- "D = 1, TD 10 gives -18,204,444 stored"
     ∷ (storedTerm (derivativeTerm (example 0 10) (pos 1)) ≡ negℤ (pos 18204444))
     -- "D = 100 gives -10,000 units"

@@ -5,8 +5,8 @@ use lib.IntN.{pos}
 use mir.Val.{toZ, ofZ}
 use mir.Syntax.{w64}
 use borrow.Author.Needs.{needs}
+use Rattle.integers.specs.Choice.{both}
 use Rattle.integers.specs.Machine.{held}
-use Rattle.parameters.specs.LegalLaws.{both}
 use Rattle.console.proofs.call.write.Statement.{statement}
 use Rattle.console.proofs.call.write.Tie as tie
 

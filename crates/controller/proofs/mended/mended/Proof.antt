@@ -1,6 +1,6 @@
 -- `controller::mended::mended` meets its contract.
 use borrow.Author.Needs.{needs}
-use Rattle.parameters.specs.Mended.{widestOutput, settingsLimited, mended}
+use Rattle.parameters.specs.Mended.{widestOutput, setpointAndRatioLimited, mended}
 use Rattle.controller.proofs.mended.mended.Statement.{statement}
 use Rattle.controller.proofs.mended.mended.Tie as tie
 
@@ -23,7 +23,7 @@ limited-anew-requires-2 : tie.Need-limited-anew-requires-2
 limited-anew-requires-2 c κs = search needs
 
 returns : tie.Need-returns
-unfolding mended settingsLimited widestOutput
+unfolding mended setpointAndRatioLimited widestOutput
 returns c = simp (c .limited-anew2 .ensures) (simp (c .before .limited-anew .ensures) (simp (c .before .before .by-pairs .ensures) (simp (c .before .before .before .by-range .ensures)
     (simp (c .before .before .before .before .with2 .ensures) (simp (c .before .before .before .before .before .with .ensures))))))
 
