@@ -1,4 +1,4 @@
-# Two commands: `make run` proves, builds and plays figures, a drying session and two dryers; `make test` is the gate.
+# Two commands: `make run` proves, builds and plays figures, a drying session, two dryers and power cuts; `make test` is the gate.
 .PHONY: run test
 
 run:

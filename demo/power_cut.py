@@ -2,9 +2,9 @@
 
 Usage: python3 demo/power_cut.py CONSOLE
 
-A dryer runs and saves an image of its settings; then the console is ended, as a power cut would end it, and started anew. It is given that image, the same
-image with the power-fail switch ON, and every mixture of the image with a newer one that a cut in the midst of saving would leave. Ends with status 1 if a
-setting doesn't come back or a mixture is none of what it may be.
+A dryer runs and saves an image of its settings, runs on and saves a newer one; then the console is ended, as a power cut would end it, and started anew. It
+is given the newer image, the same with the power-fail switch ON, and every mixture of the two that a cut in the midst of saving would leave. Ends with
+status 1 if a setting doesn't come back or a mixture gives settings that are neither image's.
 """
 
 import collections
@@ -84,9 +84,9 @@ def after_the_cut(program, switches, image):
     return console, console.ask(f"restart {image or '-'}")
 
 
-def torn(program, older, newer):
+def mixed(program, older, newer):
     """What becomes of each mixture, the first bytes of the newer image over the older one; a state is told by the image that it saves to."""
-    console, counts, torn_once = Console(program, 0), collections.Counter(), None
+    console, counts, faulty = Console(program, 0), collections.Counter(), None
     states = {}
     for name, image in (("the older image's settings", older), ("the newer image's settings", newer)):
         console.ask(f"restart {image}")
@@ -100,9 +100,9 @@ def torn(program, older, newer):
             counts[states.get(console.save(), "UNSEEN by the sumcheck")] += 1
         else:
             counts["the memory fault" if is_fault else "declined"] += 1
-            torn_once = torn_once or (is_fault and mixture)
+            faulty = faulty or (is_fault and mixture)
     console.end()
-    return counts, torn_once
+    return counts, faulty
 
 
 def main():
@@ -118,7 +118,7 @@ def main():
     print("  every setting is back, and the next scan is in Auto" if survived else "  NOT AS BEFORE")
     console, answer = after_the_cut(program, POWER_FAIL, newer)
     show(f"power-fail switch ON: {answer}", standing(console))
-    counts, mixture = torn(program, older, newer)
+    counts, mixture = mixed(program, older, newer)
     print(f"\nThe power fails while the newer image is written over the older one: {IMAGE_BYTES + 1} mixtures\n")
     print("\n".join(f"  {count:4}  {name}" for name, count in counts.items()))
     console, answer = after_the_cut(program, 0, mixture)

@@ -31,7 +31,7 @@ TESTS = (
     ("the gate's own tests", [*PYTHON, "tests/gate_test.py"]),
     ("the reckoner's scans that the rules are proved to give", [*PYTHON, "tests/reckoned_scans.py"]),
     ("the reckoner's writes that the rules are proved to give", [*PYTHON, "tests/reckoned_writes.py"]),
-    ("the reckoner's restarts chosen for such statements", [*PYTHON, "tests/reckoned_restarts.py"]),
+    ("the reckoner's restarts and saves that the rules are proved to give", [*PYTHON, "tests/reckoned_restarts.py"]),
     ("the recorded sessions of two dryers", [*PYTHON, "demo/record.py", "--check"]),
 )
 # Timed, and so alone

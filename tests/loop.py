@@ -43,7 +43,7 @@ def scan(controller, given, arithmetic):
 
 
 def make(controller, call, arithmetic):
-    """Any call, given as its word and numbers, a restart with the image's bytes; further kinds of call are to be added here."""
+    """Any call, given as its word and numbers, a restart with the image's bytes."""
     word, *given = call
     if word == "fresh":
         return fresh(*given, arithmetic), ("ok",)

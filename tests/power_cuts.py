@@ -1,7 +1,7 @@
 """Power cuts while an image is saved over an older one: the newer bytes stand before the cut, the older ones behind it, for a cut at every byte.
 
 A restart from such a mixture is declined, or brings the memory fault, or gives what the older or the newer image gives, unless the values before the cut
-have moved by amounts that add up to nothing: then the sumcheck, which is all that document 01 has against it, is right.  Such cases are counted.  The
+have moved by amounts that add up to a multiple of 65,536: then the sumcheck, which is all that document 01 has against it, is right.  Such cases are counted.  The
 lists are in the form of tests/call_lists.py.  In them the older and the newer image are those saved into 137 bytes, in turn.
 """
 

@@ -185,9 +185,9 @@ fn read(controller: Controller, values: [i64; 6]) -> Step
     }
 }
 
-// A call whose arguments are numbers.
-fn of_numbers(controller: Controller, name: &[u8], a: Arguments, buffer: &mut [u8]) -> Step
-    requires { ⌜ Valid controller × 300 ≤ length (now buffer) ⌝ }
+// A call whose arguments are numbers and that lends nothing.
+fn of_numbers(controller: Controller, name: &[u8], a: Arguments) -> Step
+    requires { ⌜ Valid controller ⌝ }
     ensures { λ r. ⌜ Valid (r .controller) ⌝ }
 {
     let values = a.values;
@@ -202,9 +202,6 @@ fn of_numbers(controller: Controller, name: &[u8], a: Arguments, buffer: &mut [u
     }
     if check::same(name, b"fresh") && lines::has(a, 1) {
         return fresh(controller, values);
-    }
-    if check::same(name, b"save") && lines::has(a, 1) {
-        return crate::image::save(controller, values[0], buffer);
     }
     no_call(controller)
 }
@@ -240,5 +237,8 @@ pub fn of_line(controller: Controller, line: &[u8], len: usize, buffer: &mut [u8
         return of_image(controller, call, to);
     }
     let a = lines::arguments_of(call, to);
-    of_numbers(controller, &call[from..to], a, buffer)
+    if check::same(&call[from..to], b"save") && lines::has(a, 1) {
+        return crate::image::save(controller, a.values[0], buffer);
+    }
+    of_numbers(controller, &call[from..to], a)
 }

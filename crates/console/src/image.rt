@@ -1,4 +1,5 @@
 // What a line asks of an image: a restart with one, or saving one.
+ghost use mathlib.Core.Path.{_≡_};
 ghost use Prim.Native.Nat.{_≤_};
 ghost use lib.ListN.{length};
 ghost use Rattle.controller.specs.Valid.{Valid};
@@ -9,6 +10,20 @@ use signals::Verdict;
 
 // What each byte of the buffer is before a save: none but the image's bytes may differ from it afterwards.
 const BEFORE: u8 = 0xA5;
+
+// As many zeros as a line has room for bytes.
+fn zeros() -> [u8; 346]
+    ensures { λ r. ⌜ 346 ≡ length r ⌝ }
+{
+    [0; 346]
+}
+
+// A buffer to save into.
+pub fn buffer() -> [u8; 300]
+    ensures { λ r. ⌜ 300 ≡ length r ⌝ }
+{
+    [0; 300]
+}
 
 fn restarted(controller: Controller, image: &[u8]) -> Step
     requires { ⌜ Valid controller ⌝ }
@@ -28,7 +43,7 @@ pub fn restart(controller: Controller, word: &[u8]) -> Step
     requires { ⌜ Valid controller ⌝ }
     ensures { λ r. ⌜ Valid (r .controller) ⌝ }
 {
-    let mut bytes = [0u8; 346];
+    let mut bytes = zeros();
     let taken = lines::hexadecimal::bytes_in(word, &mut bytes);
     if taken.ok {
         let count = taken.count;

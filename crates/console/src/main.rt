@@ -6,6 +6,8 @@
 //     restart HEX, or - for no bytes         ok, or refused N
 //     save LENGTH                            image HEX, or refused N
 // A line that is no such call gets `error` and changes nothing. Before the first `fresh` the controller is fresh with SW 0.
+ghost use mathlib.Core.Path.{_≡_};
+ghost use lib.ListN.{length};
 ghost use Rattle.controller.specs.Valid.{Valid};
 use controller::Controller;
 use lines::Place;
@@ -38,7 +40,7 @@ fn line_answer(
     ensures { λ r. ⌜ Valid (r .controller) ⌝ }
 {
     let free = lines::room(out, used);
-    let mut buffer = [0u8; 300];
+    let mut buffer = image::buffer();
     let step = call::of_line(controller, line, len, &mut buffer);
     let next = step.controller;
     let reply = step.reply;
@@ -102,9 +104,16 @@ fn run(buffer: &mut [u8], line: &mut [u8], out: &mut [u8]) -> Turn
     t
 }
 
+// A line of up to 700 bytes, and one byte more to tell that a line is longer.
+fn line_buffer() -> [u8; 701]
+    ensures { λ r. ⌜ 701 ≡ length r ⌝ }
+{
+    [0; 701]
+}
+
 fn main() {
     let mut buffer = io::large_buffer();
-    let mut line = [0u8; 701];
+    let mut line = line_buffer();
     let mut out = io::large_buffer();
     let t = run(&mut buffer, &mut line, &mut out);
     let controller = t.controller;

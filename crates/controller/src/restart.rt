@@ -95,8 +95,8 @@ impl Controller {
     }
 
     // Restarts with an image, any bytes of any number: the next controller and that it was accepted, or refusal 12, 13 or 14 and the controller as it was. The
-    // contract gives the whole of both and asks nothing of either argument, so it rules out an image that is declined for no listed cause, a setting that isn't
-    // the image's, a wrong sumcheck that goes unnoticed, and anything that is kept of the earlier state but SW.
+    // contract gives the whole of both and asks nothing of either argument, so it rules out an image that is declined for no listed cause, a setting other
+    // than the rules give, a wrong sumcheck that goes unnoticed, and anything that is kept of the earlier state but SW.
     pub fn restart(self, image: &[u8]) -> Judged
         ensures { λ r. ⌜ handedWithVerdict r ≡ restart self (now (image .entry)) ⌝ }
     {

@@ -19,7 +19,7 @@ pub data Call : Type 0 where
   scan : Input → Call
   -- to the parameter with this number, of this value: any natural number, any integer
   write : ℕ → ℤ → Call
-  -- with these bytes: any numbers, so many of them as may be
+  -- with these bytes: any numbers, and any count of them
   restart : List ℕ → Call
 
 infixl 20 _then_

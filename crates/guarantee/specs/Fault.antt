@@ -23,7 +23,7 @@ pub data Event : Type 0 where
   another : Event
 
 -- "A fault of 1 or a wrong sumcheck brings the memory fault, any other accepted restart ends it.", told by the bytes of an accepted image. Before each value stand three bytes of
--- tag and length; the values of 1 to 23 and of 41h have two bytes each and begin at byte 3, those of 42h, 43h and 44h are bytes 123, 127 and 131, the sumcheck begins at byte 135
+-- tag and length; the values of 1 to 23 and of 41h have two bytes each, the first at byte 3 and each next one five bytes on, those of 42h, 43h and 44h are bytes 123, 127 and 131, the sumcheck begins at byte 135
 
 -- two bytes, "high byte first"
 abbrev pub wordAt : List ℕ → ℕ → ℕ

@@ -2,7 +2,7 @@
 ghost use Prim.Native.Nat.{_≤_};
 ghost use lib.ListN.{length};
 
-// Bytes taken from a word: whether it was one, and how many.
+// Whether a word was bytes, and how many.
 pub struct Taken {
     pub ok: bool,
     pub count: usize,
@@ -38,8 +38,8 @@ fn put(bytes: &mut [u8], n: usize, b: u8) {
     }
 }
 
-// The bytes of a word with two digits to a byte, or none for the word `-`. An odd number of digits, another character, or more bytes than there is room for
-// are none.
+// The bytes of a word with two digits to a byte, or none for the word `-`. With an odd number of digits, another character, or more bytes than there is room
+// for `ok` is false.
 pub fn bytes_in(word: &[u8], bytes: &mut [u8]) -> Taken
     ensures { λ r. ⌜ r .count ≤ length (now (bytes .exit)) ⌝ }
 {

@@ -1,4 +1,4 @@
-// What the programs share: lines of standard input, the numbers of a line, and answers to standard output. Proved of these functions is that they are
+// What the programs share: lines of standard input, the numbers and bytes of a line, and answers to standard output. Proved of these functions is that they are
 // safe and end; what they read and write is tested.
 ghost use Prim.Native.Nat.{_≤_};
 ghost use lib.ListN.{length};
