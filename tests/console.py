@@ -8,6 +8,8 @@ reckoner and against the program, for each whole input and for each thing that t
 """
 
 import argparse
+import concurrent.futures
+import itertools
 import random
 import sys
 import textwrap
@@ -33,7 +35,8 @@ from program import NO_END, PROGRAM_SECONDS, SHORT_SECONDS, run, run_in_pieces, 
 from shortest import show_broken_claim, show_wrong_answer
 
 DEFAULT_SEED = 6360
-INPUTS = 4                # the lists are shared out among so many runs of the program
+INPUTS, AT_ONCE = 4, 2     # the lists are shared out among so many runs of the program, so many of them at once
+COUNTED = Covered, CoveredParameters, CoveredWrites, CoveredImages, CoveredPowerCuts
 FAULTS_SHOWN, COUNTS_SHOWN = 10, 12
 WIDTH = 150  # of a printed line
 
@@ -52,6 +55,14 @@ class Results:
             self.passed += 1
         else:
             self.faults.append(fault)
+
+    def join(self, other):
+        """With those of a run that went beside."""
+        self.passed += other.passed
+        self.faults += other.faults
+        self.differences += other.differences
+        self.broken_claims += other.broken_claims
+        self.was_endless = self.was_endless or other.was_endless
 
     def add(self, looked, faults):
         self.passed += looked - len(faults)
@@ -106,19 +117,31 @@ def compare(program, lists, results):
     return wrong
 
 
-def all_lists(generator, scans, parameters, writes, images, cuts):
-    """Every list with the object that counts what it meets, shared out among the runs; each run begins with a list that has no fresh start."""
-    kinds = ((call_lists, scans), (parameter_lists, parameters), (write_lists, writes), (image_lists, images), (restart_lists, images), (power_cuts, cuts))
-    lists = [(*each, covered) for module, covered in kinds for each in module.all_lists(generator)]
+def all_lists(generator):
+    """Every list with the place of what counts its calls among `COUNTED`, shared out among the runs; each run begins with a list that has no fresh start."""
+    kinds = ((call_lists, Covered), (parameter_lists, CoveredParameters), (write_lists, CoveredWrites), (image_lists, CoveredImages), (restart_lists, CoveredImages),
+             (power_cuts, CoveredPowerCuts))
+    lists = [(*each, COUNTED.index(covered)) for module, covered in kinds for each in module.all_lists(generator)]
     generator.shuffle(lists)
-    return [[(*call_lists.first_list(generator), scans), *lists[number::INPUTS]] for number in range(INPUTS)]
+    return [[(*call_lists.first_list(generator), COUNTED.index(Covered)), *lists[number::INPUTS]] for number in range(INPUTS)]
+
+
+def compare_part(program, part):
+    """One run of the program with results and counts of its own, so that two can go at once."""
+    results, counted = Results(), [covered() for covered in COUNTED]
+    wrong = compare(program, [(kind, entries, counted[place]) for kind, entries, place in part], results)
+    return results, counted, wrong
 
 
 def compare_lists(program, generator, results):
     """All lists; what they met."""
-    counted = Covered(), CoveredParameters(), CoveredWrites(), CoveredImages(), CoveredPowerCuts()
-    wrong = [compare(program, part, results) for part in all_lists(generator, *counted)]
-    found = [lines for lines in wrong if lines]
+    counted, found = [covered() for covered in COUNTED], []
+    with concurrent.futures.ProcessPoolExecutor(AT_ONCE) as pool:
+        for part_results, part_counted, wrong in pool.map(compare_part, itertools.repeat(program), all_lists(generator)):
+            results.join(part_results)
+            found += [wrong] if wrong else []
+            for whole, part in zip(counted, part_counted, strict=True):
+                whole.join(part)
     if found:
         show_wrong_answer(program, *min(found, key=lambda lines: len(lines[1])))
     for covered in counted:

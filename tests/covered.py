@@ -60,6 +60,10 @@ class Covered:
     def line(self, entry):
         self.counts[f"line: {entry.kind}"] += 1
 
+    def join(self, other):
+        """With what another run met."""
+        self.counts.update(other.counts)
+
     def too_few(self):
         """The names of what was too rarely met, with the count and the least."""
         return [f"too few, {self.title}: {name}: {self.counts[name]}, at least {least} are due" for name, least in self.leasts().items()

@@ -67,6 +67,11 @@ class CoveredWrites(Covered):
         self.words = set()  # MD words written, accepted or not
         self.forget()
 
+    def join(self, other):
+        super().join(other)
+        self.words |= other.words
+        self.counts["different MD words"] = len(self.words)
+
     def forget(self):
         """What was written since the last accepted scan."""
         self.changed, self.MD_written_at_84, self.bit_4_written, self.user_bits_written, self.waits_in = set(), False, False, False, None
