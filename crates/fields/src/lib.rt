@@ -92,7 +92,7 @@ pub fn sumcheck(values: [u16; 28]) -> u16
     sum
 }
 
-// The values with their sumcheck behind them.
+// The values with their sumcheck behind them. The contract rules out a value that changes.
 pub fn with_sumcheck(mut values: [u16; 28]) -> [u16; 28]
     ensures { λ r. ⌜ r ≡ withSumcheck (take 27 values) ⌝ }
 {

@@ -27,7 +27,7 @@ fn marks_in(value: u16) -> Marks
     }
 }
 
-// User bits and MD bit 4 under a wrong sumcheck: an illegal 44h is 0.
+// User bits and MD bit 4 under a wrong sumcheck: an illegal 44h is 0. The contract rules out that some of its bits are kept.
 pub fn legal_marks(values: [u16; 28]) -> Marks
     ensures { λ r. ⌜ r ≡ legalMarks values ⌝ }
 {
@@ -87,7 +87,7 @@ pub fn is_sum_right(values: [u16; 28]) -> bool
     values[27] == fields::sumcheck(values)
 }
 
-// Whether OP, request, fault and 44h are legal.
+// Whether OP, request, fault and 44h are legal. The contract rules out a fault with another request than Manual, and ends that are off by one.
 pub fn are_others_legal(values: [u16; 28]) -> bool
     ensures { λ r. ⌜ r ≡ areOthersLegal values ⌝ }
 {

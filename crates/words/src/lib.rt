@@ -22,6 +22,7 @@ pub struct Shown {
     pub highalarm: bool,
 }
 
+// What a bit of this weight adds. The contract rules out a weight of a bit that isn't set.
 pub fn weight(b: bool, w: u16) -> u16
     ensures { λ r. ⌜ (r ≡ weight b w) × (r ≤ w) ⌝ }
 {
