@@ -3,7 +3,7 @@
 Usage: python3 tests/reckoned_restarts.py [--write]
 
 Restarts in drawn states from images in which one thing is at an end, just beyond it or otherwise of interest, chosen until each thing of `things_met`
-was met by one; and saves in drawn states.  crates/worked/specs/ReckonedRestarts.antt states of each that the rules give the reckoner's whole next state,
+was met by one; and saves in drawn states.  crates/worked/specs/ModelRestarts.antt states of each that the rules give the reckoner's whole next state,
 answer and bytes. Without --write the test fails if that file isn't what the reckoner gives.  The last line printed is 'N passed, M failed', one count for
 each thing that must be met and for each statement.
 """
@@ -26,10 +26,10 @@ from state import OPEN_CAUSE, Parameters, Stored
 from table import CHANNEL_PAIRS, NUMBER, PAIRS, ROWS, range_of
 from words import S2_2, S2_5
 
-FILE = pathlib.Path(__file__).resolve().parent.parent / "crates/worked/specs/ReckonedRestarts.antt"
+FILE = pathlib.Path(__file__).resolve().parent.parent / "crates/worked/specs/ModelRestarts.antt"
 SEED = 6360
 LENT = 0xA5  # what each byte of a buffer is before a save
-HEAD = '''-- Restarts and saves of a reckoner that was made apart from the rules, stated of the rules; proofs/ReckonedRestarts.antt proves them. Made by
+HEAD = '''-- Restarts and saves of a reference model that was made apart from the rules, stated of the rules; proofs/ModelRestarts.antt proves them. Made by
 -- tests/reckoned_restarts.py, which the gate compares with this file.
 use mathlib.Core.Bool.{true, false}
 use mathlib.Core.List.{List, [], _∷_}
@@ -37,25 +37,25 @@ use mathlib.Core.Path.{_≡_}
 use Prim.Native.Nat.{ℕ}
 use lib.IntN.{ℤ, pos, negℤ}
 use lib.ListN.{replicate}
-use Rattle.signals.specs.Refusals.{declinedBy}
+use Rattle.signals.specs.Refusals.{refusedBy}
 use Rattle.fields.specs.Fields.{saveTests, savedIn}
 use Rattle.modes.specs.declared.Request.the-variants.{Manual, Auto, Remote}
 use Rattle.outputs.specs.declared.History.the-variants.{Nothing, One, Two}
-use Rattle.controller.specs.Answers.{Said, acceptance, number, saidBy}
+use Rattle.controller.specs.Answers.{Reply, acceptance, number, replyBy}
 use Rattle.controller.specs.Restart.{restart}
 use Rattle.controller.specs.Save.{savedImage}
 use Rattle.controller.specs.declared.Controller.{Controller}
-use Rattle.worked.specs.Reckoned.{readings, state}
+use Rattle.worked.specs.ModelScans.{readings, state}
 
 -- a restart of the state before it with these bytes leaves the state after it, and this answer
-abbrev pub Restarts : Controller → List ℕ → Controller → Said → Type 0
+abbrev pub Restarts : Controller → List ℕ → Controller → Reply → Type 0
 Restarts before image after answer = restart before image ≡ record { next = after; answer = answer }
 
 -- a save into so many bytes of 165 gives this answer, and these bytes
-abbrev pub Saves : Controller → ℕ → Said → List ℕ → Type 0
+abbrev pub Saves : Controller → ℕ → Reply → List ℕ → Type 0
 Saves before size answer bytes =
     let buffer = replicate {A = ℕ} size 165 in
-    (saidBy (declinedBy (saveTests buffer)) ≡ answer) × (savedIn (savedImage before) buffer ≡ bytes)
+    (replyBy (refusedBy (saveTests buffer)) ≡ answer) × (savedIn (savedImage before) buffer ≡ bytes)
 '''
 SETPOINTS = {"SL": ("LS", "HS"), "RS": ("LR", "HR")}
 SIMPLE = [row.name for row in ROWS if row.name not in SETPOINTS]
@@ -271,7 +271,7 @@ def statement_text(each):
 def text(chosen):
     """The whole file."""
     body = "\n    ∷ ".join(map(statement_text, chosen))
-    return f"{HEAD}\nunfoldable pub reckonedRestarts : List (Type 0)\nreckonedRestarts =\n    {body}\n    ∷ []\n"
+    return f"{HEAD}\nunfoldable pub modelRestarts : List (Type 0)\nmodelRestarts =\n    {body}\n    ∷ []\n"
 
 
 def main():

@@ -3,7 +3,7 @@
 Usage: python3 tests/reckoned_scans.py [--write]
 
 They show alarms, root, bias, power and all three terms within a scan, which the default parameters don't, and the memory fault. These scans
-are chosen until each thing of `things_met` is met by one, and crates/worked/specs/Reckoned.antt states of each that the rules give the reckoner's whole
+are chosen until each thing of `things_met` is met by one, and crates/worked/specs/ModelScans.antt states of each that the rules give the reckoner's whole
 next state and answer. Without --write the test fails if that file isn't what the reckoner gives. The last line printed is 'N passed, M failed'.
 """
 
@@ -19,11 +19,11 @@ from reckoner import scale
 from state import Stored
 from words import mode_of
 
-FILE = pathlib.Path(__file__).resolve().parent.parent / "crates/worked/specs/Reckoned.antt"
+FILE = pathlib.Path(__file__).resolve().parent.parent / "crates/worked/specs/ModelScans.antt"
 SEED = 6360
 REQUESTS = {"M": "Manual", "A": "Auto", "R": "Remote"}
 SWITCHES = {"S2.1": 15, "S2.2": 14, "S2.3": 13, "S2.4": 12, "S2.5": 11, "S2.6": 10, "S2.8": 8, "S1.1": 7}
-HEAD = '''-- Scans of a reckoner that was made apart from the rules, with drawn parameters, stated of the rules; proofs/Reckoned.antt proves them. Made by
+HEAD = '''-- Scans of a reference model that was made apart from the rules, with drawn parameters, stated of the rules; proofs/ModelScans.antt proves them. Made by
 -- tests/reckoned_scans.py, which the gate compares with this file.
 use mathlib.Core.Bool.{Bool, true, false}
 use mathlib.Core.List.{List, [], _∷_}
@@ -36,7 +36,7 @@ use Rattle.modes.specs.declared.Request.the-variants.{Manual, Auto, Remote}
 use Rattle.setpoints.specs.declared.Readings.{Readings}
 use Rattle.outputs.specs.declared.History.{History}
 use Rattle.outputs.specs.declared.History.the-variants.{Nothing, One, Two}
-use Rattle.controller.specs.Answers.{Said, words}
+use Rattle.controller.specs.Answers.{Reply, words}
 use Rattle.controller.specs.Scan.{scan}
 use Rattle.controller.specs.declared.Controller.{Controller}
 
@@ -48,15 +48,15 @@ readings pv sp er mp = record { pv = pv; sp = sp; er = er; mp = mp }
 
 -- SW, parameters, request, memory fault, user bits 1 and 2, MD bit 4, open count, pins, readings, buttons, battery low, low alarm, high alarm, history, output
 abbrev pub state : ℕ → List ℤ → Request → Bool → Bool → Bool → Bool → ℕ → ℕ → Readings → ℕ → Bool → Bool → Bool → History → ℤ → Controller
-state sw numbers request fault user1 user2 power opens pins shown buttons battery low high history output =
+state sw numbers request fault user1 user2 power opencount pins latest buttons battery low high history output =
     record {
       core = record {
         sw = sw;
         parameters = record { values = values numbers };
-        conditions = record { request = request; fault = fault; opens = opens; pins = pins };
-        marks = record { user1 = user1; user2 = user2; measuredpower = power };
-        readings = shown;
-        shown = record { buttons = buttons; batterylow = battery; lowalarm = low; highalarm = high };
+        conditions = record { request = request; fault = fault; opencount = opencount; pins = pins };
+        userbits = record { user1 = user1; user2 = user2; measuredpower = power };
+        readings = latest;
+        indications = record { buttons = buttons; batterylow = battery; lowalarm = low; highalarm = high };
         history = history;
       };
       output = output;
@@ -67,7 +67,7 @@ input pins sample1 sample2 sample3 buttons sensors =
     record { pins = pins; sample1 = sample1; sample2 = sample2; sample3 = sample3; buttons = buttons; sensors = sensors }
 
 -- a scan of the state before it leaves the state after it, and this answer
-abbrev pub Scans : Controller → Input → Controller → Said → Type 0
+abbrev pub Scans : Controller → Input → Controller → Reply → Type 0
 Scans before i after answer = scan before i ≡ record { next = after; answer = answer }
 '''
 
@@ -149,7 +149,7 @@ def text():
     statements = [f"    Scans ({state_text(before)})\n    ({'input ' + ' '.join(map(str, given))}) ({state_text(after)}) (words {' '.join(map(str, answer[1:]))})"
                   for before, given, after, answer in chosen()]
     body = "\n    ∷ ".join(statement.strip() for statement in statements)
-    return HEAD + f"\nunfoldable pub reckoned : List (Type 0)\nreckoned =\n    {body}\n    ∷ []\n", len(statements)
+    return HEAD + f"\nunfoldable pub modelScans : List (Type 0)\nmodelScans =\n    {body}\n    ∷ []\n", len(statements)
 
 
 def main():

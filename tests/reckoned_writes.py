@@ -4,7 +4,7 @@ Usage: python3 tests/reckoned_writes.py [--write]
 
 Writes of every parameter with drawn values in drawn states, chosen until each answer to each parameter and each effect of a write was met by one;
 writes of MD with the memory fault standing; and reads of every number in one state.
-crates/worked/specs/ReckonedWrites.antt states of each that the rules give the reckoner's whole next state and answer. Without --write the test
+crates/worked/specs/ModelWrites.antt states of each that the rules give the reckoner's whole next state and answer. Without --write the test
 fails if that file isn't what the reckoner gives. The last line printed is 'N passed, M failed'.
 """
 
@@ -23,11 +23,11 @@ from state import OPEN_CAUSE, Stored
 from table import NAMES, NUMBER, partner_of, range_of
 from words import mode_of
 
-FILE = pathlib.Path(__file__).resolve().parent.parent / "crates/worked/specs/ReckonedWrites.antt"
+FILE = pathlib.Path(__file__).resolve().parent.parent / "crates/worked/specs/ModelWrites.antt"
 SEED, DRAWS = 6360, 20000
 PINS = (0x00, 0x20, 0x80, 0xA0, 0xA5, 0xC0, 0xE0)  # Hold, Track and neither, each with the Remote pin 0 and 1
 REQUEST_BITS, FAULT_BITS, OTHER_BITS = (0x2000, 0x1000, 0x0800), (0, 0x0100), (0, 0xC6FF)  # the last are all that 01 doesn't take, and bit 4
-HEAD = '''-- Writes and reads of a reckoner that was made apart from the rules, stated of the rules; proofs/ReckonedWrites.antt proves them. Made by
+HEAD = '''-- Writes and reads of a reference model that was made apart from the rules, stated of the rules; proofs/ModelWrites.antt proves them. Made by
 -- tests/reckoned_writes.py, which the gate compares with this file.
 use mathlib.Core.Bool.{true, false}
 use mathlib.Core.List.{List, [], _∷_}
@@ -36,14 +36,14 @@ use Prim.Native.Nat.{ℕ}
 use lib.IntN.{ℤ, pos, negℤ}
 use Rattle.modes.specs.declared.Request.the-variants.{Manual, Auto, Remote}
 use Rattle.outputs.specs.declared.History.the-variants.{Nothing, One, Two}
-use Rattle.controller.specs.Answers.{Said, reading, acceptance, number}
+use Rattle.controller.specs.Answers.{Reply, reading, acceptance, number}
 use Rattle.controller.specs.Read.{read}
 use Rattle.controller.specs.Write.{write}
 use Rattle.controller.specs.declared.Controller.{Controller}
-use Rattle.worked.specs.Reckoned.{readings, state}
+use Rattle.worked.specs.ModelScans.{readings, state}
 
 -- a write to the state before it leaves the state after it, and this answer
-abbrev pub Writes : Controller → ℕ → ℤ → Controller → Said → Type 0
+abbrev pub Writes : Controller → ℕ → ℤ → Controller → Reply → Type 0
 Writes before n v after answer = write before n v ≡ record { next = after; answer = answer }
 '''
 
@@ -116,10 +116,10 @@ def text():
     statements = [f"Writes ({state_text(before)}) {number} {argument(value)} ({state_text(after)}) {answer_text(answer)}"
                   for before, number, value, after, answer in (*drawn_writes(), *fault_writes())]
     shown = drawn_state(random.Random(SEED))
-    reads = [f"(read shown {number} ≡ {answer_text(writes.read(shown, number, Stored)[1])})" for number in range(0, 35)]
+    reads = [f"(read present {number} ≡ {answer_text(writes.read(shown, number, Stored)[1])})" for number in range(0, 35)]
     body = "\n    ∷ ".join([*statements, *reads])
-    return (f"{HEAD}\n-- the state that is read\nabbrev pub shown : Controller\nshown = {state_text(shown)}\n\nunfoldable pub reckonedWrites : List (Type 0)\n"
-            f"reckonedWrites =\n    {body}\n    ∷ []\n"), len(statements) + len(reads)
+    return (f"{HEAD}\n-- the state that is read\nabbrev pub present : Controller\npresent = {state_text(shown)}\n\nunfoldable pub modelWrites : List (Type 0)\n"
+            f"modelWrites =\n    {body}\n    ∷ []\n"), len(statements) + len(reads)
 
 
 def main():

@@ -14,30 +14,30 @@ use Rattle.integers.specs.Choice.{both}
 use Rattle.integers.specs.Limit.{limited, limited-same}
 use Rattle.integers.specs.Operations.{product}
 use Rattle.integers.specs.Parts.{integers}
-use Rattle.signals.specs.Refusals.{declinedBy}
+use Rattle.signals.specs.Refusals.{refusedBy}
 use Rattle.signals.specs.Signals.{switchesOf}
 use Rattle.fields.specs.Fields.{fieldsFrom}
-use Rattle.fields.specs.Reading.{formedFrom}
+use Rattle.fields.specs.Decoding.{formedFrom}
 use Rattle.fields.specs.RoundTrip.{Bytes, saved-formed, saved-values, saved-again, words-of, values-length, image-length}
 use Rattle.parameters.specs.Legal.{areLegal, Legal}
-use Rattle.parameters.specs.MendedLaws.{tested-legal, legal-tested}
+use Rattle.parameters.specs.RepairedLaws.{tested-legal, legal-tested}
 use Rattle.parameters.specs.Table.{LO, HO}
 use Rattle.settings.specs.Settings.{imageOf, parametersIn, settingsIn, isSumRight, areOthersLegal}
 use Rattle.settings.specs.SettingsLaws.{saved, saved-length, saved-right, saved-parameters, settings-back, saved-legal, saved-fits, others-of, values-again}
 use Rattle.settings.specs.declared.Settings.{Settings}
 use Rattle.terms.specs.Fraction.{storedUnits, limitedStored}
-use Rattle.outputs.specs.Instruction.{storedArithmetic, changed, limitedTo, carriedOut}
-use Rattle.outputs.specs.OutputLaws.{Stored, stored-most}
+use Rattle.outputs.specs.Instruction.{storedArithmetic, changed, limitedTo, executed}
+use Rattle.outputs.specs.OutputLaws.{OutputRange, stored-most}
 use Rattle.outputs.specs.Outputs.{restartedTo, restartInstruction}
 use Rattle.controller.specs.Answers.{opOf}
-use Rattle.controller.specs.Restart.{valuesIn, isLegal, restartTests, isSound, takenSettings, restartAccepted, restartCore, controllerRestarted, restart}
+use Rattle.controller.specs.Restart.{valuesIn, isLegal, restartTests, isSound, restoredSettings, restartAccepted, restartCore, controllerRestarted, restart}
 use Rattle.controller.specs.RestartLaws.{in-size, in-unused}
 use Rattle.controller.specs.Save.{settingsOf, settingsNow, savedImage}
-use Rattle.controller.specs.Scan.{controllerAfter, handedBack}
+use Rattle.controller.specs.Scan.{controllerAfter, responseFrom}
 use Rattle.controller.specs.Valid.{Valid}
 use Rattle.controller.specs.declared.Controller.{Controller}
 
-op-most : (x : ℤ) → Stored x → opOf x ≤ 9999
+op-most : (x : ℤ) → OutputRange x → opOf x ≤ 9999
 unfolding opOf
 op-most x h = omega (arith, stored-most x h)
 
@@ -78,16 +78,16 @@ module _ (c : Controller) (valid : Valid c) where
   unfolding isSound now
   saved-sound = rw (eq-eqb (length (savedImage c)) 137 saved-size, saved-headed, values-are, saved-right now, legal-values) refl
 
-  pub saved-accepted : declinedBy (restartTests (savedImage c)) ≡ none
-  unfolding restartTests declinedBy now
+  pub saved-accepted : refusedBy (restartTests (savedImage c)) ≡ none
+  unfolding restartTests refusedBy now
   saved-accepted = rw (eq-eqb (length (savedImage c)) 137 saved-size, saved-headed, values-are, saved-right now, legal-values) refl
 
   pub saved-sum : isSumRight (valuesIn (savedImage c)) ≡ true
   unfolding now
   saved-sum = ap isSumRight values-are ∙ saved-right now
 
-  pub saved-taken : takenSettings (valuesIn (savedImage c)) ≡ settingsNow c
-  unfolding takenSettings now
+  pub saved-taken : restoredSettings (valuesIn (savedImage c)) ≡ settingsNow c
+  unfolding restoredSettings now
   saved-taken = rw (values-are, saved-right now) (settings-back now now-legal)
 
 -- ---- a sound image
@@ -113,8 +113,8 @@ sound-of image e =
 pub sound-size : (image : List ℕ) → isSound image ≡ true → length image ≡ 137
 sound-size image e = sound-of image e .size
 
-pub sound-accepted : (image : List ℕ) → isSound image ≡ true → declinedBy (restartTests image) ≡ none
-unfolding restartTests declinedBy
+pub sound-accepted : (image : List ℕ) → isSound image ≡ true → refusedBy (restartTests image) ≡ none
+unfolding restartTests refusedBy
 sound-accepted image e = let s = sound-of image e in rw (eq-eqb (length image) 137 (s .size), s .formed, s .right, s .legal) refl
 
 pub sound-legal : (image : List ℕ) → isSound image ≡ true → Legal (parametersIn (valuesIn image))
@@ -138,12 +138,12 @@ module _ (d : Controller) (image : List ℕ) (bytes : Bytes image) (sound : isSo
   vs = valuesIn image
 
   settings-are : settingsNow (controllerRestarted d vs) ≡ settingsIn vs
-  unfolding vs settingsNow settingsOf controllerRestarted controllerAfter restartAccepted takenSettings settingsIn carriedOut changed limitedTo restartInstruction restartedTo storedArithmetic
+  unfolding vs settingsNow settingsOf controllerRestarted controllerAfter restartAccepted restoredSettings settingsIn executed changed limitedTo restartInstruction restartedTo storedArithmetic
   settings-are = rw (sound-of image sound .right, off) (rw (op-of-units (LO (parametersIn vs)) (HO (parametersIn vs)) (getD vs 23 0) least most) refl)
 
   -- it saves to the same bytes
   pub same-bytes : savedImage (restart d image .next) ≡ image
-  unfolding savedImage imageOf restart restartCore handedBack controllerRestarted vs isLegal
+  unfolding savedImage imageOf restart restartCore responseFrom controllerRestarted vs isLegal
   same-bytes =
       let s = sound-of image sound in
       rw (sound-accepted image sound)

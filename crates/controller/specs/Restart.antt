@@ -6,18 +6,18 @@ use Prim.Native.Nat.{ℕ}
 use lib.Dec.{eqb}
 use lib.ListN.{length}
 use Rattle.integers.specs.Choice.{if_then_else_}
-use Rattle.signals.specs.Refusals.{declinedBy}
+use Rattle.signals.specs.Refusals.{refusedBy}
 use Rattle.signals.specs.Signals.{switchesOf}
-use Rattle.fields.specs.Reading.{formedFrom, valuesFrom}
+use Rattle.fields.specs.Decoding.{formedFrom, valuesFrom}
 use Rattle.modes.specs.declared.Request.{Request}
 use Rattle.modes.specs.declared.Request.the-variants.{Manual}
 use Rattle.parameters.specs.Legal.{areLegal}
-use Rattle.parameters.specs.Mended.{mended}
-use Rattle.settings.specs.Settings.{parametersIn, settingsIn, isSumRight, areOthersLegal, legalMarks}
+use Rattle.parameters.specs.Repaired.{repaired}
+use Rattle.settings.specs.Settings.{parametersIn, settingsIn, isSumRight, areOthersLegal, legalUserBits}
 use Rattle.settings.specs.declared.Settings.{Settings}
 use Rattle.outputs.specs.Outputs.{restartInstruction}
-use Rattle.controller.specs.Answers.{Handed}
-use Rattle.controller.specs.Scan.{accepts, Outcome, unless, controllerAfter, handedBack}
+use Rattle.controller.specs.Answers.{Response}
+use Rattle.controller.specs.Scan.{accepts, Outcome, unless, controllerAfter, responseFrom}
 use Rattle.controller.specs.State.{startCore}
 use Rattle.controller.specs.declared.Controller.{Controller}
 use Rattle.controller.specs.declared.Core.{Core}
@@ -50,13 +50,13 @@ isSound image = eqb (length image) 137 && formedFrom 0 28 image && isSumRight (v
 -- ---- what an accepted restart takes
 
 -- "A .. wrong sumcheck brings the memory fault .. A wrong sumcheck also sets request Manual, HO 9999, LO 0, OP minimum ..; of parameters 1 to 23 .. an illegal 44h is 0."
--- The OP that was carried isn't used
-unfoldable pub mendedSettings : List ℕ → Settings
-mendedSettings vs = record { parameters = mended (parametersIn vs); op = 0; request = Manual; fault = true; marks = legalMarks vs }
+-- The OP that the image holds isn't used
+unfoldable pub repairedSettings : List ℕ → Settings
+repairedSettings vs = record { parameters = repaired (parametersIn vs); op = 0; request = Manual; fault = true; userbits = legalUserBits vs }
 
--- it "takes the rest": with the right sumcheck the settings that the image carries, "A fault of 1" among them
-unfoldable pub takenSettings : List ℕ → Settings
-takenSettings vs = if isSumRight vs then settingsIn vs else mendedSettings vs
+-- it "takes the rest": with the right sumcheck the settings that the image holds, "A fault of 1" among them
+unfoldable pub restoredSettings : List ℕ → Settings
+restoredSettings vs = if isSumRight vs then settingsIn vs else repairedSettings vs
 
 -- "S2.5 ON makes the request Manual"
 abbrev pub restartedRequest : Bool → Request → Request
@@ -66,23 +66,23 @@ restartedRequest powerfail request = if powerfail then Manual else request
 unfoldable pub restartAccepted : Core → List ℕ → Outcome
 restartAccepted c vs =
     let s = switchesOf (c .sw) in
-    let taken = takenSettings vs in
+    let taken = restoredSettings vs in
     record {
-      next = startCore (c .sw) (taken .parameters) (restartedRequest (s .powerfail) (taken .request)) (taken .fault) (taken .marks);
+      next = startCore (c .sw) (taken .parameters) (restartedRequest (s .powerfail) (taken .request)) (taken .fault) (taken .userbits);
       answer = accepts;
       instruction = restartInstruction (taken .parameters) s (s .powerfail || not (isSumRight vs)) (taken .op);
     }
 
 -- ---- the whole
 
--- a restart, declined or accepted
+-- a restart, refused or accepted
 unfoldable pub restartCore : Core → List ℕ → Outcome
-restartCore c image = unless (declinedBy (restartTests image)) c (restartAccepted c (valuesIn image))
+restartCore c image = unless (refusedBy (restartTests image)) c (restartAccepted c (valuesIn image))
 
 -- our controller after an accepted restart
 unfoldable pub controllerRestarted : Controller → List ℕ → Controller
 controllerRestarted c vs = controllerAfter c (restartAccepted (c .core) vs)
 
--- what `Controller::restart` hands back
-unfoldable pub restart : Controller → List ℕ → Handed
-restart c image = handedBack c (restartCore (c .core) image)
+-- what `Controller::restart` returns
+unfoldable pub restart : Controller → List ℕ → Response
+restart c image = responseFrom c (restartCore (c .core) image)

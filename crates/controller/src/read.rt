@@ -3,7 +3,7 @@ ghost use mathlib.Core.Path.{_≡_};
 ghost use Prim.Native.Nat.{_≤_};
 ghost use Rattle.parameters.specs.Legal.{Legal};
 ghost use Rattle.parameters.specs.Table.{value};
-ghost use Rattle.controller.specs.Answers.{saidOfRead};
+ghost use Rattle.controller.specs.Answers.{replyOfRead};
 ghost use Rattle.controller.specs.Read.{read};
 ghost use Rattle.controller.specs.Valid.{Valid};
 use crate::Controller;
@@ -27,10 +27,10 @@ impl Controller {
     pub const IDENTITY: i32 = 0x3608;
 
     // The value of a parameter in its own units, MD and DS as they stand now, or refusal 4, the only one. The contract rules out a neighbour's value,
-    // a word of an earlier state, and any other refusal; nothing changes, since no controller is handed back.
+    // a word of an earlier state, and any other refusal; nothing changes, since no controller is returned.
     pub fn read(self, number: u64) -> ReadAnswer
         requires { ⌜ Valid self ⌝ }
-        ensures { λ r. ⌜ saidOfRead r ≡ read self number ⌝ }
+        ensures { λ r. ⌜ replyOfRead r ≡ read self number ⌝ }
     {
         let core = self.core;
         let r = core.readings;

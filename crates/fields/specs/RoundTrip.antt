@@ -1,4 +1,4 @@
--- Values that are laid down are taken up again, and fields that are taken up are laid down as the same bytes.
+-- Values that are encoded are decoded again, and fields that are decoded are encoded as the same bytes.
 use mathlib.Core.Path.{_≡_, refl, ap, _∙_}
 use mathlib.Core.Bool.{true, _&&_}
 use mathlib.Core.List.{List, [], _∷_, _++_, append-nil, append-assoc}
@@ -12,7 +12,7 @@ use borrow.Author.Tests.{eq-eqb, eqb-true}
 use Rattle.integers.specs.Choice.{both}
 use Rattle.fields.specs.FieldLaws.{by-length, length-field, startOf, next-start, start-grows}
 use Rattle.fields.specs.Fields.{tagOf, lengthOf, valueBytes, fieldBytes, fieldsFrom}
-use Rattle.fields.specs.Reading.{isHeaded, valueIn, formedFrom, valuesFrom}
+use Rattle.fields.specs.Decoding.{isHeaded, valueIn, formedFrom, valuesFrom}
 
 pub formed-more : (place many : ℕ) (b : List ℕ) → isHeaded (tagOf place) (lengthOf place) b ≡ true →
     formedFrom place (suc many) b ≡ formedFrom (suc place) many (drop (3 + lengthOf place) b)
@@ -24,7 +24,7 @@ pub values-more : (place many : ℕ) (b : List ℕ) →
 unfolding valuesFrom
 values-more place many b = refl
 
--- ---- laid down, then taken up
+-- ---- encoded, then decoded
 
 -- each value fits its field, from this place on
 abbrev pub Fit : ℕ → List ℕ → Type 0
@@ -44,25 +44,25 @@ unfolding valueIn fieldBytes valueBytes
 value-of tag v rest place =
     by-length (λ (n : ℕ). v < 256 ^ n → valueIn n (fieldBytes tag n v ++ rest) ≡ v) (λ h. omega arith) (λ h. omega arith) place
 
-pub laid-formed : (vs : List ℕ) (place : ℕ) (rest : List ℕ) → formedFrom place (length vs) (fieldsFrom place vs ++ rest) ≡ true
+pub encoded-formed : (vs : List ℕ) (place : ℕ) (rest : List ℕ) → formedFrom place (length vs) (fieldsFrom place vs ++ rest) ≡ true
 unfolding fieldsFrom formedFrom
-laid-formed [] place rest = refl
-laid-formed (v ∷ vs) place rest =
+encoded-formed [] place rest = refl
+encoded-formed (v ∷ vs) place rest =
     let field = fieldBytes (tagOf place) (lengthOf place) v in
     let b = (field ++ fieldsFrom (suc place) vs) ++ rest in
     let a : b ≡ field ++ (fieldsFrom (suc place) vs ++ rest) = append-assoc field (fieldsFrom (suc place) vs) rest in
-    cc (formed-more place (length vs) b (ap (isHeaded (tagOf place) (lengthOf place)) a ∙ head-of (tagOf place) v _ place), rest-of (tagOf place) v (fieldsFrom (suc place) vs ++ rest) place, laid-formed vs (suc place) rest)
+    cc (formed-more place (length vs) b (ap (isHeaded (tagOf place) (lengthOf place)) a ∙ head-of (tagOf place) v _ place), rest-of (tagOf place) v (fieldsFrom (suc place) vs ++ rest) place, encoded-formed vs (suc place) rest)
 
-pub laid-values : (vs : List ℕ) (place : ℕ) (rest : List ℕ) → Fit place vs → valuesFrom place (length vs) (fieldsFrom place vs ++ rest) ≡ vs
+pub encoded-values : (vs : List ℕ) (place : ℕ) (rest : List ℕ) → Fit place vs → valuesFrom place (length vs) (fieldsFrom place vs ++ rest) ≡ vs
 unfolding fieldsFrom valuesFrom
-laid-values [] place rest f = refl
-laid-values (v ∷ vs) place rest f =
+encoded-values [] place rest f = refl
+encoded-values (v ∷ vs) place rest f =
     let field = fieldBytes (tagOf place) (lengthOf place) v in
     let b = (field ++ fieldsFrom (suc place) vs) ++ rest in
     let a : b ≡ field ++ (fieldsFrom (suc place) vs ++ rest) = append-assoc field (fieldsFrom (suc place) vs) rest in
-    cc (values-more place (length vs) b, value-of (tagOf place) v (fieldsFrom (suc place) vs ++ rest) place (f .0), rest-of (tagOf place) v (fieldsFrom (suc place) vs ++ rest) place, laid-values vs (suc place) rest (f .1))
+    cc (values-more place (length vs) b, value-of (tagOf place) v (fieldsFrom (suc place) vs ++ rest) place (f .0), rest-of (tagOf place) v (fieldsFrom (suc place) vs ++ rest) place, encoded-values vs (suc place) rest (f .1))
 
--- ---- taken up, then laid down
+-- ---- decoded, then encoded
 
 -- each element is a byte
 abbrev pub Bytes : List ℕ → Type 0
@@ -111,14 +111,14 @@ drop-bytes : (n : ℕ) (b : List ℕ) → Bytes b → Bytes (drop n b)
 drop-bytes n b y = λ k. rw getD-drop (y (n + k))
 
 -- so many fields from this place on, with no byte behind them
-taken-fields : (many place : ℕ) (b : List ℕ) → place + many ≤ 28 → startOf place + length b ≡ startOf (place + many) → Bytes b → formedFrom place many b ≡ true →
+decoded-fields : (many place : ℕ) (b : List ℕ) → place + many ≤ 28 → startOf place + length b ≡ startOf (place + many) → Bytes b → formedFrom place many b ≡ true →
     fieldsFrom place (valuesFrom place many b) ≡ b
 unfolding fieldsFrom valuesFrom formedFrom
-taken-fields zero place [] h e y f = refl
-taken-fields zero place (x ∷ b) h e y f =
+decoded-fields zero place [] h e y f = refl
+decoded-fields zero place (x ∷ b) h e y f =
     let z : startOf (place + 0) ≡ startOf place = ap startOf (add-zero place) in
     let n : ⊥ = omega arith in absurd n
-taken-fields (suc many) place b h e y f =
+decoded-fields (suc many) place b h e y f =
     let hd : isHeaded (tagOf place) (lengthOf place) b ≡ true = both (isHeaded (tagOf place) (lengthOf place) b) _ f .0 in
     let o : startOf place + (3 + lengthOf place) ≡ startOf (place + 1) = next-start place (omega arith) in
     let s : place + suc many ≡ suc place + many = omega arith in
@@ -128,21 +128,21 @@ taken-fields (suc many) place b h e y f =
     let up : startOf (suc place) ≤ startOf (suc place + many) = start-grows many (suc place) (omega arith) in
     let fit : 3 + lengthOf place ≤ length b = omega arith in
     let rest : fieldsFrom (suc place) (valuesFrom (suc place) many (drop (3 + lengthOf place) b)) ≡ drop (3 + lengthOf place) b =
-    taken-fields many (suc place) (drop (3 + lengthOf place) b) (omega arith) (omega (arith, length-drop (3 + lengthOf place) b)) (drop-bytes (3 + lengthOf place) b y)
+    decoded-fields many (suc place) (drop (3 + lengthOf place) b) (omega arith) (omega (arith, length-drop (3 + lengthOf place) b)) (drop-bytes (3 + lengthOf place) b y)
     (both (isHeaded (tagOf place) (lengthOf place) b) _ f .1) in
     cc (field-is (tagOf place) place b fit y hd)
 
 -- ---- at a whole image
 
 pub saved-formed : (vs : List ℕ) → length vs ≡ 28 → formedFrom 0 28 (fieldsFrom 0 vs) ≡ true
-saved-formed vs size = cc (laid-formed vs 0 [], append-nil (fieldsFrom 0 vs))
+saved-formed vs size = cc (encoded-formed vs 0 [], append-nil (fieldsFrom 0 vs))
 
 pub saved-values : (vs : List ℕ) → length vs ≡ 28 → Fit 0 vs → valuesFrom 0 28 (fieldsFrom 0 vs) ≡ vs
-saved-values vs size fit = cc (laid-values vs 0 [] fit, append-nil (fieldsFrom 0 vs))
+saved-values vs size fit = cc (encoded-values vs 0 [] fit, append-nil (fieldsFrom 0 vs))
 
 pub saved-again : (b : List ℕ) → length b ≡ 137 → Bytes b → formedFrom 0 28 b ≡ true → fieldsFrom 0 (valuesFrom 0 28 b) ≡ b
 unfolding startOf
-saved-again b size bytes formed = taken-fields 28 0 b (omega arith) (zero-add (length b) ∙ size) bytes formed
+saved-again b size bytes formed = decoded-fields 28 0 b (omega arith) (zero-add (length b) ∙ size) bytes formed
 
 -- every value of bytes is a word of 16 bits
 value-most : (place : ℕ) (b : List ℕ) → Bytes b → valueIn (lengthOf place) b < 65536

@@ -1,14 +1,14 @@
-// The image as bytes: 28 fields of a tag, a length and a value, laid down in a lent buffer and taken up again; and the sumcheck over the values.
+// The image as bytes: 28 fields of a tag, a length and a value, encoded in the caller's buffer and decoded again; and the sumcheck over the values.
 ghost use mathlib.Core.Path.{_≡_};
 ghost use mathlib.Core.List.{_++_};
 ghost use Prim.Native.Nat.{_+_, _≤_, _<_};
 ghost use lib.ListN.{length, drop, take};
-ghost use Rattle.signals.specs.Refusals.{numberIn, declinedBy};
+ghost use Rattle.signals.specs.Refusals.{numberIn, refusedBy};
 ghost use Rattle.fields.specs.Fields.{tagOf, lengthOf, fieldBytes, fieldsFrom, sumOf, withSumcheck, saveTests, savedIn};
 use signals::Refusal;
 use signals::Verdict;
 
-pub mod reading;
+pub mod decoding;
 
 fn tag_of(place: usize) -> u8
     requires { ⌜ place < 28 ⌝ }
@@ -36,8 +36,8 @@ fn length_of(place: usize) -> u8
     }
 }
 
-// Lays one field at the front of the part that is lent. The contract rules out a byte behind the field that changes.
-fn lay_field(part: &mut [u8], tag: u8, size: u8, value: u16)
+// Encodes one field at the front of the part that is passed. The contract rules out a byte behind the field that changes.
+fn encode_field(part: &mut [u8], tag: u8, size: u8, value: u16)
     requires { ⌜ (3 + size ≤ length (now part)) × (1 ≤ size) × (size ≤ 2) ⌝ }
     ensures { λ _. ⌜ now (part .exit) ≡ fieldBytes tag size value ++ drop (3 + size) (now (part .entry)) ⌝ }
 {
@@ -52,8 +52,8 @@ fn lay_field(part: &mut [u8], tag: u8, size: u8, value: u16)
     }
 }
 
-// Lays all fields, each in the part of the buffer behind the fields before it.
-fn lay(values: [u16; 28], buffer: &mut [u8])
+// Encodes all fields, each in the part of the buffer behind the fields before it.
+fn encode(values: [u16; 28], buffer: &mut [u8])
     requires { ⌜ 137 ≤ length (now buffer) ⌝ }
     ensures { λ _. ⌜ now (buffer .exit) ≡ fieldsFrom 0 values ++ drop 137 (now (buffer .entry)) ⌝ }
 {
@@ -61,21 +61,21 @@ fn lay(values: [u16; 28], buffer: &mut [u8])
     let mut place: usize = 0;
     while place < 28 {
         let size = length_of(place);
-        lay_field(&mut buffer[start..], tag_of(place), size, values[place]);
+        encode_field(&mut buffer[start..], tag_of(place), size, values[place]);
         start = start + 3 + (size as usize);
         place += 1;
     }
 }
 
 // Saves the values of all 28 fields. The contract gives the verdict and every byte of the buffer, so it rules out a refusal of 137 bytes, an image that is
-// laid elsewhere, a byte behind it that changes, and a short buffer that doesn't stay.
+// encoded elsewhere, a byte behind it that changes, and a short buffer that doesn't stay.
 pub fn save(values: [u16; 28], buffer: &mut [u8]) -> Verdict
-    ensures { λ r. ⌜ (numberIn r ≡ declinedBy (saveTests (now (buffer .entry)))) × (now (buffer .exit) ≡ savedIn (fieldsFrom 0 values) (now (buffer .entry))) ⌝ }
+    ensures { λ r. ⌜ (numberIn r ≡ refusedBy (saveTests (now (buffer .entry)))) × (now (buffer .exit) ≡ savedIn (fieldsFrom 0 values) (now (buffer .entry))) ⌝ }
 {
     if buffer.len() < 137 {
         return Verdict::Refused(Refusal::ShortBuffer);
     }
-    lay(values, buffer);
+    encode(values, buffer);
     Verdict::Accepted
 }
 

@@ -18,10 +18,10 @@ use Rattle.modes.specs.declared.Request.{Request}
 use Rattle.modes.specs.declared.Request.the-variants as request
 use Rattle.parameters.specs.Table.{value}
 use Rattle.settings.specs.Settings.{imageOf}
-use Rattle.controller.specs.Answers.{Said, words, reading, acceptance, number, Handed}
+use Rattle.controller.specs.Answers.{Reply, words, reading, acceptance, number, Response}
 use Rattle.controller.specs.Read.{readIn}
 use Rattle.controller.specs.Save.{settingsOf}
-use Rattle.controller.specs.Scan.{Status, status, accepts, declined}
+use Rattle.controller.specs.Scan.{Status, status, accepts, refusedWith}
 use Rattle.controller.specs.declared.Controller.{Controller}
 use Rattle.controller.specs.declared.Core.{Core}
 use Rattle.guarantee.specs.Exact.{Call, Calls, none, _then_, exact, exactAnswer}
@@ -44,7 +44,7 @@ requests request.Remote request.Remote = true
 unfoldable pub condition : Core → Mode → Bool
 condition c Hold = not (bit (c .conditions .pins) 7)
 condition c Track = bit (c .conditions .pins) 6
-condition c Forced = c .conditions .fault || leb 85 (c .conditions .opens)
+condition c Forced = c .conditions .fault || leb 85 (c .conditions .opencount)
 condition c Manual = requests request.Manual (c .conditions .request)
 condition c Auto = requests request.Auto (c .conditions .request)
 condition c Remote = requests request.Remote (c .conditions .request) && bit (c .conditions .pins) 5 && not (bit (c .sw) 15)
@@ -90,12 +90,12 @@ capped c =
       conditions = record {
         request = c .conditions .request;
         fault = c .conditions .fault;
-        opens = min 85 (c .conditions .opens);
+        opencount = min 85 (c .conditions .opencount);
         pins = c .conditions .pins;
       };
-      marks = c .marks;
+      userbits = c .userbits;
       readings = c .readings;
-      shown = c .shown;
+      indications = c .indications;
       history = c .history;
     }
 
@@ -106,50 +106,50 @@ pub record OwnOutput (c : Controller) (op electrical : ℕ) : Type 0 where
   pub electrically : electrical ≡ (if bit (c .core .sw) 14 then 9999 - op else op)
 
 -- MD bits 15 to 11, read as a number of five bits: "15 Hold, 14 Track, 13 Manual or Forced, 12 Auto or Fall-back, 11 Remote or Ratio"
-abbrev pub shownAs : Mode → ℕ
-shownAs Hold = 16
-shownAs Track = 8
-shownAs Manual = 4
-shownAs Forced = 4
-shownAs Auto = 2
-shownAs Fallback = 2
-shownAs Remote = 1
-shownAs Ratio = 1
+abbrev pub modeField : Mode → ℕ
+modeField Hold = 16
+modeField Track = 8
+modeField Manual = 4
+modeField Forced = 4
+modeField Auto = 2
+modeField Fallback = 2
+modeField Remote = 1
+modeField Ratio = 1
 
 -- MD shows the mode that the conditions of this state give
 pub record ShowsMode (md : ℕ) (now : Core) : Type 0 where
   pub mode : Mode
   pub present : modeIn now ≡ some mode
-  pub shown : md / 2048 ≡ shownAs mode
+  pub field : md / 2048 ≡ modeField mode
 
--- an answer that was handed back with the controller c, beside that of the exact controller, which this call left in the state `now`
-pub data SameAnswer (c : Controller) (now : Core) : Said → Status → Type 0 where
+-- an answer that was returned with the controller c, beside that of the exact controller, which this call left in the state `now`
+pub data SameAnswer (c : Controller) (now : Core) : Reply → Status → Type 0 where
   same-words : {md ds op electrical : ℕ} → ShowsMode md now → OwnOutput c op electrical → SameAnswer c now (words md ds op electrical) (status md ds)
   same-acceptance : SameAnswer c now acceptance accepts
-  same-number : {n : ℕ} → SameAnswer c now (number n) (declined n)
+  same-number : {n : ℕ} → SameAnswer c now (number n) (refusedWith n)
 
 -- every answer of the list, the latest first
-pub data SameAnswers (word : ℕ) : Calls → List Handed → Type 0 where
+pub data SameAnswers (word : ℕ) : Calls → List Response → Type 0 where
   no-answer : SameAnswers word none []
-  and-answer : {xs : Calls} {hs : List Handed} {x : Call} {h : Handed} →
-      SameAnswers word xs hs → SameAnswer (h .next) (exact word (xs then x) .core) (h .answer) (exactAnswer word xs x) → SameAnswers word (xs then x) (h ∷ hs)
+  and-answer : {xs : Calls} {rs : List Response} {x : Call} {h : Response} →
+      SameAnswers word xs rs → SameAnswer (h .next) (exact word (xs then x) .core) (h .answer) (exactAnswer word xs x) → SameAnswers word (xs then x) (h ∷ rs)
 
 -- ---- reads: of a controller c, beside the exact controller's state `now`; OP is that of our own stored output
-pub record SameReading (c : Controller) (now : Core) (n : ℕ) (said : Said) : Type 0 where
+pub record SameReading (c : Controller) (now : Core) (n : ℕ) (reply : Reply) : Type 0 where
   pub op : ℕ
   pub electrical : ℕ
   pub own : OwnOutput c op electrical
-  pub same : said ≡ readIn now op n
+  pub same : reply ≡ readIn now op n
   -- by itself: MD, parameter 24, shows the mode that the conditions give, after a write too, and OP, parameter 28, is our own
   pub md : ℕ
   pub shows : ShowsMode md now
-  pub md-is : n ≡ 24 → said ≡ reading (pos md)
-  pub op-is : n ≡ 28 → said ≡ reading (pos op)
+  pub md-is : n ≡ 24 → reply ≡ reading (pos md)
+  pub op-is : n ≡ 28 → reply ≡ reading (pos op)
 
--- ---- saves: of a controller c, beside the exact controller's state `now`; the OP that is saved is that of our own stored output. Fewer than 137 bytes are declined and stay
-pub record SameSave (c : Controller) (now : Core) (buffer : List ℕ) (said : Said) (after : List ℕ) : Type 0 where
+-- ---- saves: of a controller c, beside the exact controller's state `now`; the OP that is saved is that of our own stored output. Fewer than 137 bytes are refused and stay
+pub record SameSave (c : Controller) (now : Core) (buffer : List ℕ) (reply : Reply) (after : List ℕ) : Type 0 where
   pub op : ℕ
   pub electrical : ℕ
   pub own : OwnOutput c op electrical
-  pub same : said ≡ (if ltb (length buffer) 137 then number 15 else acceptance)
+  pub same : reply ≡ (if ltb (length buffer) 137 then number 15 else acceptance)
   pub bytes : after ≡ (if ltb (length buffer) 137 then buffer else imageOf (settingsOf now op) ++ drop 137 buffer)

@@ -1,4 +1,4 @@
--- Laws of the roundings, for proofs: sizes, the tests as code makes them, and signs carried through.
+-- Laws of the roundings, for proofs: sizes, the tests as code makes them, and signs kept.
 use mathlib.Core.Path.{_≡_, refl, sym, ap, _∙_}
 use mathlib.Core.Bool.{Bool, true, false}
 use Prim.Native.Nat.{ℕ, zero, suc, _+_, _-_, _*_, _/_, _%_, _≤_, _<_, zero-le}
@@ -70,7 +70,7 @@ pub halfEven-whole : (k d : ℕ) → 0 < d → halfEven (k * d) d ≡ k
 unfolding halfEven
 halfEven-whole k d h = simp (mul-mod-left, mul-div-cancel k h, lt-ltb 0 d h)
 
--- ---- a rounding of magnitudes carries a sign through
+-- ---- a rounding of magnitudes keeps a sign
 
 pub nearestBy-fromSign : (rounding : ℕ → ℕ → ℕ) (minus : Bool) (n d : ℕ) → rounding 0 d ≡ 0 → nearestBy rounding (fromSign minus n) d ≡ fromSign minus (rounding n d)
 nearestBy-fromSign rounding true zero d h = ap pos h ∙ sym (ap (λ (m : ℕ). negℤ (pos m)) h)

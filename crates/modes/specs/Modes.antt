@@ -16,19 +16,19 @@ use Rattle.modes.specs.declared.Request.the-variants as request
 
 -- "the 85th and later consecutive open scan (84 × 36 ms is the first step past 3 s; 004, 2.6.3)": by the count of consecutive open scans
 abbrev pub isOpenCause : ℕ → Bool
-isOpenCause opens = leb 85 opens
+isOpenCause opencount = leb 85 opencount
 
 -- "A cause is the memory fault, or the 85th and later consecutive open scan"
 abbrev pub isCause : Bool → ℕ → Bool
-isCause fault opens = fault || isOpenCause opens
+isCause fault opencount = fault || isOpenCause opencount
 
 -- one more open scan, as our controller counts: nothing asks for more than "the 85th and later", so the count stops at 85
 unfoldable pub counted : ℕ → ℕ
-counted opens = min 85 (opens + 1)
+counted opencount = min 85 (opencount + 1)
 
 -- consecutive: a scan that isn't open starts the count anew. `more` counts one more open scan
-unfoldable pub opensAfter : (ℕ → ℕ) → Bool → ℕ → ℕ
-opensAfter more isopen opens = if isopen then more opens else 0
+unfoldable pub openCountAfter : (ℕ → ℕ) → Bool → ℕ → ℕ
+openCountAfter more isopen opencount = if isopen then more opencount else 0
 
 -- "Otherwise the first pressed of M, A, R sets the request."
 abbrev pub requestBy : Buttons → Request → Request
@@ -44,11 +44,11 @@ requestAfter cause b q = if cause then request.Manual else requestBy b q
 -- what an accepted scan leaves of that which decides the mode
 unfoldable pub conditionsAfter : (ℕ → ℕ) → Conditions → Input → Conditions
 conditionsAfter more c i =
-    let opens = opensAfter more (isOpen i) (c .opens) in
+    let opencount = openCountAfter more (isOpen i) (c .opencount) in
     record {
-      request = requestAfter (isCause (c .fault) opens) (buttonsOf (i .buttons)) (c .request);
+      request = requestAfter (isCause (c .fault) opencount) (buttonsOf (i .buttons)) (c .request);
       fault = c .fault;
-      opens = opens;
+      opencount = opencount;
       pins = i .pins;
     }
 
@@ -71,7 +71,7 @@ inPriority holdpin trackpin cause requested =
 unfoldable pub modeOf : Conditions → Bool → Mode
 modeOf c ratioswitch =
     let p = pinsOf (c .pins) in
-    inPriority (p .hold) (p .track) (isCause (c .fault) (c .opens)) (modeBy (c .request) (p .remote) ratioswitch)
+    inPriority (p .hold) (p .track) (isCause (c .fault) (c .opencount)) (modeBy (c .request) (p .remote) ratioswitch)
 
 -- "Auto, Remote, Ratio and Fall-back are automatic."
 abbrev pub isAutomatic : Mode → Bool
@@ -144,4 +144,4 @@ isLimiting Fallback = true
 -- step 6: "on the 85th open scan, if the mode just before this scan was automatic and S2.5 is ON": the 85th is an open one with 84 before it
 unfoldable pub goesToMinimum : Conditions → Input → Bool → Bool → Bool
 goesToMinimum before i ratioswitch powerfail =
-    isOpen i && eqb (before .opens) 84 && isAutomatic (modeOf before ratioswitch) && powerfail
+    isOpen i && eqb (before .opencount) 84 && isAutomatic (modeOf before ratioswitch) && powerfail

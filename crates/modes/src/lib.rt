@@ -2,7 +2,7 @@
 ghost use mathlib.Core.Path.{_≡_};
 ghost use mathlib.Core.Bool.{true};
 ghost use Rattle.signals.specs.declared.Input.{Input};
-ghost use Rattle.modes.specs.Modes.{isOpenCause, isCause, counted, opensAfter, requestBy, requestAfter, conditionsAfter, modeBy, inPriority, modeOf, isAutomatic, isTrack, isRemote, isRatio, isAutoOrFallback, setsSetpoint, isLimiting, goesToMinimum};
+ghost use Rattle.modes.specs.Modes.{isOpenCause, isCause, counted, openCountAfter, requestBy, requestAfter, conditionsAfter, modeBy, inPriority, modeOf, isAutomatic, isTrack, isRemote, isRatio, isAutoOrFallback, setsSetpoint, isLimiting, goesToMinimum};
 use signals::Buttons;
 use signals::Input;
 
@@ -28,35 +28,35 @@ pub enum Mode {
 pub struct Conditions {
     pub request: Request,
     pub fault: bool,
-    pub opens: u8,
+    pub opencount: u8,
     pub pins: u8,
 }
 
 // The contract rules out a cause at the 84th open scan, and none at the 85th.
-pub fn is_open_cause(opens: u8) -> bool
-    ensures { λ r. ⌜ r ≡ isOpenCause opens ⌝ }
+pub fn is_open_cause(opencount: u8) -> bool
+    ensures { λ r. ⌜ r ≡ isOpenCause opencount ⌝ }
 {
-    85 <= opens
+    85 <= opencount
 }
 
 // The contract rules out one cause that hides the other.
-pub fn is_cause(fault: bool, opens: u8) -> bool
-    ensures { λ r. ⌜ r ≡ isCause fault opens ⌝ }
+pub fn is_cause(fault: bool, opencount: u8) -> bool
+    ensures { λ r. ⌜ r ≡ isCause fault opencount ⌝ }
 {
-    fault | is_open_cause(opens)
+    fault | is_open_cause(opencount)
 }
 
 // One more open scan; the count stops at 85, so it never runs out of its type.
-fn counted(opens: u8) -> u8
-    ensures { λ r. ⌜ r ≡ counted opens ⌝ }
+fn counted(opencount: u8) -> u8
+    ensures { λ r. ⌜ r ≡ counted opencount ⌝ }
 {
-    if opens < 85 { opens + 1 } else { 85 }
+    if opencount < 85 { opencount + 1 } else { 85 }
 }
 
-fn opens_after(isopen: bool, opens: u8) -> u8
-    ensures { λ r. ⌜ r ≡ opensAfter counted isopen opens ⌝ }
+fn open_count_after(isopen: bool, opencount: u8) -> u8
+    ensures { λ r. ⌜ r ≡ openCountAfter counted isopen opencount ⌝ }
 {
-    if isopen { counted(opens) } else { 0 }
+    if isopen { counted(opencount) } else { 0 }
 }
 
 fn request_by(b: Buttons, q: Request) -> Request
@@ -227,14 +227,14 @@ impl Conditions {
     pub fn after(self, input: Input) -> Conditions
         ensures { λ r. ⌜ r ≡ conditionsAfter counted self input ⌝ }
     {
-        let opens = opens_after(signals::is_open(input), self.opens);
-        let cause = is_cause(self.fault, opens);
+        let opencount = open_count_after(signals::is_open(input), self.opencount);
+        let cause = is_cause(self.fault, opencount);
         let q = self.request;
         let request = request_after(cause, signals::buttons_of(input.buttons), q);
         Conditions {
             request,
             fault: self.fault,
-            opens,
+            opencount,
             pins: input.pins,
         }
     }
@@ -244,7 +244,7 @@ impl Conditions {
         ensures { λ r. ⌜ r ≡ modeOf self ratioswitch ⌝ }
     {
         let p = signals::pins_of(self.pins);
-        let cause = is_cause(self.fault, self.opens);
+        let cause = is_cause(self.fault, self.opencount);
         let q = self.request;
         let requested = mode_by(q, p.remote, ratioswitch);
         in_priority(p.hold, p.track, cause, requested)
@@ -256,6 +256,6 @@ impl Conditions {
         ensures { λ r. ⌜ r ≡ goesToMinimum self input ratioswitch powerfail ⌝ }
     {
         let mode = self.mode(ratioswitch);
-        signals::is_open(input) & (self.opens == 84) & is_automatic(mode) & powerfail
+        signals::is_open(input) & (self.opencount == 84) & is_automatic(mode) & powerfail
     }
 }

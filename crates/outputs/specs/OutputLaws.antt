@@ -20,56 +20,56 @@ use Rattle.parameters.specs.Legal.{Legal}
 use Rattle.parameters.specs.LegalLaws.{ranges}
 use Rattle.parameters.specs.Table.{H1, L1, HO, LO, XP, TI, TD}
 use Rattle.parameters.specs.declared.Parameters.{Parameters}
-use Rattle.setpoints.specs.ReckoningLaws.{Reading}
+use Rattle.setpoints.specs.ComputationLaws.{Reading}
 use Rattle.setpoints.specs.declared.Readings.{Readings}
 use Rattle.terms.specs.Fraction.{Fraction, Positive, storedUnits, limitedStored}
 use Rattle.terms.specs.TermLaws.{term-size}
 use Rattle.terms.specs.Terms.{storedTerm, TuningRange}
 use Rattle.outputs.specs.Deviation.{deviation, earlierSetpoint, changeOfDeviation, secondDifference, tuningOf}
 use Rattle.outputs.specs.History.{remembered, historyAfter, recalled}
-use Rattle.outputs.specs.Instruction.{unlimited, between, storedArithmetic, changed, limitedTo, carriedOut}
+use Rattle.outputs.specs.Instruction.{unlimited, between, storedArithmetic, changed, limitedTo, executed}
 use Rattle.outputs.specs.Outputs.{changeIn, limitsIn, minimumOf, instructionOf, restartedTo, restartInstruction}
 use Rattle.outputs.specs.declared.History.{History}
 use Rattle.outputs.specs.declared.History.the-variants.{Nothing, One, Two}
 use Rattle.outputs.specs.declared.Past.{Past}
-use Rattle.outputs.specs.declared.Situation.{Situation}
+use Rattle.outputs.specs.declared.Context.{Context}
 
 -- PV and SP of a scan lie in -9999..9999
-pub record Read (r : Readings) : Type 0 where
+pub record ReadingsRange (r : Readings) : Type 0 where
   pub pv-read : Reading (r .pv)
   pub sp-read : Reading (r .sp)
 
 -- so do those that are remembered
-abbrev pub Kept : History → Type 0
-Kept Nothing = Unit
-Kept (One pv sp) = Reading pv × Reading sp
-Kept (Two pv sp before) = Reading pv × Reading sp × Reading before
+abbrev pub HistoryRange : History → Type 0
+HistoryRange Nothing = Unit
+HistoryRange (One pv sp) = Reading pv × Reading sp
+HistoryRange (Two pv sp before) = Reading pv × Reading sp × Reading before
 
-pub record Recalled (past : Past) : Type 0 where
+pub record PastRange (past : Past) : Type 0 where
   pub pv-read : Reading (past .pv)
   pub sp-read : Reading (past .sp)
   pub before-read : Reading (past .before)
 
 -- a stored output lies in 0..9999 units
-pub record Stored (x : ℤ) : Type 0 where
+pub record OutputRange (x : ℤ) : Type 0 where
   pub not-below : pos 0 ≤ℤ x
   pub not-above : x ≤ℤ storedUnits (pos 9999)
 
 -- ---- what is remembered
 
-pub recalled-read : (h : History) (r : Readings) → Kept h → Read r → Recalled (recalled h r)
+pub recalled-read : (h : History) (r : Readings) → HistoryRange h → ReadingsRange r → PastRange (recalled h r)
 recalled-read Nothing r k n = record { pv-read = n .pv-read; sp-read = n .sp-read; before-read = n .pv-read }
 recalled-read (One pv sp) r k n = record { pv-read = k .0; sp-read = k .1; before-read = k .0 }
 recalled-read (Two pv sp before) r k n = record { pv-read = k .0; sp-read = k .1; before-read = k .2 }
 
-remembered-kept : (h : History) (r : Readings) → Kept h → Read r → Kept (remembered h r)
+remembered-kept : (h : History) (r : Readings) → HistoryRange h → ReadingsRange r → HistoryRange (remembered h r)
 remembered-kept Nothing r k n = (n .pv-read, n .sp-read)
 remembered-kept (One pv sp) r k n = (n .pv-read, n .sp-read, k .0)
 remembered-kept (Two pv sp before) r k n = (n .pv-read, n .sp-read, k .0)
 
-pub history-kept : (h : History) (isopen : Bool) (r : Readings) → Kept h → Read r → Kept (historyAfter h isopen r)
+pub history-kept : (h : History) (isopen : Bool) (r : Readings) → HistoryRange h → ReadingsRange r → HistoryRange (historyAfter h isopen r)
 unfolding historyAfter
-history-kept h isopen r k n = by-cases Kept isopen Nothing (remembered h r) (λ e. tt) (λ e. remembered-kept h r k n)
+history-kept h isopen r k n = by-cases HistoryRange isopen Nothing (remembered h r) (λ e. tt) (λ e. remembered-kept h r k n)
 
 -- ---- c, c - c1 and D
 
@@ -80,12 +80,12 @@ deviation-most inverse sp pv h k =
     (λ e. omega (arith, difference pv sp, number pv, number sp, h .reading, k .reading))
     (λ e. omega (arith, difference sp pv, number pv, number sp, h .reading, k .reading))
 
-pub earlier-reading : (s : Switches) (mode : Mode) (r : Readings) (past : Past) → Read r → Recalled past → Reading (earlierSetpoint s mode r past)
+pub earlier-reading : (s : Switches) (mode : Mode) (r : Readings) (past : Past) → ReadingsRange r → PastRange past → Reading (earlierSetpoint s mode r past)
 unfolding earlierSetpoint
 earlier-reading s mode r past n k =
     by-cases Reading (isAutoOrFallback mode && not (s .balanceoff)) (r .sp) (past .sp) (λ e. n .sp-read) (λ e. k .sp-read)
 
-pub change-most : (s : Switches) (mode : Mode) (r : Readings) (past : Past) → Read r → Recalled past → natAbs (changeOfDeviation s mode r past) ≤ 39996
+pub change-most : (s : Switches) (mode : Mode) (r : Readings) (past : Past) → ReadingsRange r → PastRange past → natAbs (changeOfDeviation s mode r past) ≤ 39996
 unfolding changeOfDeviation
 change-most s mode r past n k =
     let now = deviation (s .inverseoutput) (r .sp) (r .pv) in
@@ -102,7 +102,7 @@ change-most s mode r past n k =
 pub twice : (z : ℤ) → z +ℤ z ≡ pos 2 *ℤ z
 twice z = omega (arith, integers, sum z z, product (pos 2) z)
 
-pub second-most : (r : Readings) (past : Past) → Read r → Recalled past → natAbs (secondDifference r past) ≤ 39996
+pub second-most : (r : Readings) (past : Past) → ReadingsRange r → PastRange past → natAbs (secondDifference r past) ≤ 39996
 unfolding secondDifference
 second-most r past n k =
     let double = pos 2 *ℤ past .pv in
@@ -136,15 +136,15 @@ tuning-range p s legal =
 
 -- ---- the stored output
 
-pub stored-most : (x : ℤ) → Stored x → natAbs x ≤ 655294464
+pub stored-most : (x : ℤ) → OutputRange x → natAbs x ≤ 655294464
 unfolding storedUnits
 stored-most x h = omega (arith, integers, h .not-below, h .not-above, number x, apart x)
 
-pub stored-small : (x : ℤ) → Stored x → Small x
+pub stored-small : (x : ℤ) → OutputRange x → Small x
 stored-small x h = record { small = omega (arith, stored-most x h) }
 
 -- it is read back from the machine as it is
-pub stored-back : {x : ℤ} → Stored x → toZ w64 (ofZ w64 x) ≡ x
+pub stored-back : {x : ℤ} → OutputRange x → toZ w64 (ofZ w64 x) ≡ x
 stored-back {x} h = back w64 x (omega (arith, stored-most x h, number x))
 
 pub limited-choice : (t : Bool) (low high x : ℤ) → (if t then limitedStored low high x else x) ≡ limitedTo storedArithmetic (if t then between low high else unlimited) x
@@ -187,7 +187,7 @@ reading-size {z} h = sized z (h .reading)
 pub deviation-size : (inverse : Bool) {sp pv : ℤ} → Reading sp → Reading pv → Size (deviation inverse sp pv) 19998
 deviation-size inverse {sp} {pv} h k = sized (deviation inverse sp pv) (deviation-most inverse sp pv h k)
 
-pub stored-size : {x : ℤ} → Stored x → Size x 655294464
+pub stored-size : {x : ℤ} → OutputRange x → Size x 655294464
 stored-size {x} h = sized x (stored-most x h)
 
 pub term-sized : (f : Fraction) → Positive f → Size (storedTerm f) 655360000
@@ -208,14 +208,14 @@ unfolding limitedStored
 limited-in-units low high x h =
     record { not-below = limited-low (storedUnits low) (storedUnits high) x (stored-order low high h); not-above = limited-high (storedUnits low) (storedUnits high) x }
 
-in-units-stored : (low high x : ℤ) → pos 0 ≤ℤ low → high ≤ℤ pos 9999 → InUnits low high x → Stored x
+in-units-stored : (low high x : ℤ) → pos 0 ≤ℤ low → high ≤ℤ pos 9999 → InUnits low high x → OutputRange x
 unfolding storedUnits
 in-units-stored low high x h k w =
     let a = stored-order (pos 0) low h in
     let b = stored-order high (pos 9999) k in
     record { not-below = omega (arith, integers, a, w .not-below); not-above = omega (arith, integers, b, w .not-above) }
 
-units-stored : (n : ℕ) → n ≤ 9999 → Stored (storedUnits (pos n))
+units-stored : (n : ℕ) → n ≤ 9999 → OutputRange (storedUnits (pos n))
 unfolding storedUnits
 units-stored n h = record { not-below = omega (arith, integers, product (pos n) (pos 65536)); not-above = omega (arith, integers, product (pos n) (pos 65536), h) }
 
@@ -225,21 +225,21 @@ module _ (p : Parameters) (legal : Legal p) where
   unfolding limitsIn limitedTo storedArithmetic
   output-in-units mode y e = rw e (limited-in-units (LO p) (HO p) y (ranges p legal .outputs .order))
 
-  limited-stored : (mode : Mode) (y : ℤ) → isLimiting mode ≡ true → Stored (limitedTo storedArithmetic (limitsIn mode p) y)
+  limited-stored : (mode : Mode) (y : ℤ) → isLimiting mode ≡ true → OutputRange (limitedTo storedArithmetic (limitsIn mode p) y)
   limited-stored mode y e =
       let r = ranges p legal in
       in-units-stored (LO p) (HO p) _ (r .outputs .not-below) (r .outputs .not-above) (output-in-units mode y e)
 
-  pub limited-still-stored : (mode : Mode) (y : ℤ) → Stored y → Stored (limitedTo storedArithmetic (limitsIn mode p) y)
+  pub limited-still-stored : (mode : Mode) (y : ℤ) → OutputRange y → OutputRange (limitedTo storedArithmetic (limitsIn mode p) y)
   unfolding limitsIn limitedTo
   limited-still-stored mode y h = go (isLimiting mode) refl
     where
-      go : (t : Bool) → isLimiting mode ≡ t → Stored (limitedTo storedArithmetic (limitsIn mode p) y)
+      go : (t : Bool) → isLimiting mode ≡ t → OutputRange (limitedTo storedArithmetic (limitsIn mode p) y)
       go true e = limited-stored mode y e
       go false e = rw e h
 
-  stored-in : (mode : Mode) (x : Situation) (r : Readings) (h : History) (output : ℤ) → Stored output →
-      Stored (limitedTo storedArithmetic (limitsIn mode p) (changed storedArithmetic (changeIn mode p x r h) output))
+  stored-in : (mode : Mode) (x : Context) (r : Readings) (h : History) (output : ℤ) → OutputRange output →
+      OutputRange (limitedTo storedArithmetic (limitsIn mode p) (changed storedArithmetic (changeIn mode p x r h) output))
   unfolding limitsIn limitedTo changed storedArithmetic
   stored-in Hold x r h output k = k
   stored-in Track x r h output k = units-stored (min (x .input .sample3) 9999) (omega arith)
@@ -250,16 +250,16 @@ module _ (p : Parameters) (legal : Legal p) where
   stored-in Ratio x r h output k = limited-stored Ratio _ refl
   stored-in Fallback x r h output k = limited-stored Fallback _ refl
 
-  pub output-stored : (x : Situation) (r : Readings) (h : History) (output : ℤ) → Stored output → Stored (carriedOut storedArithmetic (instructionOf p x r h) output)
-  unfolding carriedOut instructionOf
+  pub output-stored : (x : Context) (r : Readings) (h : History) (output : ℤ) → OutputRange output → OutputRange (executed storedArithmetic (instructionOf p x r h) output)
+  unfolding executed instructionOf
   output-stored x r h output k = stored-in (x .mode) x r h output k
 
   -- after a restart
-  pub restart-in-units : (s : Switches) (tominimum : Bool) (op : ℕ) (output : ℤ) → InUnits (LO p) (HO p) (carriedOut storedArithmetic (restartInstruction p s tominimum op) output)
-  unfolding carriedOut restartInstruction limitedTo storedArithmetic
+  pub restart-in-units : (s : Switches) (tominimum : Bool) (op : ℕ) (output : ℤ) → InUnits (LO p) (HO p) (executed storedArithmetic (restartInstruction p s tominimum op) output)
+  unfolding executed restartInstruction limitedTo storedArithmetic
   restart-in-units s tominimum op output = limited-in-units (LO p) (HO p) _ (ranges p legal .outputs .order)
 
-  pub restart-stored : (s : Switches) (tominimum : Bool) (op : ℕ) (output : ℤ) → Stored (carriedOut storedArithmetic (restartInstruction p s tominimum op) output)
+  pub restart-stored : (s : Switches) (tominimum : Bool) (op : ℕ) (output : ℤ) → OutputRange (executed storedArithmetic (restartInstruction p s tominimum op) output)
   restart-stored s tominimum op output =
       let r = ranges p legal in
       in-units-stored (LO p) (HO p) _ (r .outputs .not-below) (r .outputs .not-above) (restart-in-units s tominimum op output)

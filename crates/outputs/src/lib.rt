@@ -8,14 +8,14 @@ ghost use Rattle.parameters.specs.Legal.{Legal};
 ghost use Rattle.parameters.specs.Table.{HO, LO};
 ghost use Rattle.outputs.specs.Deviation.{deviation, earlierSetpoint, changeOfDeviation, secondDifference, tuningOf};
 ghost use Rattle.outputs.specs.History.{remembered, historyAfter, recalled};
-ghost use Rattle.outputs.specs.Instruction.{storedArithmetic, changed, limitedTo, carriedOut};
-ghost use Rattle.outputs.specs.OutputLaws.{Read, Kept, Recalled, Stored};
-ghost use Rattle.outputs.specs.Outputs.{minimumOf, pushed, byHand, termsOf, byTerms, changeIn, limitsIn, instructionOf, limitsWritten};
+ghost use Rattle.outputs.specs.Instruction.{storedArithmetic, changed, limitedTo, executed};
+ghost use Rattle.outputs.specs.OutputLaws.{ReadingsRange, HistoryRange, PastRange, OutputRange};
+ghost use Rattle.outputs.specs.Outputs.{minimumOf, adjusted, byHand, termsOf, byTerms, changeIn, limitsIn, instructionOf, limitsWritten};
 use modes::Mode;
 use parameters::Parameters;
 use setpoints::Readings;
+use signals::Adjustment;
 use signals::Input;
-use signals::Push;
 use signals::Switches;
 use terms::Tuning;
 
@@ -35,8 +35,8 @@ pub struct Past {
     pub before: i64,
 }
 
-// What a scan is reckoned by: the switches, its mode, whether it goes to minimum in Manual or Forced Manual, and its input.
-pub struct Situation {
+// What a scan is computed by: the switches, its mode, whether it goes to minimum in Manual or Forced Manual, and its input.
+pub struct Context {
     pub switches: Switches,
     pub mode: Mode,
     pub tominimum: bool,
@@ -104,7 +104,7 @@ fn earlier_setpoint(s: Switches, mode: Mode, r: Readings, past: Past) -> i64
 }
 
 fn change_of_deviation(s: Switches, mode: Mode, r: Readings, past: Past) -> i64
-    requires { ⌜ Read r × Recalled past ⌝ }
+    requires { ⌜ ReadingsRange r × PastRange past ⌝ }
     ensures { λ n. ⌜ n ≡ changeOfDeviation s mode r past ⌝ }
 {
     let now = deviation(s.inverseoutput, r.sp, r.pv);
@@ -114,7 +114,7 @@ fn change_of_deviation(s: Switches, mode: Mode, r: Readings, past: Past) -> i64
 }
 
 fn second_difference(r: Readings, past: Past) -> i64
-    requires { ⌜ Read r × Recalled past ⌝ }
+    requires { ⌜ ReadingsRange r × PastRange past ⌝ }
     ensures { λ n. ⌜ n ≡ secondDifference r past ⌝ }
 {
     let twice = integers::plus(past.pv, past.pv);
@@ -141,8 +141,8 @@ fn tuning_of(p: Parameters, s: Switches) -> Tuning
 }
 
 // The output with the three terms added, each limited and rounded by itself. The contract rules out an output that never moves.
-fn with_terms(p: Parameters, x: Situation, r: Readings, h: History, output: i64) -> i64
-    requires { ⌜ Legal p × Read r × Kept h × Stored output ⌝ }
+fn with_terms(p: Parameters, x: Context, r: Readings, h: History, output: i64) -> i64
+    requires { ⌜ Legal p × ReadingsRange r × HistoryRange h × OutputRange output ⌝ }
     ensures { λ n. ⌜ n ≡ changed storedArithmetic (termsOf p x r h) output ⌝ }
 {
     let s = x.switches;
@@ -173,44 +173,44 @@ fn minimum_of(p: Parameters, s: Switches) -> i64
     integers::choose(s.displayinversion, high, low)
 }
 
-fn pushed(push: Push, output: i64) -> i64
-    requires { ⌜ Stored output ⌝ }
-    ensures { λ n. ⌜ n ≡ changed storedArithmetic (pushed push) output ⌝ }
+fn adjusted(adjustment: Adjustment, output: i64) -> i64
+    requires { ⌜ OutputRange output ⌝ }
+    ensures { λ n. ⌜ n ≡ changed storedArithmetic (adjusted adjustment) output ⌝ }
 {
-    match push {
-        Push::Raise => {
+    match adjustment {
+        Adjustment::Raise => {
             let by = units(12);
             integers::plus(output, by)
         }
-        Push::Lower => {
+        Adjustment::Lower => {
             let by = units(-12);
             integers::plus(output, by)
         }
-        Push::Neither => output,
+        Adjustment::Neither => output,
     }
 }
 
 // Manual and Forced Manual. The contract rules out a move while SP is held, and Raise or Lower beside the minimum.
-fn by_hand(p: Parameters, x: Situation, output: i64) -> i64
-    requires { ⌜ Legal p × Stored output ⌝ }
+fn by_hand(p: Parameters, x: Context, output: i64) -> i64
+    requires { ⌜ Legal p × OutputRange output ⌝ }
     ensures { λ n. ⌜ n ≡ changed storedArithmetic (byHand p x) output ⌝ }
 {
     let s = x.switches;
     let input = x.input;
     let b = signals::buttons_of(input.buttons);
-    let push = signals::push_of(b);
+    let adjustment = signals::adjustment_of(b);
     if x.tominimum {
         return units(minimum_of(p, s));
     }
     if b.sp {
         return output;
     }
-    pushed(push, output)
+    adjusted(adjustment, output)
 }
 
 // The automatic modes.
-fn by_terms(p: Parameters, x: Situation, r: Readings, h: History, output: i64) -> i64
-    requires { ⌜ Legal p × Read r × Kept h × Stored output ⌝ }
+fn by_terms(p: Parameters, x: Context, r: Readings, h: History, output: i64) -> i64
+    requires { ⌜ Legal p × ReadingsRange r × HistoryRange h × OutputRange output ⌝ }
     ensures { λ n. ⌜ n ≡ changed storedArithmetic (byTerms p x r h) output ⌝ }
 {
     let input = x.input;
@@ -231,8 +231,8 @@ fn tracked(sample: u16) -> i64
     655294464
 }
 
-fn changed_in(p: Parameters, x: Situation, r: Readings, h: History, output: i64) -> i64
-    requires { ⌜ Legal p × Read r × Kept h × Stored output ⌝ }
+fn changed_in(p: Parameters, x: Context, r: Readings, h: History, output: i64) -> i64
+    requires { ⌜ Legal p × ReadingsRange r × HistoryRange h × OutputRange output ⌝ }
     ensures { λ n. ⌜ n ≡ changed storedArithmetic (changeIn (x .mode) p x r h) output ⌝ }
 {
     let mode = x.mode;
@@ -270,9 +270,9 @@ fn limited_in(mode: Mode, p: Parameters, output: i64) -> i64
 
 // The stored output after an accepted scan. The contract rules out an output limited in Hold, one that is not limited elsewhere, one that
 // never moves, and one that repeats an earlier one.
-pub fn output_after(p: Parameters, x: Situation, r: Readings, h: History, output: i64) -> i64
-    requires { ⌜ Legal p × Read r × Kept h × Stored output ⌝ }
-    ensures { λ n. ⌜ n ≡ carriedOut storedArithmetic (instructionOf p x r h) output ⌝ }
+pub fn output_after(p: Parameters, x: Context, r: Readings, h: History, output: i64) -> i64
+    requires { ⌜ Legal p × ReadingsRange r × HistoryRange h × OutputRange output ⌝ }
+    ensures { λ n. ⌜ n ≡ executed storedArithmetic (instructionOf p x r h) output ⌝ }
 {
     let mode = x.mode;
     let to = changed_in(p, x, r, h, output);

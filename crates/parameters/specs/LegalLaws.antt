@@ -122,7 +122,7 @@ pub record Inside (least v most : ℤ) : Type 0 where
   pub not-below : least ≤ℤ v
   pub not-above : v ≤ℤ most
 
--- of each parameter that a scan reckons with
+-- of each parameter that a scan computes with
 pub record Ranges (p : Parameters) : Type 0 where
   pub channel1 : Ordered (negℤ (pos 9999)) (t.L1 p) (t.H1 p) (pos 9999)
   pub channel2 : Ordered (negℤ (pos 9999)) (t.L2 p) (t.H2 p) (pos 9999)

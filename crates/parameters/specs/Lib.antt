@@ -5,5 +5,5 @@ pub mod RuleLaws
 pub mod Table
 pub mod Written
 pub mod WrittenLaws
-pub mod Mended
-pub mod MendedLaws
+pub mod Repaired
+pub mod RepairedLaws

@@ -7,13 +7,13 @@ ghost use Rattle.scaling.specs.Ratio.{RatioRange};
 ghost use Rattle.scaling.specs.Scale.{scaled, ChannelRange};
 ghost use Rattle.parameters.specs.Legal.{Legal};
 ghost use Rattle.parameters.specs.Table.{value, HS, LS};
-ghost use Rattle.setpoints.specs.Reckoning.{reckoned, lowAlarm, highAlarm};
-ghost use Rattle.setpoints.specs.ReckoningLaws.{Sampled};
+ghost use Rattle.setpoints.specs.Computation.{computed, lowAlarm, highAlarm};
+ghost use Rattle.setpoints.specs.ComputationLaws.{SampleRange};
 ghost use Rattle.setpoints.specs.Setpoints.{firstSample, processVariable, thirdChannel, moved, movedByHand, ratioAfter, setpointMoved, setpointAfter, trimOf, localSetpoint, remoteSetpoint, quotientOf, ratioSetpoint, setpointIn, measuredPower};
 use modes::Mode;
 use parameters::Parameters;
+use signals::Adjustment;
 use signals::Input;
-use signals::Push;
 use signals::Switches;
 
 // PV, SP, ER and MP of a scan.
@@ -25,7 +25,7 @@ pub struct Readings {
 }
 
 // What steps 1, 4 and 5 leave: the parameters with SL and RS moved, and the readings.
-pub struct Reckoned {
+pub struct Computed {
     pub parameters: Parameters,
     pub readings: Readings,
 }
@@ -54,7 +54,7 @@ fn first_sample(p: Parameters, sample: u16) -> u16
 }
 
 fn process_variable(p: Parameters, input: Input) -> i64
-    requires { ⌜ Legal p × Sampled input ⌝ }
+    requires { ⌜ Legal p × SampleRange input ⌝ }
     ensures { λ r. ⌜ r ≡ processVariable p input ⌝ }
 {
     let sample = first_sample(p, input.sample1);
@@ -65,26 +65,26 @@ fn process_variable(p: Parameters, input: Input) -> i64
 }
 
 fn third_channel(p: Parameters, input: Input) -> i64
-    requires { ⌜ Legal p × Sampled input ⌝ }
+    requires { ⌜ Legal p × SampleRange input ⌝ }
     ensures { λ r. ⌜ r ≡ thirdChannel p input ⌝ }
 {
     channel(p, parameters::L3, parameters::H3, input.sample3)
 }
 
-fn moved(push: Push, by: i64, low: i64, high: i64, v: i64) -> i64
+fn moved(adjustment: Adjustment, by: i64, low: i64, high: i64, v: i64) -> i64
     requires { ⌜ Small by × Small v ⌝ }
-    ensures { λ r. ⌜ r ≡ moved push by low high v ⌝ }
+    ensures { λ r. ⌜ r ≡ moved adjustment by low high v ⌝ }
 {
-    match push {
-        Push::Raise => {
+    match adjustment {
+        Adjustment::Raise => {
             let to = integers::plus(v, by);
             integers::limit(low, high, to)
         }
-        Push::Lower => {
+        Adjustment::Lower => {
             let to = integers::minus(v, by);
             integers::limit(low, high, to)
         }
-        Push::Neither => v,
+        Adjustment::Neither => v,
     }
 }
 
@@ -93,8 +93,8 @@ fn moved_by_hand(input: Input, here: bool, by: i64, low: i64, high: i64, v: i64)
     ensures { λ r. ⌜ r ≡ movedByHand input here by low high v ⌝ }
 {
     let b = signals::buttons_of(input.buttons);
-    let push = signals::push_of(b);
-    let to = moved(push, by, low, high, v);
+    let adjustment = signals::adjustment_of(b);
+    let to = moved(adjustment, by, low, high, v);
     integers::choose(b.sp & here, to, v)
 }
 
@@ -136,7 +136,7 @@ fn setpoint_after(p: Parameters, setpointtracks: bool, mode: Mode, input: Input,
 }
 
 fn trim_of(p: Parameters, measuredpower: bool, mode: Mode, input: Input) -> i64
-    requires { ⌜ Legal p × Sampled input ⌝ }
+    requires { ⌜ Legal p × SampleRange input ⌝ }
     ensures { λ r. ⌜ r ≡ trimOf p measuredpower mode input ⌝ }
 {
     let third = third_channel(p, input);
@@ -153,7 +153,7 @@ fn local_setpoint(sl: i64, ratioswitch: bool, trim: i64) -> i64
 }
 
 fn remote_setpoint(p: Parameters, trim: i64, input: Input) -> i64
-    requires { ⌜ Legal p × Sampled input × Small trim ⌝ }
+    requires { ⌜ Legal p × SampleRange input × Small trim ⌝ }
     ensures { λ r. ⌜ r ≡ remoteSetpoint p trim input ⌝ }
 {
     let second = channel(p, parameters::L1, parameters::H1, input.sample2);
@@ -172,7 +172,7 @@ fn ratio_quotient(inverse: bool, q: i64, s: u64) -> i64
 }
 
 fn ratio_setpoint(p: Parameters, inverse: bool, rs: i64, trim: i64, input: Input) -> i64
-    requires { ⌜ Legal p × Sampled input × Small rs × Small trim ⌝ }
+    requires { ⌜ Legal p × SampleRange input × Small rs × Small trim ⌝ }
     ensures { λ r. ⌜ r ≡ ratioSetpoint p inverse rs trim input ⌝ }
 {
     let q = channel(p, parameters::L2, parameters::H2, input.sample2);
@@ -195,7 +195,7 @@ fn setpoint_in(
     trim: i64,
     input: Input,
 ) -> i64
-    requires { ⌜ Legal p × Sampled input × Small sl × Small rs × Small trim ⌝ }
+    requires { ⌜ Legal p × SampleRange input × Small sl × Small rs × Small trim ⌝ }
     ensures { λ r. ⌜ r ≡ setpointIn p s mode sl rs trim input ⌝ }
 {
     let remote = modes::is_remote(mode);
@@ -219,7 +219,7 @@ fn limited_setpoint(p: Parameters, v: i64) -> i64
 }
 
 fn measured_power(p: Parameters, measuredpower: bool, input: Input) -> i64
-    requires { ⌜ Legal p × Sampled input ⌝ }
+    requires { ⌜ Legal p × SampleRange input ⌝ }
     ensures { λ r. ⌜ r ≡ measuredPower p measuredpower input ⌝ }
 {
     let third = third_channel(p, input);
@@ -228,9 +228,15 @@ fn measured_power(p: Parameters, measuredpower: bool, input: Input) -> i64
 
 // Steps 1, 4 and 5 of an accepted scan in this mode. The contract rules out a rule of another mode, a limit left out, a trim added twice, and
 // any other parameter changed.
-pub fn reckon(p: Parameters, s: Switches, measuredpower: bool, mode: Mode, input: Input) -> Reckoned
-    requires { ⌜ Legal p × Sampled input ⌝ }
-    ensures { λ r. ⌜ r ≡ reckoned p s measuredpower mode input ⌝ }
+pub fn compute(
+    p: Parameters,
+    s: Switches,
+    measuredpower: bool,
+    mode: Mode,
+    input: Input,
+) -> Computed
+    requires { ⌜ Legal p × SampleRange input ⌝ }
+    ensures { λ r. ⌜ r ≡ computed p s measuredpower mode input ⌝ }
 {
     let pv = process_variable(p, input);
     let sl = setpoint_after(p, s.setpointtracks, mode, input, pv);
@@ -245,7 +251,7 @@ pub fn reckon(p: Parameters, s: Switches, measuredpower: bool, mode: Mode, input
     let to = integers::choose(remote | ratio, sp, sl);
     let moved = p.with(parameters::SL, to);
     let parameters = moved.with(parameters::RS, rs);
-    Reckoned {
+    Computed {
         parameters,
         readings: Readings { pv, sp, er, mp },
     }

@@ -1,4 +1,4 @@
--- Settings that are saved are carried again, and values that are carried are saved again.
+-- Settings that are saved are decoded again, and values that are decoded are saved again.
 use mathlib.Core.Path.{_≡_, refl, sym, ap, subst, _∙_}
 use mathlib.Core.Bool.{Bool, true, false, _&&_, _||_}
 use mathlib.Core.List.{List, [], _∷_, _++_}
@@ -19,15 +19,15 @@ use Rattle.fields.specs.RoundTrip.{Fit}
 use Rattle.modes.specs.declared.Request.{Request}
 use Rattle.modes.specs.declared.Request.the-variants.{Manual, Auto, Remote}
 use Rattle.words.specs.WordLaws.{weight-most}
-use Rattle.words.specs.declared.Marks.{Marks}
+use Rattle.words.specs.declared.UserBits.{UserBits}
 use Rattle.parameters.specs.Legal.{Legal}
 use Rattle.parameters.specs.LegalLaws.{value-most, by-place}
 use Rattle.parameters.specs.Range.{each-in}
 use Rattle.parameters.specs.Table.{value}
-use Rattle.settings.specs.Settings.{requestNumber, faultNumber, marksNumber, valueAt, valuesOf, requestIn, marksIn, parameterIn, parametersIn, settingsIn, isSumRight, areOthersLegal}
+use Rattle.settings.specs.Settings.{requestNumber, faultNumber, userBitsNumber, valueAt, valuesOf, requestIn, userBitsIn, parameterIn, parametersIn, settingsIn, isSumRight, areOthersLegal}
 use Rattle.settings.specs.declared.Settings.{Settings}
 
--- ---- saved, then carried
+-- ---- saved, then decoded
 
 request-back : (r : Request) → requestIn (requestNumber r) ≡ r
 request-back Manual = refl
@@ -38,11 +38,11 @@ fault-back : (b : Bool) → eqb (faultNumber b) 1 ≡ b
 fault-back true = refl
 fault-back false = refl
 
-marks-back : (m : Marks) → marksIn (marksNumber m) ≡ m
-unfolding marksIn marksNumber
-marks-back m = go (m .user1) (m .user2) (m .measuredpower) refl refl refl
+user-bits-back : (m : UserBits) → userBitsIn (userBitsNumber m) ≡ m
+unfolding userBitsIn userBitsNumber
+user-bits-back m = go (m .user1) (m .user2) (m .measuredpower) refl refl refl
   where
-    go : (a b c : Bool) → m .user1 ≡ a → m .user2 ≡ b → m .measuredpower ≡ c → marksIn (marksNumber m) ≡ m
+    go : (a b c : Bool) → m .user1 ≡ a → m .user2 ≡ b → m .measuredpower ≡ c → userBitsIn (userBitsNumber m) ≡ m
     go true true true e f g = rw (e, f, g) refl
     go true true false e f g = rw (e, f, g) refl
     go true false true e f g = rw (e, f, g) refl
@@ -61,12 +61,12 @@ fault-legal : (b : Bool) (r : Request) → (b ≡ true → r ≡ Manual) → (le
 fault-legal true r manual = rw (manual refl) refl
 fault-legal false r manual = refl
 
-marks-most : (m : Marks) → marksNumber m ≤ 7
-unfolding marksNumber
-marks-most m = omega (arith, weight-most (m .user1) 1, weight-most (m .user2) 2, weight-most (m .measuredpower) 4)
+user-bits-most : (m : UserBits) → userBitsNumber m ≤ 7
+unfolding userBitsNumber
+user-bits-most m = omega (arith, weight-most (m .user1) 1, weight-most (m .user2) 2, weight-most (m .measuredpower) 4)
 
-marks-legal : (m : Marks) → leb (marksNumber m) 7 ≡ true
-marks-legal m = le-leb (marksNumber m) 7 (marks-most m)
+user-bits-legal : (m : UserBits) → leb (userBitsNumber m) 7 ≡ true
+user-bits-legal m = le-leb (userBitsNumber m) 7 (user-bits-most m)
 
 request-fits : (r : Request) → requestNumber r < 256
 request-fits Manual = omega arith
@@ -139,15 +139,15 @@ module _ (s : Settings) where
         let op : getD saved 23 0 ≡ s .op = saved-at 23 (omega arith) in
         let request : requestIn (getD saved 24 0) ≡ s .request = ap requestIn (saved-at 24 (omega arith)) ∙ request-back (s .request) in
         let fault : eqb (getD saved 25 0) 1 ≡ s .fault = ap (λ (n : ℕ). eqb n 1) (saved-at 25 (omega arith)) ∙ fault-back (s .fault) in
-        let marks : marksIn (getD saved 26 0) ≡ s .marks = ap marksIn (saved-at 26 (omega arith)) ∙ marks-back (s .marks) in
-        rw (saved-parameters, op, request, fault, marks) refl
+        let userbits : userBitsIn (getD saved 26 0) ≡ s .userbits = ap userBitsIn (saved-at 26 (omega arith)) ∙ user-bits-back (s .userbits) in
+        rw (saved-parameters, op, request, fault, userbits) refl
 
     -- and are legal
     pub saved-legal : s .op ≤ 9999 → (s .fault ≡ true → s .request ≡ Manual) → areOthersLegal saved ≡ true
     unfolding areOthersLegal valueAt
     saved-legal most manual =
         rw (saved-at 23 (omega arith), saved-at 24 (omega arith), saved-at 25 (omega arith), saved-at 26 (omega arith))
-        (rw (le-leb (s .op) 9999 most, request-legal (s .request), fault-legal (s .fault) (s .request) manual, marks-legal (s .marks)) refl)
+        (rw (le-leb (s .op) 9999 most, request-legal (s .request), fault-legal (s .fault) (s .request) manual, user-bits-legal (s .userbits)) refl)
 
     -- and fit their fields
     fits-at : s .op ≤ 65535 → (n : ℕ) → n < 27 → valueAt s n < 256 ^ lengthOf n
@@ -156,7 +156,7 @@ module _ (s : Settings) where
         by-field (λ (n : ℕ). valueAt s n < 256 ^ lengthOf n)
         (λ n h. rw (lt-ltb n 23 h, lt-ltb n 24 (omega arith))
         (let m = word-most (value (s .parameters) (n + 1)) (omega (arith, value-most (s .parameters) legal (n + 1) (omega arith) (omega arith))) in omega (arith, m)))
-        (omega arith) (request-fits (s .request)) (fault-fits (s .fault)) (let m = marks-most (s .marks) in omega (arith, m))
+        (omega arith) (request-fits (s .request)) (fault-fits (s .fault)) (let m = user-bits-most (s .userbits) in omega (arith, m))
 
     pub saved-fits : s .op ≤ 65535 → Fit 0 saved
     unfolding withSumcheck sumOf lengthOf
@@ -166,7 +166,7 @@ module _ (s : Settings) where
         (λ q. subst (λ (k : ℕ). getD saved k 0 < 256 ^ lengthOf (0 + k)) (sym q) (rw (getD-at (valuesOf s) (sumOf (valuesOf s)) [] 0 27 long) (omega arith)))
         (λ l. absurd (omega (arith, saved-length))))
 
--- ---- carried, then saved
+-- ---- decoded, then saved
 
 request-again : (v : ℕ) → leb v 2 ≡ true → requestNumber (requestIn v) ≡ v
 request-again v e =
@@ -179,10 +179,10 @@ fault-again v e =
     let most = leb-true v 1 e in
     by-place v 1 (λ h. rw (ne-eqb v 1 (λ q. omega arith)) (let z : 0 ≡ v = omega arith in z)) (λ q. rw q refl) (λ h. absurd (omega arith))
 
-marks-again : (v : ℕ) → leb v 7 ≡ true → marksNumber (marksIn v) ≡ v
-unfolding marksNumber marksIn
-marks-again v e =
-    each-in (λ (n : ℕ). marksNumber (marksIn n) ≡ n) 8 0 v (refl, (refl, (refl, (refl, (refl, (refl, (refl, (refl, tt)))))))) (omega arith) (omega (arith, leb-true v 7 e))
+user-bits-again : (v : ℕ) → leb v 7 ≡ true → userBitsNumber (userBitsIn v) ≡ v
+unfolding userBitsNumber userBitsIn
+user-bits-again v e =
+    each-in (λ (n : ℕ). userBitsNumber (userBitsIn n) ≡ n) 8 0 v (refl, (refl, (refl, (refl, (refl, (refl, (refl, (refl, tt)))))))) (omega arith) (omega (arith, leb-true v 7 e))
 
 -- what legal values satisfy besides the parameters
 pub record Others (vs : List ℕ) : Type 0 where
@@ -190,7 +190,7 @@ pub record Others (vs : List ℕ) : Type 0 where
   pub request : leb (getD vs 24 0) 2 ≡ true
   pub fault : leb (getD vs 25 0) 1 ≡ true
   pub manual : (eqb (getD vs 25 0) 0 || eqb (getD vs 24 0) 0) ≡ true
-  pub marks : leb (getD vs 26 0) 7 ≡ true
+  pub userbits : leb (getD vs 26 0) 7 ≡ true
 
 pub others-of : (vs : List ℕ) → areOthersLegal vs ≡ true → Others vs
 unfolding areOthersLegal
@@ -199,22 +199,22 @@ others-of vs e =
     let request = leb (getD vs 24 0) 2 in
     let fault = leb (getD vs 25 0) 1 in
     let manual = eqb (getD vs 25 0) 0 || eqb (getD vs 24 0) 0 in
-    let marks = leb (getD vs 26 0) 7 in
-    let first = both ((op && request) && (fault && manual)) marks e in
+    let userbits = leb (getD vs 26 0) 7 in
+    let first = both ((op && request) && (fault && manual)) userbits e in
     let second = both (op && request) (fault && manual) (first .0) in
     let third = both op request (second .0) in
     let fourth = both fault manual (second .1) in
-    record { op = third .0; request = third .1; fault = fourth .0; manual = fourth .1; marks = first .1 }
+    record { op = third .0; request = third .1; fault = fourth .0; manual = fourth .1; userbits = first .1 }
 
 module _ (vs : List ℕ) (size : length vs ≡ 28) (words : (n : ℕ) → getD vs n 0 < 65536) (others : Others vs) where
-  carried-at : (n : ℕ) → n < 27 → valueAt (settingsIn vs) n ≡ getD vs n 0
+  decoded-at : (n : ℕ) → n < 27 → valueAt (settingsIn vs) n ≡ getD vs n 0
   unfolding valueAt settingsIn parametersIn parameterIn value
-  carried-at =
+  decoded-at =
       by-field (λ (n : ℕ). valueAt (settingsIn vs) n ≡ getD vs n 0)
       (λ n h. let f = parameterIn vs in
       let less : n + 1 - 1 ≡ n = omega arith in
       rw (lt-ltb n 23 h, listed-at f (pos 0) 0 24 (n + 1) (omega arith), zero-add (n + 1), ne-eqb (n + 1) 0 (λ q. omega arith), less) (value-back (getD vs n 0) (words n)))
-      refl (request-again (getD vs 24 0) (others .request)) (fault-again (getD vs 25 0) (others .fault)) (marks-again (getD vs 26 0) (others .marks))
+      refl (request-again (getD vs 24 0) (others .request)) (fault-again (getD vs 25 0) (others .fault)) (user-bits-again (getD vs 26 0) (others .userbits))
 
   -- the values come back
   pub values-again : isSumRight vs ≡ true → withSumcheck (valuesOf (settingsIn vs)) ≡ vs
@@ -224,7 +224,7 @@ module _ (vs : List ℕ) (size : length vs ≡ 28) (words : (n : ℕ) → getD v
       let front : listed f 0 27 ≡ take 27 vs =
       ext-getD 0 (listed f 0 27) (take 27 vs) (listed-length f 0 27 ∙ sym (length-take 27 vs ∙ (let m : min 27 (length vs) ≡ 27 = omega arith in m)))
       (λ n h. let l : n < 27 = omega (arith, listed-length f 0 27) in
-      listed-at f 0 0 27 n l ∙ ap f (zero-add n) ∙ carried-at n l ∙ sym (getD-take 27 vs n 0 l)) in
+      listed-at f 0 0 27 n l ∙ ap f (zero-add n) ∙ decoded-at n l ∙ sym (getD-take 27 vs n 0 l)) in
       let last : getD vs 27 0 ≡ sumOf (take 27 vs) = eqb-true _ _ right in
       let whole : vs ≡ take 27 vs ++ (getD vs 27 0 ∷ []) = sym (take-all 28 vs (omega arith)) ∙ take-suc vs 27 0 (omega arith) in
       rw front (ap (λ (n : ℕ). take 27 vs ++ (n ∷ [])) (sym last) ∙ sym whole)

@@ -1,16 +1,16 @@
-// The settings that an image carries, as the values of its fields, and back.
+// The settings that an image holds, as the values of its fields, and back.
 ghost use mathlib.Core.Path.{_≡_};
 ghost use Prim.Native.Nat.{_≤_};
-ghost use Rattle.signals.specs.Refusals.{numberIn, declinedBy};
+ghost use Rattle.signals.specs.Refusals.{numberIn, refusedBy};
 ghost use Rattle.fields.specs.Fields.{withSumcheck, saveTests, savedIn};
 ghost use Rattle.parameters.specs.Legal.{Legal};
-ghost use Rattle.settings.specs.Settings.{requestNumber, faultNumber, marksNumber, valueAt, valuesOf, imageOf};
+ghost use Rattle.settings.specs.Settings.{requestNumber, faultNumber, userBitsNumber, valueAt, valuesOf, imageOf};
 use modes::Request;
 use parameters::Parameters;
 use signals::Verdict;
-use words::Marks;
+use words::UserBits;
 
-pub mod carried;
+pub mod decoding;
 
 // Parameters 1 to 23, OP, request, memory fault, and user bits with MD bit 4: in the order of their fields.
 pub struct Settings {
@@ -18,7 +18,7 @@ pub struct Settings {
     pub op: u16,
     pub request: Request,
     pub fault: bool,
-    pub marks: Marks,
+    pub userbits: UserBits,
 }
 
 fn request_number(request: Request) -> u16
@@ -37,12 +37,12 @@ fn fault_number(fault: bool) -> u16
     if fault { 1 } else { 0 }
 }
 
-fn marks_number(marks: Marks) -> u16
-    ensures { λ r. ⌜ r ≡ marksNumber marks ⌝ }
+fn user_bits_number(userbits: UserBits) -> u16
+    ensures { λ r. ⌜ r ≡ userBitsNumber userbits ⌝ }
 {
-    words::weight(marks.user1, 1)
-        + words::weight(marks.user2, 2)
-        + words::weight(marks.measuredpower, 4)
+    words::weight(userbits.user1, 1)
+        + words::weight(userbits.user2, 2)
+        + words::weight(userbits.measuredpower, 4)
 }
 
 impl Settings {
@@ -53,13 +53,13 @@ impl Settings {
     {
         let parameters = self.parameters;
         let request = self.request;
-        let marks = self.marks;
+        let userbits = self.userbits;
         match place {
             0..=22 => integers::as_word(parameters.get(place + 1)),
             23 => self.op,
             24 => request_number(request),
             25 => fault_number(self.fault),
-            _ => marks_number(marks),
+            _ => user_bits_number(userbits),
         }
     }
 
@@ -77,10 +77,10 @@ impl Settings {
         fields::with_sumcheck(values)
     }
 
-    // Lays the image down in a lent buffer. The contract gives the verdict and every byte of the buffer.
+    // Encodes the image in the caller's buffer. The contract gives the verdict and every byte of the buffer.
     pub fn save(self, buffer: &mut [u8]) -> Verdict
         requires { ⌜ Legal (self .parameters) ⌝ }
-        ensures { λ r. ⌜ (numberIn r ≡ declinedBy (saveTests (now (buffer .entry)))) × (now (buffer .exit) ≡ savedIn (imageOf self) (now (buffer .entry))) ⌝ }
+        ensures { λ r. ⌜ (numberIn r ≡ refusedBy (saveTests (now (buffer .entry)))) × (now (buffer .exit) ≡ savedIn (imageOf self) (now (buffer .entry))) ⌝ }
     {
         let values = self.values();
         fields::save(values, buffer)

@@ -5,7 +5,7 @@ use mathlib.Core.List.{List, [], _∷_}
 use mathlib.Core.Option.{some}
 use Prim.Native.Nat.{ℕ, _≤_, _<_}
 use native.Mathlib.Omega.{arith}
-use Rattle.signals.specs.Refusals.{declinedBy, scanTests}
+use Rattle.signals.specs.Refusals.{refusedBy, scanTests}
 use Rattle.signals.specs.declared.Input.{Input}
 
 -- every number of the list lies above this one
@@ -29,12 +29,12 @@ above-holds n m (t ∷ ts) a (later h) = above-holds n m ts (a .1) h
 some-is : (m n : ℕ) → some m ≡ some n → m ≡ n
 some-is m n e = cc
 
-pub lowest-wins : (ts : List (Bool × ℕ)) → Ascending ts → (n : ℕ) → declinedBy ts ≡ some n → (m : ℕ) → Holds m ts → n ≤ m
-unfolding declinedBy
+pub lowest-wins : (ts : List (Bool × ℕ)) → Ascending ts → (n : ℕ) → refusedBy ts ≡ some n → (m : ℕ) → Holds m ts → n ≤ m
+unfolding refusedBy
 lowest-wins (t ∷ ts) a n e m (here q d) = omega (arith, d, some-is (t .1) n (rw q at e))
 lowest-wins (t ∷ ts) a n e m (later h) = go (t .0) refl (λ d. lowest-wins ts (a .1) n d m h)
   where
-    go : (b : Bool) → t .0 ≡ b → (declinedBy ts ≡ some n → n ≤ m) → n ≤ m
+    go : (b : Bool) → t .0 ≡ b → (refusedBy ts ≡ some n → n ≤ m) → n ≤ m
     go true q f = omega (arith, above-holds (t .1) m ts (a .0) h, some-is (t .1) n (rw q at e))
     go false q f = f (rw q at e)
 

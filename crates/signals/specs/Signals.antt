@@ -6,8 +6,8 @@ use Rattle.signals.specs.Bits.{bit}
 use Rattle.signals.specs.declared.Buttons.{Buttons}
 use Rattle.signals.specs.declared.Input.{Input}
 use Rattle.signals.specs.declared.Pins.{Pins}
-use Rattle.signals.specs.declared.Push.{Push}
-use Rattle.signals.specs.declared.Push.the-variants.{Raise, Lower, Neither}
+use Rattle.signals.specs.declared.Adjustment.{Adjustment}
+use Rattle.signals.specs.declared.Adjustment.the-variants.{Raise, Lower, Neither}
 use Rattle.signals.specs.declared.Switches.{Switches}
 
 -- "SW bits 15 to 8 are switches S2.1 to S2.8 and bit 7 is S1.1, 1 = ON (004, 4.3.4). Used: S2.1 ratio, S2.2 display inversion, S2.3 inverse ratio,
@@ -35,8 +35,8 @@ buttonsOf buttons =
     record { lower = bit buttons 7; raise = bit buttons 6; sp = bit buttons 3; r = bit buttons 2; a = bit buttons 1; m = bit buttons 0 }
 
 -- step 4: "Raise and Lower together do nothing."
-unfoldable pub pushOf : Buttons → Push
-pushOf b =
+unfoldable pub adjustmentOf : Buttons → Adjustment
+adjustmentOf b =
     if b .raise then (if b .lower then Neither else Raise) else
     if b .lower then Lower else Neither
 

@@ -2,8 +2,8 @@
 ghost use mathlib.Core.Path.{_≡_};
 ghost use Prim.Native.Nat.{_<_};
 ghost use Rattle.signals.specs.Bits.{bit};
-ghost use Rattle.signals.specs.Refusals.{numberOf, numberIn, declinedBy, scanTests};
-ghost use Rattle.signals.specs.Signals.{switchesOf, pinsOf, buttonsOf, pushOf, isOpen, batteryLow};
+ghost use Rattle.signals.specs.Refusals.{numberOf, numberIn, refusedBy, scanTests};
+ghost use Rattle.signals.specs.Signals.{switchesOf, pinsOf, buttonsOf, adjustmentOf, isOpen, batteryLow};
 
 // The pin byte, the samples of channels 1 to 3, the button byte and the sensor byte of one scan.
 pub struct Input {
@@ -45,13 +45,13 @@ pub struct Buttons {
 }
 
 // What Raise and Lower ask for together.
-pub enum Push {
+pub enum Adjustment {
     Raise,
     Lower,
     Neither,
 }
 
-// Why a call is declined: 1 to 3 the plant's, 4 to 11 the writer's, of which 4 is a reader's too, 12 to 14 those of an image's bearer, 15 the lender's.
+// Why a call is refused: 1 to 3 the plant's, 4 to 11 the writer's, of which 4 is a reader's too, 12 to 14 a restart's, 15 a save's.
 pub enum Refusal {
     // 1: a sample above 10000
     Sample,
@@ -143,13 +143,21 @@ pub fn buttons_of(byte: u8) -> Buttons
 }
 
 // The contract rules out a push while both are pressed.
-pub fn push_of(b: Buttons) -> Push
-    ensures { λ r. ⌜ r ≡ pushOf b ⌝ }
+pub fn adjustment_of(b: Buttons) -> Adjustment
+    ensures { λ r. ⌜ r ≡ adjustmentOf b ⌝ }
 {
     if b.raise {
-        if b.lower { Push::Neither } else { Push::Raise }
+        if b.lower {
+            Adjustment::Neither
+        } else {
+            Adjustment::Raise
+        }
     } else {
-        if b.lower { Push::Lower } else { Push::Neither }
+        if b.lower {
+            Adjustment::Lower
+        } else {
+            Adjustment::Neither
+        }
     }
 }
 
@@ -195,7 +203,7 @@ impl Refusal {
 // Whether a scan's input is acceptable, or the lowest refusal that applies. The contract rules out a refusal for a cause that is not listed, one
 // that is forgotten, and a higher number where a lower one applies.
 pub fn scan_verdict(input: Input) -> Verdict
-    ensures { λ r. ⌜ numberIn r ≡ declinedBy (scanTests input) ⌝ }
+    ensures { λ r. ⌜ numberIn r ≡ refusedBy (scanTests input) ⌝ }
 {
     let sample = (10000 < input.sample1) | (10000 < input.sample2) | (10000 < input.sample3);
     let buttons = bit(input.buttons as u16, 5) | bit(input.buttons as u16, 4);

@@ -1,4 +1,4 @@
--- The stored term by sign and magnitude, as 64 bits can reckon it; what its arguments' ranges come to; and that it is near its exact term.
+-- The stored term by sign and magnitude, as 64 bits can compute it; what its arguments' ranges come to; and that it is near its exact term.
 use mathlib.Core.Path.{_≡_, refl, sym, ap, _∙_, subst}
 use mathlib.Core.Bool.{Bool, true, false, not, cond}
 use Prim.Native.Nat.{ℕ, _+_, _*_, _≤_, _<_, min}

@@ -6,7 +6,7 @@ ghost use Rattle.integers.specs.Sign.{fromSign};
 ghost use Rattle.terms.specs.Terms.{storedTerm, proportionalTerm, integralTerm, derivativeTerm, scanNumerator, scanDenominator, TuningRange};
 ghost use Rattle.terms.specs.TermLaws.{over, turned, Storable};
 
-// What the terms are reckoned with: XP; W = 1H - 1L, which is above zero; TI; TD; S2.8 ON, minutes; S2.4 ON, inverse output.
+// What the terms are computed with: XP; W = 1H - 1L, which is above zero; TI; TD; S2.8 ON, minutes; S2.4 ON, inverse output.
 pub struct Tuning {
     pub xp: u64,
     pub span: u64,

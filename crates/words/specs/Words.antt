@@ -8,8 +8,8 @@ use Rattle.modes.specs.Modes.{isOpenCause, isCause}
 use Rattle.modes.specs.declared.Conditions.{Conditions}
 use Rattle.modes.specs.declared.Mode.{Mode}
 use Rattle.modes.specs.declared.Mode.the-variants.{Hold, Track, Forced, Manual, Auto, Remote, Ratio, Fallback}
-use Rattle.words.specs.declared.Marks.{Marks}
-use Rattle.words.specs.declared.Shown.{Shown}
+use Rattle.words.specs.declared.UserBits.{UserBits}
+use Rattle.words.specs.declared.Indications.{Indications}
 
 -- a byte by its bits 7 to 0
 abbrev pub weight : Bool → ℕ → ℕ
@@ -36,15 +36,15 @@ modeBit Ratio = 11
 unfoldable pub mdHigh : Mode → Conditions → ℕ
 mdHigh mode c =
     let n = modeBit mode in
-    byteOf (eqb n 15) (eqb n 14) (eqb n 13) (eqb n 12) (eqb n 11) (pinsOf (c .pins) .remote) (isOpenCause (c .opens)) (c .fault)
+    byteOf (eqb n 15) (eqb n 14) (eqb n 13) (eqb n 12) (eqb n 11) (pinsOf (c .pins) .remote) (isOpenCause (c .opencount)) (c .fault)
 
-unfoldable pub mdLow : Marks → Shown → ℕ
-mdLow marks shown =
-    let b = buttonsOf (shown .buttons) in
-    byteOf (b .lower) (b .raise) false (marks .measuredpower) (b .sp) (b .r) (b .a) (b .m)
+unfoldable pub mdLow : UserBits → Indications → ℕ
+mdLow userbits indications =
+    let b = buttonsOf (indications .buttons) in
+    byteOf (b .lower) (b .raise) false (userbits .measuredpower) (b .sp) (b .r) (b .a) (b .m)
 
-unfoldable pub MD : Mode → Conditions → Marks → Shown → ℕ
-MD mode c marks shown = 256 * mdHigh mode c + mdLow marks shown
+unfoldable pub MD : Mode → Conditions → UserBits → Indications → ℕ
+MD mode c userbits indications = 256 * mdHigh mode c + mdLow userbits indications
 
 -- ---- "DS: high byte the pin byte; 7, 6 user bits 2, 1; 5 is 0 in Hold, Manual, Forced; 4 is 0 in Remote, Ratio; 3 is 0 for battery low, 2 for a
 -- cause, 1 for low alarm .., 0 for high .."
@@ -71,9 +71,9 @@ dsBit4 Remote = false
 dsBit4 Ratio = false
 dsBit4 Fallback = true
 
-unfoldable pub dsLow : Mode → Conditions → Marks → Shown → ℕ
-dsLow mode c marks shown =
-    byteOf (marks .user2) (marks .user1) (dsBit5 mode) (dsBit4 mode) (not (shown .batterylow)) (not (isCause (c .fault) (c .opens))) (not (shown .lowalarm)) (not (shown .highalarm))
+unfoldable pub dsLow : Mode → Conditions → UserBits → Indications → ℕ
+dsLow mode c userbits indications =
+    byteOf (userbits .user2) (userbits .user1) (dsBit5 mode) (dsBit4 mode) (not (indications .batterylow)) (not (isCause (c .fault) (c .opencount))) (not (indications .lowalarm)) (not (indications .highalarm))
 
-unfoldable pub DS : Mode → Conditions → Marks → Shown → ℕ
-DS mode c marks shown = 256 * c .pins + dsLow mode c marks shown
+unfoldable pub DS : Mode → Conditions → UserBits → Indications → ℕ
+DS mode c userbits indications = 256 * c .pins + dsLow mode c userbits indications

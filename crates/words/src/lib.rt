@@ -8,14 +8,14 @@ use modes::Mode;
 pub mod written;
 
 // User bits 1 and 2, and MD bit 4: whether channel 3 is measured power.
-pub struct Marks {
+pub struct UserBits {
     pub user1: bool,
     pub user2: bool,
     pub measuredpower: bool,
 }
 
 // What the last scan leaves to be shown beside PV, SP, ER and MP: the button byte, the battery and the alarms.
-pub struct Shown {
+pub struct Indications {
     pub buttons: u8,
     pub batterylow: bool,
     pub lowalarm: bool,
@@ -93,7 +93,7 @@ fn md_high(mode: Mode, c: Conditions) -> u16
 {
     let n = mode_bit(mode);
     let p = signals::pins_of(c.pins);
-    let late = modes::is_open_cause(c.opens);
+    let late = modes::is_open_cause(c.opencount);
     byte(
         n == 15,
         n == 14,
@@ -106,15 +106,15 @@ fn md_high(mode: Mode, c: Conditions) -> u16
     )
 }
 
-fn md_low(marks: Marks, shown: Shown) -> u16
-    ensures { λ r. ⌜ (r ≡ mdLow marks shown) × (r ≤ 255) ⌝ }
+fn md_low(userbits: UserBits, indications: Indications) -> u16
+    ensures { λ r. ⌜ (r ≡ mdLow userbits indications) × (r ≤ 255) ⌝ }
 {
-    let b = signals::buttons_of(shown.buttons);
+    let b = signals::buttons_of(indications.buttons);
     byte(
         b.lower,
         b.raise,
         false,
-        marks.measuredpower,
+        userbits.measuredpower,
         b.sp,
         b.r,
         b.a,
@@ -123,36 +123,36 @@ fn md_low(marks: Marks, shown: Shown) -> u16
 }
 
 // MD. The contract rules out a mode's bit that is wrong or missing, one fault shown for the other, and a button that is not shown.
-pub fn md(mode: Mode, c: Conditions, marks: Marks, shown: Shown) -> u16
-    ensures { λ r. ⌜ r ≡ MD mode c marks shown ⌝ }
+pub fn md(mode: Mode, c: Conditions, userbits: UserBits, indications: Indications) -> u16
+    ensures { λ r. ⌜ r ≡ MD mode c userbits indications ⌝ }
 {
     let high = md_high(mode, c);
-    let low = md_low(marks, shown);
+    let low = md_low(userbits, indications);
     256 * high + low
 }
 
-fn ds_low(mode: Mode, c: Conditions, marks: Marks, shown: Shown) -> u16
-    ensures { λ r. ⌜ (r ≡ dsLow mode c marks shown) × (r ≤ 255) ⌝ }
+fn ds_low(mode: Mode, c: Conditions, userbits: UserBits, indications: Indications) -> u16
+    ensures { λ r. ⌜ (r ≡ dsLow mode c userbits indications) × (r ≤ 255) ⌝ }
 {
-    let cause = modes::is_cause(c.fault, c.opens);
+    let cause = modes::is_cause(c.fault, c.opencount);
     let b5 = ds_bit_5(mode);
     let b4 = ds_bit_4(mode);
     byte(
-        marks.user2,
-        marks.user1,
+        userbits.user2,
+        userbits.user1,
         b5,
         b4,
-        !shown.batterylow,
+        !indications.batterylow,
         !cause,
-        !shown.lowalarm,
-        !shown.highalarm,
+        !indications.lowalarm,
+        !indications.highalarm,
     )
 }
 
 // DS. The contract rules out an alarm that is shown for one cause only, a bit that is 1 where it should be 0, and the pin byte of another scan.
-pub fn ds(mode: Mode, c: Conditions, marks: Marks, shown: Shown) -> u16
-    ensures { λ r. ⌜ r ≡ DS mode c marks shown ⌝ }
+pub fn ds(mode: Mode, c: Conditions, userbits: UserBits, indications: Indications) -> u16
+    ensures { λ r. ⌜ r ≡ DS mode c userbits indications ⌝ }
 {
-    let low = ds_low(mode, c, marks, shown);
+    let low = ds_low(mode, c, userbits, indications);
     256 * (c.pins as u16) + low
 }

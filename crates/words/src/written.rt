@@ -1,8 +1,8 @@
-// Writing MD and DS: what is taken of the word, and which words MD declines.
+// Writing MD and DS: what is taken of the word, and which words MD refuses.
 ghost use mathlib.Core.Path.{_≡_};
-ghost use Rattle.signals.specs.Refusals.{numberIn, declinedBy};
+ghost use Rattle.signals.specs.Refusals.{numberIn, refusedBy};
 ghost use Rattle.words.specs.Written.{requestOf, clearsFault, faultWritten, requestWritten, conditionsWritten, powerWritten, userBitsWritten, exactlyOne, causeRemains, mdTests};
-use crate::Marks;
+use crate::UserBits;
 use modes::Conditions;
 use modes::Request;
 use signals::Refusal;
@@ -54,33 +54,33 @@ pub fn conditions_written(c: Conditions, word: u16) -> Conditions
     Conditions {
         request,
         fault,
-        opens: c.opens,
+        opencount: c.opencount,
         pins: c.pins,
     }
 }
 
 // MD bit 4. The contract rules out another bit, and a write of MD that moves the user bits.
-pub fn power_written(marks: Marks, word: u16) -> Marks
-    ensures { λ r. ⌜ r ≡ powerWritten marks word ⌝ }
+pub fn power_written(userbits: UserBits, word: u16) -> UserBits
+    ensures { λ r. ⌜ r ≡ powerWritten userbits word ⌝ }
 {
     let measuredpower = signals::bit(word, 4);
-    Marks {
-        user1: marks.user1,
-        user2: marks.user2,
+    UserBits {
+        user1: userbits.user1,
+        user2: userbits.user2,
         measuredpower,
     }
 }
 
 // DS bits 7 and 6. The contract rules out user bits that are exchanged.
-pub fn user_bits_written(marks: Marks, word: u16) -> Marks
-    ensures { λ r. ⌜ r ≡ userBitsWritten marks word ⌝ }
+pub fn user_bits_written(userbits: UserBits, word: u16) -> UserBits
+    ensures { λ r. ⌜ r ≡ userBitsWritten userbits word ⌝ }
 {
     let user1 = signals::bit(word, 6);
     let user2 = signals::bit(word, 7);
-    Marks {
+    UserBits {
         user1,
         user2,
-        measuredpower: marks.measuredpower,
+        measuredpower: userbits.measuredpower,
     }
 }
 
@@ -94,12 +94,12 @@ fn cause_remains(c: Conditions, word: u16) -> bool
     ensures { λ r. ⌜ r ≡ causeRemains c word ⌝ }
 {
     let fault = fault_written(c.fault, word);
-    modes::is_cause(fault, c.opens)
+    modes::is_cause(fault, c.opencount)
 }
 
 // Whether MD takes this word. The contract rules out a refusal for another cause, one that is forgotten, and a higher number where a lower one applies.
 pub fn md_verdict(c: Conditions, word: u16) -> Verdict
-    ensures { λ r. ⌜ numberIn r ≡ declinedBy (mdTests c word) ⌝ }
+    ensures { λ r. ⌜ numberIn r ≡ refusedBy (mdTests c word) ⌝ }
 {
     let auto = signals::bit(word, 12);
     let remote = signals::bit(word, 11);

@@ -7,7 +7,7 @@ use Prim.Native.Nat.{ℕ, zero, suc}
 use lib.IntN.{ℤ, pos, negℤ, _*ℤ_}
 use lib.ListN.{drop}
 use Rattle.signals.specs.declared.Input.{Input}
-use Rattle.modes.specs.Modes.{isCause, counted, opensAfter}
+use Rattle.modes.specs.Modes.{isCause, counted, openCountAfter}
 use Rattle.modes.specs.declared.Conditions.{Conditions}
 use Rattle.modes.specs.declared.Mode.the-variants.{Auto}
 use Rattle.modes.specs.declared.Request.the-variants as request
@@ -21,7 +21,7 @@ use Rattle.outputs.specs.Instruction.{addTerms, exactArithmetic, changed}
 use Rattle.controller.specs.Answers.{words, number}
 use Rattle.controller.specs.Save.{savedImage}
 use Rattle.controller.specs.Scan.{scan}
-use Rattle.controller.specs.State.{startShown, freshController}
+use Rattle.controller.specs.State.{startIndications, freshController}
 use Rattle.controller.specs.Write.{write}
 use Rattle.controller.specs.declared.Controller.{Controller}
 
@@ -41,11 +41,11 @@ example ti td = record { xp = 1000; span = 1000; ti = ti; td = td; minutes = fal
 -- the count that so many consecutive open scans leave
 abbrev pub afterOpenScans : ℕ → ℕ
 afterOpenScans zero = 0
-afterOpenScans (suc n) = opensAfter counted true (afterOpenScans n)
+afterOpenScans (suc n) = openCountAfter counted true (afterOpenScans n)
 
 -- request A, no cause, these pins; the mode that they give is Auto
 abbrev pub inAuto : ℕ → Conditions
-inAuto pins = record { request = request.Auto; fault = false; opens = 0; pins = pins }
+inAuto pins = record { request = request.Auto; fault = false; opencount = 0; pins = pins }
 
 abbrev pub firstScan : Input
 firstScan = record { pins = 0x91; sample1 = 5000; sample2 = 0; sample3 = 0; buttons = 2; sensors = 0 }
@@ -77,9 +77,9 @@ figures =
     ∷ (isCause false (afterOpenScans 84) ≡ false)
     ∷ (isCause false (afterOpenScans 85) ≡ true)
     -- "Auto with bit 4 is MD 1010h."
-    ∷ (MD Auto (inAuto 0x80) (record { user1 = false; user2 = false; measuredpower = true }) startShown ≡ 0x1010)
+    ∷ (MD Auto (inAuto 0x80) (record { user1 = false; user2 = false; measuredpower = true }) startIndications ≡ 0x1010)
     -- "Pins 91h in Auto, healthy: DS 913Fh."
-    ∷ (DS Auto (inAuto 0x91) (record { user1 = false; user2 = false; measuredpower = false }) startShown ≡ 0x913F)
+    ∷ (DS Auto (inAuto 0x91) (record { user1 = false; user2 = false; measuredpower = false }) startIndications ≡ 0x913F)
     -- the same of a whole scan: started fresh with SW 0, pins 91h, PV 500, A pressed
     ∷ (scan (freshController 0) firstScan .answer ≡ words 0x1002 0x913F 0 0)
     -- "Writing 0000h or 1800h to MD: 9.", whatever the state, and the controller stays

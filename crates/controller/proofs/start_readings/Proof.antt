@@ -5,7 +5,7 @@ use borrow.Author.Needs.{needs}
 use Rattle.integers.specs.Machine.{back}
 use Rattle.controller.specs.State.{startReadings}
 use Rattle.integers.specs.Machine.{back}
-use Rattle.setpoints.specs.ReckoningLaws.{reading-small, low-reading, setpoint-small}
+use Rattle.setpoints.specs.ComputationLaws.{reading-small, low-reading, setpoint-small}
 use Rattle.controller.proofs.start_readings.Statement.{statement}
 use Rattle.controller.proofs.start_readings.Tie as tie
 

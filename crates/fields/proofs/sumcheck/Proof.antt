@@ -5,7 +5,7 @@ use native.Mathlib.Omega.{arith}
 use lib.ListN.{length, take}
 use borrow.Author.Needs.{needs}
 use Rattle.fields.specs.Fields.{sum, sumOf}
-use Rattle.fields.proofs.Taking.{sum-next}
+use Rattle.fields.proofs.DecodingLaws.{sum-next}
 use Rattle.fields.proofs.sumcheck.Statement.{statement}
 use Rattle.fields.proofs.sumcheck.Tie as tie
 

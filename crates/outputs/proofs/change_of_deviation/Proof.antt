@@ -6,7 +6,7 @@ use mir.Syntax.{w64}
 use borrow.Author.Needs.{needs}
 use Rattle.outputs.specs.Deviation.{deviation, earlierSetpoint}
 use Rattle.outputs.specs.OutputLaws.{earlier-reading, deviation-size, small-of}
-use Rattle.setpoints.specs.ReckoningLaws.{reading-back, reading-small}
+use Rattle.setpoints.specs.ComputationLaws.{reading-back, reading-small}
 use Rattle.integers.specs.Machine.{back}
 use Rattle.outputs.specs.Deviation.{changeOfDeviation}
 use Rattle.outputs.proofs.change_of_deviation.Statement.{statement}

@@ -5,7 +5,7 @@ use lib.IntN.{_+ℤ_, _-ℤ_}
 use mir.Val.{toZ, ofZ}
 use mir.Syntax.{w64}
 use Rattle.outputs.specs.OutputLaws.{twice, small-of, sum-most, difference-most, reading-size}
-use Rattle.setpoints.specs.ReckoningLaws.{reading-back, reading-small}
+use Rattle.setpoints.specs.ComputationLaws.{reading-back, reading-small}
 use Rattle.integers.specs.Machine.{back}
 use Rattle.outputs.specs.Deviation.{secondDifference}
 use Rattle.outputs.proofs.second_difference.Statement.{statement}

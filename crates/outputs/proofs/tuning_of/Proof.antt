@@ -1,7 +1,7 @@
 -- `outputs::tuning_of` meets its contract.
 use mir.Syntax.{w64}
 use borrow.Author.Needs.{needs}
-use Rattle.setpoints.specs.ReckoningLaws.{reading-small, low-reading, high-reading}
+use Rattle.setpoints.specs.ComputationLaws.{reading-small, low-reading, high-reading}
 use Rattle.integers.specs.Machine.{back}
 use Rattle.outputs.specs.Deviation.{tuningOf}
 use Rattle.outputs.proofs.tuning_of.Statement.{statement}

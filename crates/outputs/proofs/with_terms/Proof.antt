@@ -11,13 +11,13 @@ use Rattle.integers.specs.Machine.{back}
 use Rattle.terms.specs.Terms.{storedTerm, proportionalTerm, integralTerm, derivativeTerm, TuningRange}
 use Rattle.terms.specs.TermLaws.{proportional-positive, integral-positive, derivative-positive}
 use Rattle.terms.specs.declared.Tuning.{Tuning}
-use Rattle.setpoints.specs.ReckoningLaws.{reading-back, reading-small}
+use Rattle.setpoints.specs.ComputationLaws.{reading-back, reading-small}
 use Rattle.outputs.specs.declared.Past.{Past}
 use Rattle.outputs.specs.Deviation.{deviation, changeOfDeviation, secondDifference, tuningOf}
 use Rattle.outputs.specs.History.{recalled}
 use Rattle.outputs.specs.Instruction.{changed, storedArithmetic}
 use Rattle.outputs.specs.Outputs.{termsOf}
-use Rattle.outputs.specs.OutputLaws.{Recalled, recalled-read, deviation-most, change-most, second-most, tuning-range, stored-size, stored-small, term-sized, small-of, sum-most}
+use Rattle.outputs.specs.OutputLaws.{PastRange, recalled-read, deviation-most, change-most, second-most, tuning-range, stored-size, stored-small, term-sized, small-of, sum-most}
 use Rattle.outputs.proofs.with_terms.Statement.{statement}
 use Rattle.outputs.proofs.with_terms.Tie as tie
 
@@ -30,7 +30,7 @@ recalled-requires c κs = search needs
 past-is : (c : tie.After-recalled) → let a = c .before .before .before .args in c .recalled .result ≡ recalled (a .h) (a .r)
 past-is c = c .recalled .ensures
 
-past-read : (c : tie.After-recalled) → Recalled (c .recalled .result)
+past-read : (c : tie.After-recalled) → PastRange (c .recalled .result)
 past-read c =
     let start = c .before .before .before in
     rw (past-is c) (recalled-read (start .args .h) (start .args .r) (start .pre .2) (start .pre .1))
@@ -68,7 +68,7 @@ module _ (c : tie.After-second-difference) where
   unfolding tuning start
   tuned = tuning-range (start .args .p) (start .args .x .switches) (start .pre .0)
 
-  past-known : Recalled past
+  past-known : PastRange past
   unfolding past start
   past-known = recalled-read (start .args .h) (start .args .r) (start .pre .2) (start .pre .1)
 

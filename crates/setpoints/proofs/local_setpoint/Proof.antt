@@ -2,7 +2,7 @@
 use mir.Facts.{toZ-ofZ}
 use mir.Syntax.{w64}
 use borrow.Author.Needs.{needs}
-use Rattle.setpoints.specs.ReckoningLaws.{added-small}
+use Rattle.setpoints.specs.ComputationLaws.{added-small}
 use Rattle.integers.specs.Machine.{back}
 use Rattle.setpoints.specs.Setpoints.{localSetpoint}
 use Rattle.setpoints.proofs.local_setpoint.Statement.{statement}

@@ -9,7 +9,7 @@ use Rattle.integers.specs.Limit.{limited}
 use Rattle.scaling.specs.Scale.{scaled}
 use Rattle.scaling.specs.Ratio.{RatioRange}
 use Rattle.parameters.specs.Table.{H2, L2, HR, LR}
-use Rattle.setpoints.specs.ReckoningLaws.{range2, ratio-range, quotient-small, bias-small}
+use Rattle.setpoints.specs.ComputationLaws.{range2, ratio-range, quotient-small, bias-small}
 use Rattle.integers.specs.Machine.{back}
 use Rattle.setpoints.specs.Setpoints.{ratioSetpoint}
 use Rattle.setpoints.proofs.ratio_setpoint.Statement.{statement}

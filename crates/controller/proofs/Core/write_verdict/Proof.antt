@@ -3,7 +3,7 @@ use mathlib.Core.Bool.{not}
 use mathlib.Core.Path.{_≡_, ap, _∙_}
 use mir.Facts.{toZ-ofZ}
 use borrow.Author.Needs.{needs}
-use Rattle.signals.specs.Refusals.{declinedBy}
+use Rattle.signals.specs.Refusals.{refusedBy}
 use Rattle.parameters.specs.Table.{value, ruleOf}
 use Rattle.parameters.specs.RuleLaws.{known}
 use Rattle.parameters.specs.Legal.{isUnknown, isReadOnly, inRange, pairInOrder}
@@ -37,28 +37,28 @@ pair-is c =
     simp (c .pair-in-order .ensures, toZ-ofZ (start .fits .v)) (simp (c .before .before .before .before .before .before .before .rule .ensures))
 
 returns : tie.Need-returns
-unfolding declinedBy writeTests
+unfolding refusedBy writeTests
 returns c = simp (unknown-is (c .before) ∙ c .if1 .taken)
 
 is-read-only-requires : tie.Need-is-read-only-requires
 is-read-only-requires c κs = search needs
 
 returns-2 : tie.Need-returns-2
-unfolding declinedBy writeTests
+unfolding refusedBy writeTests
 returns-2 c = simp (unknown-is (c .before .before .before) ∙ c .before .before .if1 .left, read-only-is (c .before) ∙ c .if2 .taken)
 
 in-range-requires : tie.Need-in-range-requires
 in-range-requires c κs = search needs
 
 returns-3 : tie.Need-returns-3
-unfolding declinedBy writeTests
+unfolding refusedBy writeTests
 returns-3 c = simp (unknown-is (c .before .before .before .before .before) ∙ c .before .before .before .before .if1 .left, read-only-is (c .before .before .before) ∙ c .before .before .if2 .left, ap not (in-range-is (c .before)) ∙ c .if3 .taken)
 
 pair-in-order-requires : tie.Need-pair-in-order-requires
 pair-in-order-requires c κs = known (c .before .before .before .before .before .before .before .before .args .number) (unknown-is (c .before .before .before .before .before) ∙ c .before .before .before .before .if1 .left)
 
 returns-4 : tie.Need-returns-4
-unfolding declinedBy writeTests
+unfolding refusedBy writeTests
 returns-4 c =
     simp (
       unknown-is (c .before .before .before .before .before .before .before) ∙ c .before .before .before .before .before .before .if1 .left,
@@ -71,7 +71,7 @@ state-verdict-requires : tie.Need-state-verdict-requires
 state-verdict-requires c κs = search needs
 
 returns-5 : tie.Need-returns-5
-unfolding declinedBy writeTests
+unfolding refusedBy writeTests
 returns-5 c =
     simp (
       unknown-is (c .before .before .before .before .before .before .before .before) ∙ c .before .before .before .before .before .before .before .if1 .left,

@@ -3,20 +3,20 @@ use mathlib.Core.Path.{_≡_, sym, _∙_}
 use mathlib.Core.Bool.{true, false}
 use borrow.Author.Needs.{needs}
 use borrow.Author.Tests.{eq-eqb, ne-eqb, not-true, not-false}
-use Rattle.signals.specs.Refusals.{declinedBy}
+use Rattle.signals.specs.Refusals.{refusedBy}
 use Rattle.controller.specs.Restart.{valuesIn, isIllegal, restartTests}
 use Rattle.controller.proofs.restart.restart_verdict.Statement.{statement}
 use Rattle.controller.proofs.restart.restart_verdict.Tie as tie
 
 returns : tie.Need-returns
-unfolding declinedBy restartTests
+unfolding refusedBy restartTests
 returns c = simp (ne-eqb _ _ (c .if1 .taken))
 
 is-formed-requires : tie.Need-is-formed-requires
 is-formed-requires c κs = c .if1 .left
 
 returns-2 : tie.Need-returns-2
-unfolding declinedBy restartTests
+unfolding refusedBy restartTests
 returns-2 c = simp (eq-eqb _ _ (c .before .before .if1 .left), sym (c .before .is-formed .ensures) ∙ not-true _ (c .if2 .taken))
 
 values-of-requires : tie.Need-values-of-requires
@@ -29,14 +29,14 @@ is-legal-requires : tie.Need-is-legal-requires
 is-legal-requires c κs = search needs
 
 returns-3 : tie.Need-returns-3
-unfolding declinedBy restartTests
+unfolding refusedBy restartTests
 returns-3 c = let formed = sym (c .before .before .before .before .before .is-formed .ensures) ∙ not-false _ (c .before .before .before .before .if2 .left) in
     let illegal : isIllegal (valuesIn (c .before .before .before .before .before .before .before .before .args .image .now)) ≡ true =
     simp (sym (c .before .before .before .values-of .ensures)) (simp (sym (c .before .before .is-sum-right .ensures), sym (c .before .is-legal .ensures)) (c .if3 .taken)) in
     simp (eq-eqb _ _ (c .before .before .before .before .before .before .if1 .left), formed, illegal)
 
 returns-4 : tie.Need-returns-4
-unfolding declinedBy restartTests
+unfolding refusedBy restartTests
 returns-4 c = let formed = sym (c .before .before .before .before .before .is-formed .ensures) ∙ not-false _ (c .before .before .before .before .if2 .left) in
     let legal : isIllegal (valuesIn (c .before .before .before .before .before .before .before .before .args .image .now)) ≡ false =
     simp (sym (c .before .before .before .values-of .ensures)) (simp (sym (c .before .before .is-sum-right .ensures), sym (c .before .is-legal .ensures)) (c .if3 .left)) in

@@ -33,8 +33,8 @@ as-word-requires c κs = let p = c .before .before .before .before .before .args
     let same : natAbs (value p (n + 1)) ≡ natAbs (toZ w64 (ofZ w64 (c .get .result))) = ap natAbs (sym (back w64 (c .get .result) (c .get .ok) ∙ c .get .ensures)) in
     omega (arith, same, value-most p (c .before .before .before .before .before .pre .0) (n + 1) (omega arith) (omega arith))
 
-marks-number-requires : tie.Need-marks-number-requires
-marks-number-requires c κs = search needs
+user-bits-number-requires : tie.Need-user-bits-number-requires
+user-bits-number-requires c κs = search needs
 
 returns : tie.Need-returns
 unfolding valueAt
@@ -59,7 +59,7 @@ returns-4 c = let n = c .before .before .before .before .before .before .args .p
 returns-5 : tie.Need-returns-5
 unfolding valueAt
 returns-5 c = let n = c .before .before .before .before .before .args .place in
-    simp (c .marks-number .ensures, le-ltb n 23 (omega arith), ne-eqb n 23 (λ q. omega arith), ne-eqb n 24 (λ q. omega arith), ne-eqb n 25 (λ q. omega arith))
+    simp (c .user-bits-number .ensures, le-ltb n 23 (omega arith), ne-eqb n 23 (λ q. omega arith), ne-eqb n 24 (λ q. omega arith), ne-eqb n 25 (λ q. omega arith))
 
 pub value-at-spec : {M : Type 1} → statement M
 value-at-spec =
@@ -70,7 +70,7 @@ value-at-spec =
     add-get
     get-requires
     as-word-requires
-    marks-number-requires
+    user-bits-number-requires
     returns
     returns-2
     returns-3

@@ -3,7 +3,7 @@ use mathlib.Core.List.{[], _∷_}
 use mathlib.Core.Bool.{not, _&&_, _||_}
 use mathlib.Core.Path.{_≡_}
 use borrow.Author.Needs.{needs}
-use Rattle.signals.specs.Refusals.{declinedBy}
+use Rattle.signals.specs.Refusals.{refusedBy}
 use Rattle.words.specs.Written.{mdTests}
 use Rattle.words.proofs.written.md_verdict.Statement.{statement}
 use Rattle.words.proofs.written.md_verdict.Tie as tie
@@ -41,19 +41,19 @@ tests-are c =
     (simp (c .before .before .before .bit3 .ensures, c .before .before .before .before .bit2 .ensures, c .before .before .before .before .before .bit .ensures))
 
 returns : tie.Need-returns
-unfolding declinedBy
+unfolding refusedBy
 returns c = simp (tests-are (c .before), c .if1 .taken)
 
 returns-2 : tie.Need-returns-2
-unfolding declinedBy
+unfolding refusedBy
 returns-2 c = simp (tests-are (c .before .before .before), c .before .before .if1 .left, c .if2 .taken)
 
 returns-3 : tie.Need-returns-3
-unfolding declinedBy
+unfolding refusedBy
 returns-3 c = simp (tests-are (c .before .before .before .before), c .before .before .before .if1 .left, c .before .if2 .left, c .if3 .taken)
 
 returns-4 : tie.Need-returns-4
-unfolding declinedBy
+unfolding refusedBy
 returns-4 c = simp (tests-are (c .before .before .before .before), c .before .before .before .if1 .left, c .before .if2 .left, c .if3 .left)
 
 pub md-verdict-spec : {M : Type 1} → statement M

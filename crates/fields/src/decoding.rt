@@ -1,0 +1,72 @@
+// An image decoded: whether each field has its tag and length, and the values.
+ghost use mathlib.Core.Path.{_≡_};
+ghost use Prim.Native.Nat.{_+_, _≤_, _<_};
+ghost use lib.ListN.{length};
+ghost use Rattle.fields.specs.Decoding.{isHeaded, valueIn, formedFrom, valuesFrom};
+
+// Whether the part begins with a field of this tag and length.
+fn is_headed(part: &[u8], tag: u8, size: u8) -> bool
+    requires { ⌜ 3 ≤ length (now part) ⌝ }
+    ensures { λ r. ⌜ r ≡ isHeaded tag size (now (part .entry)) ⌝ }
+{
+    if part[0] != tag {
+        return false;
+    }
+    if part[1] != 0 {
+        return false;
+    }
+    part[2] == size
+}
+
+fn wide(byte: u8) -> u16
+    ensures { λ r. ⌜ (r ≡ byte) × (r < 256) ⌝ }
+{
+    byte as u16
+}
+
+// The value of the field that the part begins with.
+fn value_in(part: &[u8], size: u8) -> u16
+    requires { ⌜ (3 + size ≤ length (now part)) × (1 ≤ size) × (size ≤ 2) ⌝ }
+    ensures { λ r. ⌜ r ≡ valueIn size (now (part .entry)) ⌝ }
+{
+    if size == 2 {
+        wide(part[3]) * 256 + wide(part[4])
+    } else {
+        wide(part[3])
+    }
+}
+
+// Whether every tag and length is right. The contract rules out a field that isn't looked at.
+pub fn is_formed(image: &[u8]) -> bool
+    requires { ⌜ length (now image) ≡ 137 ⌝ }
+    ensures { λ r. ⌜ r ≡ formedFrom 0 28 (now (image .entry)) ⌝ }
+{
+    let mut start: usize = 0;
+    let mut place: usize = 0;
+    while place < 28 {
+        let size = crate::length_of(place);
+        if !is_headed(&image[start..], crate::tag_of(place), size) {
+            return false;
+        }
+        start = start + 3 + (size as usize);
+        place += 1;
+    }
+    true
+}
+
+// The values of all fields. The contract rules out a value with its bytes exchanged, and one that is taken from a neighbour.
+pub fn values_of(image: &[u8]) -> [u16; 28]
+    requires { ⌜ length (now image) ≡ 137 ⌝ }
+    ensures { λ r. ⌜ r ≡ valuesFrom 0 28 (now (image .entry)) ⌝ }
+{
+    let mut values: [u16; 28] = [0; 28];
+    let mut start: usize = 0;
+    let mut place: usize = 0;
+    while place < 28 {
+        let size = crate::length_of(place);
+        values[place] = value_in(&image[start..], size);
+        start = start + 3 + (size as usize);
+        place += 1;
+    }
+    values
+}
