@@ -19,7 +19,7 @@ append-bytes-requires : tie.Need-append-bytes-requires
 append-bytes-requires c κs = tt
 
 same-length : tie.Need-same-length
-same-length c = search needs
+same-length c = c .before .before .append-bytes .kept .0
 
 returns : tie.Need-returns
 returns c =

@@ -1,8 +1,8 @@
 -- `formatting::append_digits` meets its contract.
+use mathlib.Core.Path.{_∙_}
 use Prim.Native.Nat.{ℕ, _/_, _<_}
 use native.Mathlib.Nat.{mod-eq-of-lt}
 use native.Mathlib.Omega.{arith}
-use borrow.Author.Needs.{needs}
 use Rattle.text.specs.Digits.{hexadecimal}
 use Rattle.formatting.specs.Buffer.{buffer}
 use Rattle.formatting.specs.Laws.{then}
@@ -25,7 +25,7 @@ append-byte-requires-2 : tie.Need-append-byte-requires-2
 append-byte-requires-2 c κs = tt
 
 same-length : tie.Need-same-length
-same-length c = search needs
+same-length c = c .before .before .append-byte2 .kept .0 ∙ c .before .before .before .before .before .before .before .append-byte .kept .0
 
 returns : tie.Need-returns
 unfolding hexadecimal

@@ -1,7 +1,6 @@
 -- `formatting::append_signed` meets its contract.
 use mathlib.Core.Path.{sym, _∙_}
 use mir.Facts.{toZ-ofZ}
-use borrow.Author.Needs.{needs}
 use Rattle.text.specs.Digits.{decimal}
 use Rattle.formatting.specs.Buffer.{buffer}
 use Rattle.formatting.specs.Laws.{then}
@@ -24,7 +23,7 @@ append-decimal-requires-2 : tie.Need-append-decimal-requires-2
 append-decimal-requires-2 c κs = tt
 
 same-length : tie.Need-same-length
-same-length c = search needs
+same-length c = c .before .before .append-decimal .kept .0 ∙ c .before .before .before .before .before .before .append-byte .kept .0
 
 returns : tie.Need-returns
 unfolding decimal
@@ -38,7 +37,7 @@ returns c =
     simp sign (then (buffer (s .args .out .now) (s .args .used)) _ _ (b .append-byte .ensures) size)
 
 same-length-2 : tie.Need-same-length-2
-same-length-2 c = search needs
+same-length-2 c = c .before .before .append-decimal2 .kept .0
 
 returns-2 : tie.Need-returns-2
 unfolding decimal

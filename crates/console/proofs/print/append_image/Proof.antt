@@ -1,4 +1,5 @@
 -- `console::print::append_image` meets its contract.
+use mathlib.Core.Path.{refl, _∙_}
 use native.Mathlib.Omega.{arith}
 use lib.Seq.{take-all}
 use borrow.Author.Needs.{needs}
@@ -9,7 +10,7 @@ use Rattle.console.proofs.print.append_image.Statement.{statement}
 use Rattle.console.proofs.print.append_image.Tie as tie
 
 slice-aggregate-append-bytes : tie.Need-slice-aggregate-append-bytes
-slice-aggregate-append-bytes c = search needs
+slice-aggregate-append-bytes c = refl
 
 append-bytes-requires : tie.Need-append-bytes-requires
 append-bytes-requires c κs = tt
@@ -18,7 +19,7 @@ append-hexadecimal-requires : tie.Need-append-hexadecimal-requires
 append-hexadecimal-requires c κs = tt
 
 same-length : tie.Need-same-length
-same-length c = search needs
+same-length c = c .before .before .append-hexadecimal .kept .0 ∙ c .before .before .before .before .before .before .before .append-bytes .kept .0
 
 returns : tie.Need-returns
 unfolding replyText
@@ -42,7 +43,7 @@ append-hexadecimal-requires-2 : tie.Need-append-hexadecimal-requires-2
 append-hexadecimal-requires-2 c κs = tt
 
 same-length-2 : tie.Need-same-length-2
-same-length-2 c = search needs
+same-length-2 c = c .before .before .append-hexadecimal2 .kept .0 ∙ c .before .before .before .before .before .before .before .before .append-bytes .kept .0
 
 returns-2 : tie.Need-returns-2
 unfolding replyText

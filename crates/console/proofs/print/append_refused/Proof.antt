@@ -1,5 +1,5 @@
 -- `console::print::append_refused` meets its contract.
-use borrow.Author.Needs.{needs}
+use mathlib.Core.Path.{refl, _∙_}
 use Rattle.formatting.specs.Buffer.{buffer}
 use Rattle.console.specs.Replies.{replyText}
 use Rattle.formatting.specs.Laws.{then}
@@ -7,7 +7,7 @@ use Rattle.console.proofs.print.append_refused.Statement.{statement}
 use Rattle.console.proofs.print.append_refused.Tie as tie
 
 slice-aggregate-append-bytes : tie.Need-slice-aggregate-append-bytes
-slice-aggregate-append-bytes c = search needs
+slice-aggregate-append-bytes c = refl
 
 append-bytes-requires : tie.Need-append-bytes-requires
 append-bytes-requires c κs = tt
@@ -16,7 +16,7 @@ append-spaced-requires : tie.Need-append-spaced-requires
 append-spaced-requires c κs = tt
 
 same-length : tie.Need-same-length
-same-length c = search needs
+same-length c = c .before .before .append-spaced .kept .0 ∙ c .before .before .before .before .before .before .append-bytes .kept .0
 
 returns : tie.Need-returns
 unfolding replyText

@@ -1,5 +1,5 @@
 -- `console::print::append_reply` meets its contract.
-use borrow.Author.Needs.{needs}
+use mathlib.Core.Path.{_∙_}
 use Rattle.console.specs.Replies.{replyLine}
 use Rattle.formatting.specs.Buffer.{buffer}
 use Rattle.formatting.specs.Laws.{then}
@@ -13,7 +13,7 @@ append-byte-requires : tie.Need-append-byte-requires
 append-byte-requires c κs = tt
 
 same-length : tie.Need-same-length
-same-length c = search needs
+same-length c = c .before .before .append-byte .kept .0 ∙ c .before .before .before .before .before .before .append-text .kept .0
 
 returns : tie.Need-returns
 unfolding replyLine

@@ -1,5 +1,5 @@
 -- `console::print::append_spaced` meets its contract.
-use borrow.Author.Needs.{needs}
+use mathlib.Core.Path.{_∙_}
 use Rattle.formatting.specs.Buffer.{buffer}
 use Rattle.formatting.specs.Laws.{then}
 use Rattle.console.specs.Replies.{spaced}
@@ -13,7 +13,7 @@ append-decimal-requires : tie.Need-append-decimal-requires
 append-decimal-requires c κs = tt
 
 same-length : tie.Need-same-length
-same-length c = search needs
+same-length c = c .before .before .append-decimal .kept .0 ∙ c .before .before .before .before .before .before .append-byte .kept .0
 
 returns : tie.Need-returns
 unfolding spaced

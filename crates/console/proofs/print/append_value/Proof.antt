@@ -1,7 +1,7 @@
 -- `console::print::append_value` meets its contract.
+use mathlib.Core.Path.{refl, _∙_}
 use mir.Facts.{toZ-ofZ}
 use mir.Syntax.{w64}
-use borrow.Author.Needs.{needs}
 use Rattle.formatting.specs.Laws.{then}
 use Rattle.formatting.specs.Buffer.{buffer}
 use Rattle.console.specs.Replies.{replyText}
@@ -10,7 +10,7 @@ use Rattle.console.proofs.print.append_value.Statement.{statement}
 use Rattle.console.proofs.print.append_value.Tie as tie
 
 slice-aggregate-append-bytes : tie.Need-slice-aggregate-append-bytes
-slice-aggregate-append-bytes c = search needs
+slice-aggregate-append-bytes c = refl
 
 append-bytes-requires : tie.Need-append-bytes-requires
 append-bytes-requires c κs = tt
@@ -22,7 +22,7 @@ append-signed-requires : tie.Need-append-signed-requires
 append-signed-requires c κs = tt
 
 same-length : tie.Need-same-length
-same-length c = search needs
+same-length c = c .before .before .append-signed .kept .0 ∙ c .before .before .before .before .before .before .before .append-bytes .kept .0
 
 returns : tie.Need-returns
 unfolding replyText

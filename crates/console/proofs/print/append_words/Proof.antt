@@ -1,5 +1,5 @@
 -- `console::print::append_words` meets its contract.
-use borrow.Author.Needs.{needs}
+use mathlib.Core.Path.{refl, _∙_}
 use Rattle.formatting.specs.Buffer.{buffer}
 use Rattle.console.specs.Replies.{replyText}
 use Rattle.formatting.specs.Laws.{then}
@@ -7,7 +7,7 @@ use Rattle.console.proofs.print.append_words.Statement.{statement}
 use Rattle.console.proofs.print.append_words.Tie as tie
 
 slice-aggregate-append-bytes : tie.Need-slice-aggregate-append-bytes
-slice-aggregate-append-bytes c = search needs
+slice-aggregate-append-bytes c = refl
 
 append-bytes-requires : tie.Need-append-bytes-requires
 append-bytes-requires c κs = tt
@@ -25,7 +25,14 @@ append-spaced-requires-4 : tie.Need-append-spaced-requires-4
 append-spaced-requires-4 c κs = tt
 
 same-length : tie.Need-same-length
-same-length c = search needs
+same-length c =
+    let w4 = c .before .before in
+    let w3 = w4 .before .before .before .before in
+    let w2 = w3 .before .before .before .before in
+    let w1 = w2 .before .before .before .before in
+    let n = w1 .before .before .before .before in
+    w4 .append-spaced4 .kept .0 ∙ w3 .append-spaced3 .kept .0 ∙ w2 .append-spaced2 .kept .0 ∙ w1 .append-spaced .kept .0 ∙
+    n .append-bytes .kept .0
 
 returns : tie.Need-returns
 unfolding replyText
