@@ -180,3 +180,23 @@ decimal-shortest z s = go (eqb (getD s 0 0) 45) refl
     go false f e =
         let r = digits-shortest false z s e in
         rw (r .1) (omega (arith, r .2, decimal-length false (r .0)))
+
+-- ---- hexadecimal digits
+
+pub hexadecimal-length : (bs : List ℕ) → length (hexadecimal bs) ≡ 2 * length bs
+unfolding hexadecimal
+hexadecimal-length [] = refl
+hexadecimal-length (b ∷ bs) = omega (arith, hexadecimal-length bs)
+
+-- the two digits of the byte at i
+pub hexadecimal-at : (bs : List ℕ) (i : ℕ) → i < length bs
+    → (getD (hexadecimal bs) (2 * i) 0 ≡ hexadecimalDigit (getD bs i 0 / 16))
+    × (getD (hexadecimal bs) (2 * i + 1) 0 ≡ hexadecimalDigit (getD bs i 0 % 16))
+unfolding hexadecimal
+hexadecimal-at [] i h = absurd (omega arith)
+hexadecimal-at (b ∷ bs) zero h = (refl, refl)
+hexadecimal-at (b ∷ bs) (suc i) h =
+    let r = hexadecimal-at bs i (omega arith) in
+    let high : 2 * suc i ≡ suc (suc (2 * i)) = omega arith in
+    let low : 2 * suc i + 1 ≡ suc (suc (2 * i + 1)) = omega arith in
+    (rw high (r .0), rw low (r .1))
