@@ -12,6 +12,7 @@ pub fn append_error(out: &mut [u8], used: usize) -> usize
     formatting::append_bytes(out, used, b"error\n")
 }
 
+// A number and the line's end.
 fn append_number(out: &mut [u8], used: usize, number: i64) -> usize
     ensures { λ r. ⌜ buffer (now (out .exit)) r ≡ appendAll (buffer (now (out .entry)) used) (answerLine (Number number)) ⌝ }
 {

@@ -1,5 +1,5 @@
 -- The lines that answer calls, as bytes.
-use mathlib.Core.List.{List, _∷_, _++_}
+use mathlib.Core.List.{List, _++_}
 use Prim.Native.Nat.{ℕ}
 use lib.ListN.{take}
 use Rattle.text.specs.Digits.{digits, decimal, hexadecimal}
@@ -9,7 +9,7 @@ use Rattle.console.specs.declared.call.Reply.the-variants.{Accepted, Val
 
 -- a blank and a number
 unfoldable pub spaced : ℕ → List ℕ
-spaced n = 32 ∷ digits n
+spaced n = ascii " " ++ digits n
 
 -- a line without its end; the image is the first 137 bytes of the buffer that was saved into
 unfoldable pub replyText : Reply → List ℕ → List ℕ
@@ -20,5 +20,6 @@ replyText Image saved = ascii "image " ++ hexadecimal (take 137 saved)
 replyText (Refused number) saved = ascii "refused" ++ spaced number
 replyText NoCall saved = ascii "error"
 
+-- the line of a reply
 unfoldable pub replyLine : Reply → List ℕ → List ℕ
 replyLine reply saved = replyText reply saved ++ ascii "\n"

@@ -25,6 +25,7 @@ fn append_words(out: &mut [u8], used: usize, md: u16, ds: u16, op: u16, electric
     append_spaced(out, three, electrical as u64)
 }
 
+// A refusal and its number.
 fn append_refused(out: &mut [u8], used: usize, number: u8) -> usize
     ensures { λ r. ⌜ buffer (now (out .exit)) r ≡ appendAll (buffer (now (out .entry)) used) (replyText (Refused number) []) ⌝ }
 {
@@ -51,6 +52,7 @@ fn append_image(out: &mut [u8], used: usize, saved: &[u8]) -> usize
     formatting::append_hexadecimal(out, name, &saved[0..137])
 }
 
+// What a reply's line has before its end.
 fn append_text(out: &mut [u8], used: usize, reply: Reply, saved: &[u8]) -> usize
     ensures { λ r. ⌜ buffer (now (out .exit)) r ≡ appendAll (buffer (now (out .entry)) used) (replyText reply (now (saved .entry))) ⌝ }
 {

@@ -1,18 +1,18 @@
 -- The digits that `io::decimal` writes are the number's.
-use mathlib.Core.Path.{_≡_, refl}
-use mathlib.Core.List.{List, [], _∷_, _++_}
+use mathlib.Core.Path.{_≡_}
 use Prim.Native.Nat.{ℕ, zero, suc, _+_, _-_, _/_, _%_, _^_, _≤_, _<_}
-use native.Mathlib.Nat.{pow-zero, pow-suc, pow-le-pow-right, mod-eq-of-lt, div-lt-iff-lt-mul}
+use native.Mathlib.Nat.{pow-suc, pow-le-pow-right, mod-eq-of-lt, div-lt-iff-lt-mul}
 use native.Mathlib.Omega.{arith}
 use borrow.Author.Tests.{lt-ltb}
-use Rattle.io.specs.Digits.{Fewest, glyph}
-use Rattle.io.specs.Digits.{digits as lastDigits}
+use Rattle.io.specs.Digits.{Fewest}
+use Rattle.io.specs.Digits.{glyph as digitOf, digits as lastDigits}
 use Rattle.text.specs.Digits.{digitsWithin, digits, within-last, within-more}
 
-decimal-digit : (d : ℕ) → d < 10 → glyph d ≡ 48 + d
+-- one digit
+decimal-digit : (d : ℕ) → d < 10 → digitOf d ≡ 48 + d
 decimal-digit d h = simp (lt-ltb d 10 h)
 
--- without its last digit
+-- a number of two digits or more, and the same without its last
 fewer : (n k : ℕ) → Fewest 10 1 n (suc (suc k)) → (10 ≤ n) × Fewest 10 1 (n / 10) (suc k)
 fewer n k f =
     let e : suc (suc k) - 1 ≡ suc k = omega arith in
@@ -22,7 +22,7 @@ fewer n k f =
     let q : n / 10 < 10 ^ suc k = div-lt-iff-lt-mul {k = 10} {x = n} {y = 10 ^ suc k} (omega arith) .1 (rw pow-suc at (f .1)) in
     (omega arith, (omega arith, q, λ _. rw d (omega (arith, rw pow-suc at m))))
 
--- of k digits, where no fewer hold n
+-- the last k digits, where no fewer hold n, are all of them
 written-within : (more n k : ℕ) → n ≤ more → Fewest 10 1 n k → lastDigits 10 k n ≡ digitsWithin more n
 written-within more n zero h f = absurd (omega arith)
 written-within more n (suc zero) h f =
@@ -34,6 +34,7 @@ written-within (suc more) n (suc (suc k)) h f =
     let r = written-within more (n / 10) (suc k) (omega arith) (l .1) in
     rw (within-more more n (l .0), decimal-digit (n % 10) (omega arith), r)
 
+-- by the two facts that the contract of `io::decimal` gives of its count and its digits
 pub written : (n k : ℕ) → Fewest 10 1 n k → lastDigits 10 k n ≡ digits n
 unfolding digits
 written n k f = written-within n n k (omega arith) f

@@ -9,7 +9,7 @@ use lib.Dec.{eqb, leb, ltb}
 use lib.IntN.{ℤ, pos, negsuc, natAbs}
 use lib.ListN.{length, drop, getD, length-append, length-drop, List·getD-append}
 use borrow.Author.Tests.{ltb-true, ltb-false, lt-ltb, le-ltb, le-leb, ne-eqb}
-use Rattle.integers.specs.Sign.{fromSign, isNegative, natAbs-fromSign}
+use Rattle.integers.specs.Sign.{fromSign, isNegative}
 use Rattle.text.specs.Numbers.{isDigit, readOn, digitsOf, numberOf, digit-range}
 use Rattle.text.specs.declared.Reading.{Reading}
 use Rattle.text.specs.declared.Reading.the-variants.{Number, Malformed}
@@ -38,11 +38,13 @@ hexadecimal (b ∷ bs) = hexadecimalDigit (b / 16) ∷ hexadecimalDigit (b % 16)
 
 -- ---- the digits one by one
 
+-- a number of one digit
 pub within-last : (more n : ℕ) → n < 10 → digitsWithin more n ≡ (48 + n) ∷ []
 unfolding digitsWithin
 within-last zero n h = refl
 within-last (suc more) n h = simp (lt-ltb n 10 h)
 
+-- a digit more behind those of the tenth
 pub within-more : (more n : ℕ) → 10 ≤ n → digitsWithin (suc more) n ≡ digitsWithin more (n / 10) ++ ((48 + n % 10) ∷ [])
 unfolding digitsWithin
 within-more more n h = simp (le-ltb n 10 h)
@@ -97,6 +99,7 @@ module _ (n : ℕ) where
 
 -- ---- read back
 
+-- one digit behind others
 read-digit : (minus : Bool) (v d : ℕ) (ds : List ℕ) → d < 10 → readOn minus v ((48 + d) ∷ ds) ≡ readOn minus (v * 10 + d) ds
 unfolding readOn isDigit
 read-digit minus v d ds h =
@@ -111,6 +114,7 @@ read-within minus =
     rw (within-more more n h, append-assoc)
     (r ((48 + n % 10) ∷ ds) ∙ read-digit minus (n / 10) (n % 10) ds (omega arith) ∙ ap (λ (x : ℕ). readOn minus x ds) (omega arith)))
 
+-- digits of a natural number, with the sign that stood before them
 digits-read : (minus : Bool) (n : ℕ) → n < 10 ^ 18 → digitsOf minus (digits n) ≡ Number (fromSign minus n)
 unfolding digitsOf digits readOn
 digits-read minus n h =
@@ -152,6 +156,7 @@ read-sized minus v (d ∷ ds) z e =
       below = rw (pow-suc, mul-comm (10 ^ length ds) 10, ← mul-assoc) (omega (arith, m, r .below));
     }
 
+-- no digits that read as a number are fewer than those written of it
 digits-shortest : (minus : Bool) (z : ℤ) (ds : List ℕ) → digitsOf minus ds ≡ Number z
     → (n : ℕ) × (z ≡ fromSign minus n) × (length (digits n) ≤ length ds)
 unfolding digitsOf
@@ -161,6 +166,7 @@ digits-shortest minus z ds e =
     let r = read-sized minus 0 ds z (q .1) in
     (r .value, r .signed, digits-few (r .value) (length ds) (ltb-true 0 (length ds) (p .0)) (omega (arith, r .below)))
 
+-- the minus is one byte more
 decimal-length : (minus : Bool) (n : ℕ) → length (decimal (fromSign minus n)) ≤ cond minus (suc (length (digits n))) (length (digits n))
 unfolding decimal
 decimal-length true zero = omega arith
@@ -183,6 +189,7 @@ decimal-shortest z s = go (eqb (getD s 0 0) 45) refl
 
 -- ---- hexadecimal digits
 
+-- two digits to a byte
 pub hexadecimal-length : (bs : List ℕ) → length (hexadecimal bs) ≡ 2 * length bs
 unfolding hexadecimal
 hexadecimal-length [] = refl
