@@ -2,7 +2,6 @@
 use mathlib.Core.Path.{refl, _∙_}
 use native.Mathlib.Omega.{arith}
 use lib.Seq.{take-all}
-use borrow.Author.Needs.{needs}
 use Rattle.console.specs.Replies.{replyText}
 use Rattle.formatting.specs.Laws.{then}
 use Rattle.formatting.specs.Buffer.{buffer}
@@ -19,7 +18,10 @@ append-hexadecimal-requires : tie.Need-append-hexadecimal-requires
 append-hexadecimal-requires c κs = tt
 
 same-length : tie.Need-same-length
-same-length c = c .before .before .append-hexadecimal .kept .0 ∙ c .before .before .before .before .before .before .before .append-bytes .kept .0
+same-length c =
+    let h = c .before .before in
+    let n = h .before .before .before .before .before in
+    h .append-hexadecimal .kept .0 ∙ n .append-bytes .kept .0
 
 returns : tie.Need-returns
 unfolding replyText
@@ -31,19 +33,22 @@ returns c =
     (then (buffer (s .args .out .now) (s .args .used)) _ _ (n .append-bytes .ensures) (h .append-hexadecimal .ensures))
 
 sub-append-hexadecimal : tie.Need-sub-append-hexadecimal
-sub-append-hexadecimal c = search needs
+sub-append-hexadecimal c = omega arith
 
 part-append-hexadecimal-start : tie.Need-part-append-hexadecimal-start
-part-append-hexadecimal-start c = search needs
+part-append-hexadecimal-start c = omega arith
 
 part-append-hexadecimal-end : tie.Need-part-append-hexadecimal-end
-part-append-hexadecimal-end c = search needs
+part-append-hexadecimal-end c = omega arith
 
 append-hexadecimal-requires-2 : tie.Need-append-hexadecimal-requires-2
 append-hexadecimal-requires-2 c κs = tt
 
 same-length-2 : tie.Need-same-length-2
-same-length-2 c = c .before .before .append-hexadecimal2 .kept .0 ∙ c .before .before .before .before .before .before .before .before .append-bytes .kept .0
+same-length-2 c =
+    let h = c .before .before in
+    let n = h .before .before .before .before .before .before in
+    h .append-hexadecimal2 .kept .0 ∙ n .append-bytes .kept .0
 
 returns-2 : tie.Need-returns-2
 unfolding replyText
