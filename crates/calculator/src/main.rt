@@ -3,15 +3,15 @@
 use lines::Place;
 
 mod answer;
-mod say;
+mod print;
 
 // The answer to a line. One that fills the whole buffer is too long.
 fn line_answer(line: &[u8], len: usize, out: &mut [u8], used: usize) -> usize {
     let free = lines::room(out, used);
     if len < line.len() {
-        return say::answer(out, free, answer::of_line(&line[0..len]));
+        return print::append_answer(out, free, answer::of_line(&line[0..len]));
     }
-    say::error(out, free)
+    print::append_error(out, free)
 }
 
 // How much of the output is used, and where reading stands.

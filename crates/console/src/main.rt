@@ -14,7 +14,7 @@ use lines::Place;
 
 mod call;
 mod image;
-mod say;
+mod print;
 
 // The controller, how much of the output is used, and where reading stands.
 struct Turn {
@@ -46,7 +46,7 @@ fn line_answer(
     let reply = step.reply;
     Answered {
         controller: next,
-        used: say::reply(out, free, reply, &buffer),
+        used: print::append_reply(out, free, reply, &buffer),
     }
 }
 

@@ -1,4 +1,4 @@
-// Bytes in hexadecimal digits, read and written.
+// Bytes in hexadecimal digits, read.
 ghost use Prim.Native.Nat.{_≤_};
 ghost use lib.ListN.{length};
 
@@ -59,26 +59,4 @@ pub fn bytes_in(word: &[u8], bytes: &mut [u8]) -> Taken
         n += 1;
     }
     within(even & (0 < half), half, bytes)
-}
-
-// The digit of the low half of a byte.
-fn digit_of(byte: u8) -> u8 {
-    let value = byte % 16;
-    if value < 10 {
-        b'0' + value
-    } else {
-        b'A' + (value - 10)
-    }
-}
-
-// Two capitals for each byte.
-pub fn write(out: &mut [u8], used: usize, bytes: &[u8]) -> usize {
-    let mut n = used;
-    let mut i = 0;
-    while i < bytes.len() {
-        let high = crate::push(out, n, digit_of(bytes[i] / 16));
-        n = crate::push(out, high, digit_of(bytes[i]));
-        i += 1;
-    }
-    n
 }

@@ -194,41 +194,7 @@ pub fn has(a: Arguments, count: usize) -> bool {
     if a.ok { a.count == count } else { false }
 }
 
-// ---- answers, at the front of a buffer; what does not fit is left out
-
-pub fn push(out: &mut [u8], used: usize, b: u8) -> usize {
-    if used < out.len() {
-        out[used] = b;
-        used + 1
-    } else {
-        used
-    }
-}
-
-pub fn bytes(out: &mut [u8], used: usize, s: &[u8]) -> usize {
-    let mut n = used;
-    let mut i = 0;
-    while i < s.len() {
-        n = push(out, n, s[i]);
-        i += 1;
-    }
-    n
-}
-
-pub fn decimal(out: &mut [u8], used: usize, n: u64) -> usize {
-    let mut text = [0u8; 20];
-    let k = io::decimal(n, &mut text);
-    bytes(out, used, &text[..k])
-}
-
-pub fn signed(out: &mut [u8], used: usize, x: i64) -> usize {
-    let size = integers::magnitude(x);
-    if integers::negative(x) {
-        let n = push(out, used, b'-');
-        return decimal(out, n, size);
-    }
-    decimal(out, used, size)
-}
+// ---- standard output
 
 pub fn flush(out: &[u8], used: usize) {
     if used <= out.len() {
