@@ -82,7 +82,7 @@ gathering-starts line start =
       most = omega arith;
       six = refl;
       zeros = refl;
-      same = ap (readOf (numbersOf (take 6 (firstWords 7 line start)))) (sym (zero-add _))
+      same = ap (readOf (numbersOf (take 6 (firstWords 7 line start)))) (sym (zero-add _));
     }
 
 module _ (line : List ℕ) (start at count : ℕ) (values : List ℤ) (g : Gathering line start values count at) (w : Span) (found : w ≡ wordAt line at) where
@@ -138,5 +138,5 @@ module _ (line : List ℕ) (start at count : ℕ) (values : List ℤ) (g : Gathe
             most = omega arith;
             six = length-set values count v ∙ g .six;
             zeros = rw (add-one, took) (ap (λ (l : List ℤ). set l count v) (g .zeros) ∙ stored);
-            same = g .same ∙ rw (add-one, took, k, first) (gather-number (take count values) _ _ v small e)
+            same = g .same ∙ rw (add-one, took, k, first) (gather-number (take count values) _ _ v small e);
           }

@@ -7,6 +7,7 @@ ghost use Rattle.text.specs.Words.{fitsBlank, leading, wordAt};
 ghost use Rattle.text.specs.Numbers.{isDigit, digitsOf, numberOf};
 
 pub mod arguments;
+pub mod hexadecimal;
 
 // The bytes of a line from `from` up to `to`.
 pub struct Span {
