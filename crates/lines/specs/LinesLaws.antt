@@ -137,7 +137,7 @@ drop-min a l = go (leb a (length l)) refl
 take-drop : (a e : ℕ) (l : List ℕ) → take (e - a) (drop a l) ≡ drop a (take e l)
 take-drop zero e l = rw sub-zero
 take-drop (suc a) zero l = rw zero-sub
-take-drop (suc a) (suc e) [] = take-nil (suc e - suc a) 
+take-drop (suc a) (suc e) [] = take-nil (suc e - suc a)
 take-drop (suc a) (suc e) (x ∷ xs) = rw suc-sub-suc (take-drop a e xs)
 
 module _ (input : List ℕ) (place : Place) where

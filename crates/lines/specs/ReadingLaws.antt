@@ -17,7 +17,7 @@ use Rattle.lines.specs.declared.Place.{Place}
 -- ---- one step
 
 module _ (input before after : List ℕ) (place : Place) (first last : ℕ) (part : Part) (f : first ≡ firstOf input place) (l : last ≡ lastOf input place)
-  (a : Appended (take (last - first) (drop first input)) before after (place .len) part) where
+    (a : Appended (take (last - first) (drop first input)) before after (place .len) part) where
   same-part : take (last - first) (drop first input) ≡ unread input place
   same-part = rw (f, l) (unread-part input place)
 
@@ -36,7 +36,7 @@ module _ (input before after : List ℕ) (place : Place) (first last : ℕ) (par
         complete = rw same-part at (a .complete);
         pending = rw (rw same-part at (a .count), f, l) (unread-rest input place);
         more = refl;
-        used = refl
+        used = refl;
       }
 
 -- ---- reads one after another
@@ -61,7 +61,7 @@ going-stops input before place line p g =
       complete = rw (g .none);
       pending = sym (rest-whole (g .received) (g .none));
       more = sym (g .none);
-      used = g .used
+      used = g .used;
     }
 
 -- a read that found a line feed found a byte
@@ -71,7 +71,7 @@ found-some input zero e = never e
 found-some input (suc n) e = lt-ltb 0 (suc n) (omega arith)
 
 module _ (input before : List ℕ) (place : Place) (line : List ℕ) (p : Place) (g : Going before place line p) (q : Place) (f : Refilled input p q)
-  (after : List ℕ) (r : Place) (a : Advanced input line after q r) where
+    (after : List ℕ) (r : Place) (a : Advanced input line after q r) where
   goes-on : buffer after (r .len) ≡ appendAll (buffer before (place .len)) (g .received ++ lineOf (unread input q))
   goes-on =
       a .filled ∙
@@ -89,7 +89,7 @@ module _ (input before : List ℕ) (place : Place) (line : List ℕ) (p : Place)
         received = g .received ++ unread input q;
         none = end-behind (g .received) (unread input q) (g .none) ∙ no-end;
         filled = goes-on ∙ ap (λ (bs : List ℕ). appendAll (buffer before (place .len)) (g .received ++ bs)) (line-whole (unread input q) no-end);
-        used = same-used
+        used = same-used;
       }
 
   found-new : hasEnd (unread input q) ≡ true → ltb 0 (f .count) ≡ true
@@ -106,7 +106,7 @@ module _ (input before : List ℕ) (place : Place) (line : List ℕ) (p : Place)
         complete = rw (e, has);
         pending = a .pending ∙ sym (rest-behind (g .received) (unread input q) (g .none));
         more = a .more ∙ ap (λ (s : Place). s .more) (f .same) ∙ found-new found ∙ sym has;
-        used = same-used
+        used = same-used;
       }
 
 -- ---- the next line
@@ -133,7 +133,7 @@ module _ (input before line : List ℕ) (place p : Place) (a : Advanced input be
         pending = rw bytes (a .pending);
         more = a .more ∙ rw (bytes, found) (sym (and-true (place .more)));
         used = a .used ∙ rw found;
-        quiet = λ h. (refl, refl)
+        quiet = λ h. (refl, refl);
       }
 
   module _ (unended : p .complete ≡ false) where
@@ -154,7 +154,7 @@ module _ (input before line : List ℕ) (place p : Place) (a : Advanced input be
           pending = rw bytes (sym (rest-whole (unread input place) none));
           more = rw over;
           used = a .used ∙ rw (none, over);
-          quiet = λ h. (refl, refl)
+          quiet = λ h. (refl, refl);
         }
 
     first : buffer line (p .len) ≡ appendAll (buffer before 0) (lineOf (unread input place))
@@ -172,13 +172,13 @@ module _ (input before line : List ℕ) (place p : Place) (a : Advanced input be
         record {
           received = k .received;
           filled =
-          k .filled ∙
-          ap (λ (o : Buffer). appendAll o (lineOf (k .received))) (first ∙ ap (appendAll (buffer before 0)) whole) ∙
-          sym (append-append (buffer before 0) (unread input place) (lineOf (k .received))) ∙
-          ap (appendAll (buffer before 0)) (sym (line-behind (unread input place) (k .received) none));
+              k .filled ∙
+              ap (λ (o : Buffer). appendAll o (lineOf (k .received))) (first ∙ ap (appendAll (buffer before 0)) whole) ∙
+              sym (append-append (buffer before 0) (unread input place) (lineOf (k .received))) ∙
+              ap (appendAll (buffer before 0)) (sym (line-behind (unread input place) (k .received) none));
           complete = rw (end-behind (unread input place) (k .received) none) (k .complete);
           pending = k .pending ∙ sym (rest-behind (unread input place) (k .received) none);
           more = rw (end-behind (unread input place) (k .received) none, over) (k .more);
           used = k .used ∙ written ∙ rw (none, over);
-          quiet = λ h. never (sym (rw (none, over) at h))
+          quiet = λ h. never (sym (rw (none, over) at h));
         }

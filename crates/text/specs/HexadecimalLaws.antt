@@ -1,15 +1,15 @@
 -- Laws of hexadecimal digits read.
 use mathlib.Core.Path.{_≡_, refl, sym, ap, _∙_}
-use mathlib.Core.Bool.{Bool, true, false, _&&_}
+use mathlib.Core.Bool.{Bool, true, false, _&&_, cond}
 use mathlib.Core.List.{List, [], _∷_, _++_}
 use mathlib.Core.Option.{Option, some, none}
 use Prim.Native.Nat.{ℕ, zero, suc, _+_, _*_, _/_, _%_, _≤_, _<_}
 use native.Mathlib.Numerals.{add-one}
 use native.Mathlib.Omega.{arith}
-use lib.Dec.{ltb, eqb}
+use lib.Dec.{ltb, leb, eqb}
 use lib.ListN.{length, drop, getD, set, length-append, drop-of-length-le}
 use lib.Seq.{drop-cons, append-snoc, set-at}
-use borrow.Author.Tests.{lt-ltb, le-ltb, le-leb, lt-leb, eq-eqb, ne-eqb, ltb-true}
+use borrow.Author.Tests.{lt-ltb, le-ltb, le-leb, lt-leb, eq-eqb, ne-eqb, ltb-true, leb-true}
 use Rattle.integers.specs.Choice.{both}
 use Rattle.text.specs.Hexadecimal.{within, digitValue, allDigits, pair, pairs, isDash, bytesOf, countIn, bytesIn}
 use Rattle.text.specs.declared.hexadecimal.Count.the-variants.{Bytes, Malformed}
@@ -105,3 +105,13 @@ module _ {r : Option (List ℕ)} (buffer bytes : List ℕ) (n : ℕ) (e : r ≡ 
   pub all-in : n ≤ length buffer → (Bytes n ≡ countIn r (length buffer)) × (bytes ++ drop n buffer ≡ bytesIn r buffer)
   unfolding countIn bytesIn
   all-in h = rw (e, ← l) (simp (le-leb (length bytes) (length buffer) (omega arith)) (refl, refl))
+
+-- bytes that are counted fit
+pub count-fits : (r : Option (List ℕ)) (size n : ℕ) → Bytes n ≡ countIn r size → n ≤ size
+unfolding countIn
+count-fits none size n e = let z : _≡_ {A = ℕ} 0 1 = cc in absurd (omega arith)
+count-fits (some bytes) size n e = go (leb (length bytes) size) refl e
+  where
+    go : (t : Bool) → leb (length bytes) size ≡ t → Bytes n ≡ cond t (Bytes (length bytes)) Malformed → n ≤ size
+    go true h e = let same : n ≡ length bytes = cc in omega (arith, leb-true (length bytes) size h)
+    go false h e = let z : _≡_ {A = ℕ} 0 1 = cc in absurd (omega arith)

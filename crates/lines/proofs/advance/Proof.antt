@@ -31,10 +31,11 @@ add-t7 c =
     let a = c .before .before .before .append-line in
     let first = c .before .before .before .before .before .before .least2 in
     let last = c .before .before .before .before .before .before .before .least in
-    omega
-    (arith,
-    advance-fits
-    (s .args .input .now) (s .args .line .now) (a .last .1 .0) (s .args .place) (first .result) (last .result) (a .result) (first .ensures ∙ ap (min (s .args .place .at)) (last .ensures)) (last .ensures) (a .ensures))
+    omega (
+      arith,
+      advance-fits
+          (s .args .input .now) (s .args .line .now) (a .last .1 .0) (s .args .place) (first .result) (last .result) (a .result) (first .ensures ∙ ap (min (s .args .place .at)) (last .ensures)) (last .ensures) (a .ensures),
+    )
 
 same-length : tie.Need-same-length
 same-length c = search needs

@@ -41,7 +41,7 @@ returns c =
     record {
       filled = sym (ap (appendAll (buffer (l .loop .line) (l .loop .filled))) (line-at-feed bytes i (omega arith) feed)) ∙ l .loop .inv .2;
       complete = sym (end-at-feed bytes i (omega arith) feed) ∙ l .loop .inv .3;
-      count = omega (arith, l .loop .inv .4, length-at-feed bytes i (omega arith) feed)
+      count = omega (arith, l .loop .inv .4, length-at-feed bytes i (omega arith) feed);
     }
 
 append-byte-requires : tie.Need-append-byte-requires Inv-loop μ-loop
@@ -60,15 +60,16 @@ loop-again c =
     let l = b .before .before .before .before .before in
     let bytes = l .before .before .before .args .bytes .now in
     let i = l .loop .i in
-    let other = b .before .before .if1 .left in
-    (omega arith,
-    omega arith,
-    rw add-one
-    (ap (λ (o : Buffer). appendAll o (lineOf (drop (suc i) bytes))) (b .append-byte .ensures) ∙
-    ap (appendAll (buffer (l .loop .line) (l .loop .filled))) (sym (line-more bytes i (omega arith) other)) ∙
-    l .loop .inv .2),
-    rw add-one (sym (end-more bytes i (omega arith) other) ∙ l .loop .inv .3),
-    rw add-one (omega (arith, l .loop .inv .4, length-more bytes i (omega arith) other)))
+    let other = b .before .before .if1 .left in (
+      omega arith,
+      omega arith,
+      rw add-one
+          (ap (λ (o : Buffer). appendAll o (lineOf (drop (suc i) bytes))) (b .append-byte .ensures) ∙
+          ap (appendAll (buffer (l .loop .line) (l .loop .filled))) (sym (line-more bytes i (omega arith) other)) ∙
+          l .loop .inv .2),
+      rw add-one (sym (end-more bytes i (omega arith) other) ∙ l .loop .inv .3),
+      rw add-one (omega (arith, l .loop .inv .4, length-more bytes i (omega arith) other)),
+    )
 
 same-length-2 : tie.Need-same-length-2 Inv-loop μ-loop
 same-length-2 c = omega arith
@@ -82,7 +83,7 @@ returns-2 c =
     record {
       filled = sym (ap (appendAll (buffer (l .loop .line) (l .loop .filled))) (line-at-end bytes i (omega arith))) ∙ l .loop .inv .2;
       complete = sym (end-at-end bytes i (omega arith)) ∙ l .loop .inv .3;
-      count = omega (arith, l .loop .inv .4, length-at-end bytes i (omega arith))
+      count = omega (arith, l .loop .inv .4, length-at-end bytes i (omega arith));
     }
 
 pub append-line-spec : {M : Type 1} → statement M
