@@ -2,8 +2,8 @@
 ghost use Prim.Native.Nat.{_≤_};
 ghost use lib.IntN.{natAbs};
 ghost use Rattle.terms.specs.Terms.{TuningRange};
-use lines::Arguments;
 use terms::Tuning;
+use text::arguments::Arguments;
 
 pub enum Answer {
     Number(i64),
@@ -33,7 +33,7 @@ fn signed_in(value: i64, most: u64) -> Signed
 fn scale(values: [i64; 6]) -> Answer {
     let low = signed_in(values[0], 9999);
     let high = signed_in(values[1], 9999);
-    let sample = lines::natural_in(values[2], 0, 10000);
+    let sample = text::arguments::natural_in(values[2], 0, 10000);
     if low.ok & high.ok & sample.ok {
         let l = low.value;
         let h = high.value;
@@ -46,7 +46,7 @@ fn scale(values: [i64; 6]) -> Answer {
 
 // root SAMPLE
 fn root(values: [i64; 6]) -> Answer {
-    let sample = lines::natural_in(values[0], 0, 10000);
+    let sample = text::arguments::natural_in(values[0], 0, 10000);
     if sample.ok {
         return Answer::Number(scaling::root(sample.value as u16) as i64);
     }
@@ -56,7 +56,7 @@ fn root(values: [i64; 6]) -> Answer {
 // ratio Q S, or inverse Q S
 fn ratio(values: [i64; 6], inverse: bool) -> Answer {
     let q = signed_in(values[0], 9999);
-    let s = lines::natural_in(values[1], 1, 9999);
+    let s = text::arguments::natural_in(values[1], 1, 9999);
     if q.ok & s.ok {
         if inverse {
             return Answer::Number(scaling::inverse_ratio(q.value, s.value));
@@ -88,12 +88,12 @@ struct Setting {
 fn tuning_in(xp: i64, span: i64, ti: i64, td: i64, minutes: i64, inverted: i64) -> Setting
     ensures { λ r. ⌜ TuningRange (r .tuning) ⌝ }
 {
-    let x = lines::natural_in(xp, 1, 9999);
-    let w = lines::natural_in(span, 1, 19998);
-    let i = lines::natural_in(ti, 0, 9999);
-    let d = lines::natural_in(td, 0, 9999);
-    let m = lines::natural_in(minutes, 0, 1);
-    let v = lines::natural_in(inverted, 0, 1);
+    let x = text::arguments::natural_in(xp, 1, 9999);
+    let w = text::arguments::natural_in(span, 1, 19998);
+    let i = text::arguments::natural_in(ti, 0, 9999);
+    let d = text::arguments::natural_in(td, 0, 9999);
+    let m = text::arguments::natural_in(minutes, 0, 1);
+    let v = text::arguments::natural_in(inverted, 0, 1);
     Setting {
         ok: x.ok & w.ok & i.ok & d.ok & m.ok & v.ok,
         tuning: Tuning {
@@ -142,13 +142,13 @@ fn derivative(values: [i64; 6]) -> Answer {
 
 fn of_term(name: &[u8], a: Arguments) -> Answer {
     let values = a.values;
-    if check::same(name, b"proportional") && lines::has(a, 3) {
+    if check::same(name, b"proportional") && text::arguments::has(a, 3) {
         return proportional(values);
     }
-    if check::same(name, b"integral") && lines::has(a, 5) {
+    if check::same(name, b"integral") && text::arguments::has(a, 5) {
         return integral(values);
     }
-    if check::same(name, b"derivative") && lines::has(a, 6) {
+    if check::same(name, b"derivative") && text::arguments::has(a, 6) {
         return derivative(values);
     }
     Answer::NoCall
@@ -156,19 +156,19 @@ fn of_term(name: &[u8], a: Arguments) -> Answer {
 
 fn of_call(name: &[u8], a: Arguments) -> Answer {
     let values = a.values;
-    if check::same(name, b"scale") && lines::has(a, 3) {
+    if check::same(name, b"scale") && text::arguments::has(a, 3) {
         return scale(values);
     }
-    if check::same(name, b"root") && lines::has(a, 1) {
+    if check::same(name, b"root") && text::arguments::has(a, 1) {
         return root(values);
     }
-    if check::same(name, b"ratio") && lines::has(a, 2) {
+    if check::same(name, b"ratio") && text::arguments::has(a, 2) {
         return ratio(values, false);
     }
-    if check::same(name, b"inverse") && lines::has(a, 2) {
+    if check::same(name, b"inverse") && text::arguments::has(a, 2) {
         return ratio(values, true);
     }
-    if check::same(name, b"limit") && lines::has(a, 3) {
+    if check::same(name, b"limit") && text::arguments::has(a, 3) {
         return limit(values);
     }
     of_term(name, a)
@@ -178,6 +178,6 @@ pub fn of_line(line: &[u8]) -> Answer {
     let w = text::word(line, 0);
     let from = w.from;
     let to = w.to;
-    let a = lines::arguments_of(line, to);
+    let a = text::arguments::parse(line, to);
     of_call(&line[from..to], a)
 }

@@ -5,9 +5,9 @@ ghost use Rattle.controller.specs.Valid.{Valid};
 use controller::Answer;
 use controller::Controller;
 use controller::ReadAnswer;
-use lines::Arguments;
 use signals::Input;
 use signals::Verdict;
+use text::arguments::Arguments;
 
 pub enum Reply {
     Accepted,
@@ -76,7 +76,7 @@ fn fresh(controller: Controller, values: [i64; 6]) -> Step
     requires { ⌜ Valid controller ⌝ }
     ensures { λ r. ⌜ Valid (r .controller) ⌝ }
 {
-    let sw = lines::natural_in(values[0], 0, 65535);
+    let sw = text::arguments::natural_in(values[0], 0, 65535);
     if sw.ok {
         let started = Controller::fresh(sw.value as u16);
         return Step {
@@ -107,12 +107,12 @@ struct Given {
 }
 
 fn read_input(values: [i64; 6]) -> Given {
-    let pins = lines::natural_in(values[0], 0, 255);
-    let sample1 = lines::natural_in(values[1], 0, 65535);
-    let sample2 = lines::natural_in(values[2], 0, 65535);
-    let sample3 = lines::natural_in(values[3], 0, 65535);
-    let buttons = lines::natural_in(values[4], 0, 255);
-    let sensors = lines::natural_in(values[5], 0, 255);
+    let pins = text::arguments::natural_in(values[0], 0, 255);
+    let sample1 = text::arguments::natural_in(values[1], 0, 65535);
+    let sample2 = text::arguments::natural_in(values[2], 0, 65535);
+    let sample3 = text::arguments::natural_in(values[3], 0, 65535);
+    let buttons = text::arguments::natural_in(values[4], 0, 255);
+    let sensors = text::arguments::natural_in(values[5], 0, 255);
     Given {
         ok: pins.ok & sample1.ok & sample2.ok & sample3.ok & buttons.ok & sensors.ok,
         input: Input {
@@ -191,16 +191,16 @@ fn of_numbers(controller: Controller, name: &[u8], a: Arguments) -> Step
     ensures { λ r. ⌜ Valid (r .controller) ⌝ }
 {
     let values = a.values;
-    if check::same(name, b"scan") && lines::has(a, 6) {
+    if check::same(name, b"scan") && text::arguments::has(a, 6) {
         return scan(controller, values);
     }
-    if check::same(name, b"write") && lines::has(a, 2) {
+    if check::same(name, b"write") && text::arguments::has(a, 2) {
         return write(controller, values);
     }
-    if check::same(name, b"read") && lines::has(a, 1) {
+    if check::same(name, b"read") && text::arguments::has(a, 1) {
         return read(controller, values);
     }
-    if check::same(name, b"fresh") && lines::has(a, 1) {
+    if check::same(name, b"fresh") && text::arguments::has(a, 1) {
         return fresh(controller, values);
     }
     no_call(controller)
@@ -236,8 +236,8 @@ pub fn of_line(controller: Controller, line: &[u8], len: usize, buffer: &mut [u8
     if check::same(&call[from..to], b"restart") {
         return of_image(controller, call, to);
     }
-    let a = lines::arguments_of(call, to);
-    if check::same(&call[from..to], b"save") && lines::has(a, 1) {
+    let a = text::arguments::parse(call, to);
+    if check::same(&call[from..to], b"save") && text::arguments::has(a, 1) {
         return crate::image::save(controller, a.values[0], buffer);
     }
     of_numbers(controller, &call[from..to], a)

@@ -7,6 +7,7 @@ use crate::call::Reply;
 use crate::call::Step;
 use controller::Controller;
 use signals::Verdict;
+use text::hexadecimal::Count;
 
 // What each byte of the buffer is before a save: none but the image's bytes may differ from it afterwards.
 const BEFORE: u8 = 0xA5;
@@ -44,12 +45,11 @@ pub fn restart(controller: Controller, word: &[u8]) -> Step
     ensures { λ r. ⌜ Valid (r .controller) ⌝ }
 {
     let mut bytes = zeros();
-    let taken = lines::hexadecimal::bytes_in(word, &mut bytes);
-    if taken.ok {
-        let count = taken.count;
-        return restarted(controller, &bytes[0..count]);
+    let count = text::hexadecimal::parse(word, &mut bytes);
+    match count {
+        Count::Bytes(n) => restarted(controller, &bytes[0..n]),
+        Count::Malformed => crate::call::no_call(controller),
     }
-    crate::call::no_call(controller)
 }
 
 fn fill(buffer: &mut [u8]) {
@@ -97,7 +97,7 @@ pub fn save(controller: Controller, value: i64, buffer: &mut [u8]) -> Step
     requires { ⌜ Valid controller × 300 ≤ length (now buffer) ⌝ }
     ensures { λ r. ⌜ Valid (r .controller) ⌝ }
 {
-    let size = lines::natural_in(value, 0, 300);
+    let size = text::arguments::natural_in(value, 0, 300);
     if size.ok {
         fill(buffer);
         let lent = size.value as usize;

@@ -1,10 +1,13 @@
 // Words and decimal numbers of a line of bytes. Every function is total: what a line has wrong is in the answer.
 ghost use mathlib.Core.Path.{_≡_};
 ghost use mathlib.Core.Bool.{true};
-ghost use Prim.Native.Nat.{_+_, _-_, _≤_};
+ghost use Prim.Native.Nat.{_+_, _-_, _≤_, max};
 ghost use lib.ListN.{length, drop};
 ghost use Rattle.text.specs.Words.{fitsBlank, leading, wordAt};
 ghost use Rattle.text.specs.Numbers.{isDigit, digitsOf, numberOf};
+
+pub mod arguments;
+pub mod hexadecimal;
 
 // The bytes of a line from `from` up to `to`.
 pub struct Span {
@@ -25,7 +28,6 @@ fn fits_blank(blank: bool, b: u8) -> bool
 
 // The end of the blanks that stand at a place, or of the bytes that aren't blanks.
 fn run_end(line: &[u8], at: usize, blank: bool) -> usize
-    requires { ⌜ at ≤ length (now line) ⌝ }
     ensures { λ r. ⌜ r ≡ at + leading blank (drop at (now (line .entry))) ⌝ }
 {
     let mut i = at;
@@ -40,8 +42,8 @@ fn run_end(line: &[u8], at: usize, blank: bool) -> usize
 
 // The first word at or behind a place; an empty one where there is none. The contract rules out a word cut short or one with a blank in it.
 pub fn word(line: &[u8], at: usize) -> Span
-    requires { ⌜ at ≤ length (now line) ⌝ }
-    ensures { λ r. ⌜ (r ≡ wordAt (now (line .entry)) at) × (r .from ≤ r .to) × (r .to ≤ length (now (line .entry))) ⌝ }
+    ensures { λ r. ⌜ r ≡ wordAt (now (line .entry)) at ⌝ }
+    ensures { λ r. ⌜ (at ≤ r .from) × (r .from ≤ r .to) × (r .to ≤ max at (length (now (line .entry)))) ⌝ }
 {
     let from = run_end(line, at, true);
     let to = run_end(line, from, false);

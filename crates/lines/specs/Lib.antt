@@ -1,0 +1,4 @@
+pub mod Buffer
+pub mod Lines
+pub mod LinesLaws
+pub mod ReadingLaws
