@@ -62,14 +62,8 @@ fn ds_bit_5(mode: Mode) -> bool
     ensures { λ r. ⌜ r ≡ dsBit5 mode ⌝ }
 {
     match mode {
-        Mode::Hold => false,
-        Mode::Track => true,
-        Mode::Forced => false,
-        Mode::Manual => false,
-        Mode::Auto => true,
-        Mode::Remote => true,
-        Mode::Ratio => true,
-        Mode::Fallback => true,
+        Mode::Hold | Mode::Manual | Mode::Forced => false,
+        _ => true,
     }
 }
 
@@ -77,14 +71,8 @@ fn ds_bit_4(mode: Mode) -> bool
     ensures { λ r. ⌜ r ≡ dsBit4 mode ⌝ }
 {
     match mode {
-        Mode::Hold => true,
-        Mode::Track => true,
-        Mode::Forced => true,
-        Mode::Manual => true,
-        Mode::Auto => true,
-        Mode::Remote => false,
-        Mode::Ratio => false,
-        Mode::Fallback => true,
+        Mode::Remote | Mode::Ratio => false,
+        _ => true,
     }
 }
 
