@@ -12,10 +12,15 @@ use Rattle.modes.specs.declared.Mode.the-variants.{Hold, Track, Forced, Manual,
 use Rattle.words.specs.declared.UserBits.{UserBits}
 use Rattle.words.specs.declared.Indications.{Indications}
 
--- a byte by its bits 7 to 0
+-- what a bit of this weight adds
 abbrev pub weight : Bool → ℕ → ℕ
 weight b w = if b then w else 0
 
+-- four bits, the highest first
+unfoldable pub nibbleOf : Bool → Bool → Bool → Bool → ℕ
+nibbleOf b3 b2 b1 b0 = weight b3 8 + weight b2 4 + weight b1 2 + weight b0 1
+
+-- a byte by its bits 7 to 0
 unfoldable pub byteOf : Bool → Bool → Bool → Bool → Bool → Bool → Bool → Bool → ℕ
 byteOf b7 b6 b5 b4 b3 b2 b1 b0 =
     weight b7 128 + weight b6 64 + weight b5 32 + weight b4 16 + weight b3 8 + weight b2 4 + weight b1 2 + weight b0 1
@@ -47,8 +52,8 @@ mdLow userbits indications =
 unfoldable pub MD : Mode → Conditions → UserBits → Indications → ℕ
 MD mode c userbits indications = 256 * mdHigh mode c + mdLow userbits indications
 
--- ---- "DS: high byte the pin byte; 7, 6 user bits 2, 1; 5 is 0 in Hold, Manual, Forced; 4 is 0 in Remote, Ratio; 3 is 0
--- for battery low, 2 for a cause, 1 for low alarm .., 0 for high .."
+-- ---- "DS: high byte the pin byte; 7, 6 user bits 2, 1; 5 is 0 in Hold, Manual, Forced; 4 is 0 in Remote, Ratio; 3
+-- is 0 for battery low, 2 for a cause, 1 for low alarm .., 0 for high .."
 
 -- "5 is 0 in Hold, Manual, Forced"
 abbrev pub dsBit5 : Mode → Bool
