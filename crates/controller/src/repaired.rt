@@ -19,7 +19,7 @@ pub fn are_legal(p: Parameters) -> bool
     ensures { λ r. ⌜ r ≡ areLegal p ⌝ }
 {
     let mut number: u64 = parameters::H1;
-    while number <= parameters::IC {
+    while number < parameters::MD {
         let v = p.get(number);
         let rule = Controller::rule(number);
         let kept = rule.in_range(p, v) & rule.pair_in_order(p, number, v);

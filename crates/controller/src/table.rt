@@ -37,7 +37,7 @@ impl Controller {
     // IC: linear, or root.
     pub const LINEAR: i64 = 0;
 
-    pub const ROOT: i64 = 1;
+    pub const ROOT: i64 = parameters::ROOT;
 
     // By number; entry 0 is not used.
     pub const DEFAULTS: [i64; parameters::VALUE_COUNT] = [

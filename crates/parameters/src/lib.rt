@@ -96,6 +96,9 @@ pub const MP: u64 = 32;
 // The greatest output, in units.
 pub const OUTPUT_MOST: i64 = 9999;
 
+// IC: channel 1's sample is rooted.
+pub const ROOT: i64 = 1;
+
 impl Parameters {
     // The value of a parameter, 0 for a number above 23. The contract rules out a neighbour's value.
     pub fn get(self, number: u64) -> i64
