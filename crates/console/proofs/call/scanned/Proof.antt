@@ -1,7 +1,7 @@
 -- `console::call::scanned` meets its contract.
 use mathlib.Core.Path.{sym, ap, subst}
 use borrow.Author.Needs.{needs}
-use Rattle.controller.specs.Answers.{Handed}
+use Rattle.controller.specs.Answers.{Response}
 use Rattle.controller.specs.Valid.{Valid}
 use Rattle.controller.specs.ValidLaws.{valid-scan}
 use Rattle.console.proofs.call.scanned.Statement.{statement}
@@ -17,7 +17,7 @@ returns : tie.Need-returns
 returns c =
     let scan = c .before .before in
     let start = scan .before in
-    subst Valid (sym (ap (λ (h : Handed). h .next) (scan .scan .ensures))) (valid-scan (start .args .controller) (start .args .input) (start .pre))
+    subst Valid (sym (ap (λ (h : Response). h .next) (scan .scan .ensures))) (valid-scan (start .args .controller) (start .args .input) (start .pre))
 
 pub scanned-spec : {M : Type 1} → statement M
 scanned-spec = tie.close (tie.spec scan-requires reply-of-requires returns)

@@ -3,7 +3,7 @@ use mathlib.Core.Path.{sym, ap, subst}
 use borrow.Author.Needs.{needs}
 use Rattle.controller.specs.WriteLaws.{valid-write}
 use Rattle.controller.specs.Valid.{Valid}
-use Rattle.controller.specs.Answers.{Handed}
+use Rattle.controller.specs.Answers.{Response}
 use Rattle.console.proofs.call.written.Statement.{statement}
 use Rattle.console.proofs.call.written.Tie as tie
 
@@ -16,7 +16,7 @@ reply-to-verdict-requires c κs = search needs
 returns : tie.Need-returns
 returns c = let write = c .before .before in
     let start = write .before in
-    subst Valid (sym (ap (λ (h : Handed). h .next) (write .write .ensures))) (valid-write (start .args .controller) (start .args .number) _ (start .pre))
+    subst Valid (sym (ap (λ (h : Response). h .next) (write .write .ensures))) (valid-write (start .args .controller) (start .args .number) _ (start .pre))
 
 pub written-spec : {M : Type 1} → statement M
 written-spec = tie.close (tie.spec write-requires reply-to-verdict-requires returns)
