@@ -69,6 +69,12 @@ pub enum ReadAnswer {
     Refused(Refusal),
 }
 
+// The pin byte before the first scan: the Hold pin high, the others low.
+const START_PINS: u8 = 0x80;
+
+// The greatest output, as OP and electrical output answer it.
+const OP_MOST: u16 = Controller::OUTPUT_MOST as u16;
+
 fn start_conditions(request: Request, fault: bool) -> Conditions
     ensures { λ r. ⌜ r ≡ startConditions request fault ⌝ }
 {
@@ -76,7 +82,7 @@ fn start_conditions(request: Request, fault: bool) -> Conditions
         request,
         fault,
         opencount: 0,
-        pins: 0x80,
+        pins: START_PINS,
     }
 }
 
@@ -123,7 +129,7 @@ fn op_of(output: i64) -> u16
     requires { ⌜ OutputRange output ⌝ }
     ensures { λ r. ⌜ (r ≡ opOf output) × (r ≤ 9999) ⌝ }
 {
-    (integers::magnitude(output) / 65536) as u16
+    (integers::magnitude(output) / terms::UNIT) as u16
 }
 
 fn electrical_of(sw: u16, output: i64) -> u16
@@ -132,7 +138,7 @@ fn electrical_of(sw: u16, output: i64) -> u16
 {
     let s = signals::switches_of(sw);
     let op = op_of(output);
-    if s.displayinversion { 9999 - op } else { op }
+    if s.displayinversion { OP_MOST - op } else { op }
 }
 
 impl Core {

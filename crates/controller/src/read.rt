@@ -35,16 +35,16 @@ impl Controller {
         let core = self.core;
         let r = core.readings;
         match number {
-            1..=23 => ReadAnswer::Value(core.parameter(number)),
-            24 => ReadAnswer::Value(core.md() as i32),
-            25 => ReadAnswer::Value(core.ds() as i32),
-            26 => ReadAnswer::Value(core.sw as i32),
-            27 => ReadAnswer::Value(Self::IDENTITY),
-            28 => ReadAnswer::Value(crate::op_of(self.output) as i32),
-            29 => ReadAnswer::Value(integers::narrow(r.sp)),
-            30 => ReadAnswer::Value(integers::narrow(r.pv)),
-            31 => ReadAnswer::Value(integers::narrow(r.er)),
-            32 => ReadAnswer::Value(integers::narrow(r.mp)),
+            parameters::H1..=parameters::IC => ReadAnswer::Value(core.parameter(number)),
+            parameters::MD => ReadAnswer::Value(core.md() as i32),
+            parameters::DS => ReadAnswer::Value(core.ds() as i32),
+            parameters::SW => ReadAnswer::Value(core.sw as i32),
+            parameters::II => ReadAnswer::Value(Self::IDENTITY),
+            parameters::OP => ReadAnswer::Value(crate::op_of(self.output) as i32),
+            parameters::SP => ReadAnswer::Value(integers::narrow(r.sp)),
+            parameters::PV => ReadAnswer::Value(integers::narrow(r.pv)),
+            parameters::ER => ReadAnswer::Value(integers::narrow(r.er)),
+            parameters::MP => ReadAnswer::Value(integers::narrow(r.mp)),
             _ => ReadAnswer::Refused(Refusal::Number),
         }
     }

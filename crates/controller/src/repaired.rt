@@ -18,8 +18,8 @@ fn default(number: u64) -> i64
 pub fn are_legal(p: Parameters) -> bool
     ensures { λ r. ⌜ r ≡ areLegal p ⌝ }
 {
-    let mut number: u64 = 1;
-    while number < 24 {
+    let mut number: u64 = parameters::H1;
+    while number < parameters::MD {
         let v = p.get(number);
         let rule = Controller::rule(number);
         let kept = rule.in_range(p, v) & rule.pair_in_order(p, number, v);
@@ -45,9 +45,9 @@ fn ranged_value(p: Parameters, number: u64) -> i64
 fn by_range(p: Parameters) -> Parameters
     ensures { λ r. ⌜ r ≡ byRange p ⌝ }
 {
-    let mut values: [i64; 24] = [0; 24];
+    let mut values: [i64; parameters::VALUE_COUNT] = [0; parameters::VALUE_COUNT];
     let mut number: usize = 0;
-    while number < 24 {
+    while number < parameters::VALUE_COUNT {
         let v = ranged_value(p, number as u64);
         values[number] = v;
         number += 1;
@@ -73,9 +73,9 @@ fn paired_value(p: Parameters, number: u64) -> i64
 fn by_pairs(p: Parameters) -> Parameters
     ensures { λ r. ⌜ r ≡ byPairs p ⌝ }
 {
-    let mut values: [i64; 24] = [0; 24];
+    let mut values: [i64; parameters::VALUE_COUNT] = [0; parameters::VALUE_COUNT];
     let mut number: usize = 0;
-    while number < 24 {
+    while number < parameters::VALUE_COUNT {
         let v = paired_value(p, number as u64);
         values[number] = v;
         number += 1;

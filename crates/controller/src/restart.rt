@@ -12,7 +12,7 @@ use signals::Refusal;
 use signals::Verdict;
 
 // Whether all values are legal.
-fn is_legal(values: [u16; 28]) -> bool
+fn is_legal(values: [u16; fields::FIELD_COUNT]) -> bool
     ensures { λ r. ⌜ r ≡ isLegal values ⌝ }
 {
     let parameters = settings::decoding::parameters_in(values);
@@ -23,7 +23,7 @@ fn is_legal(values: [u16; 28]) -> bool
 fn restart_verdict(image: &[u8]) -> Verdict
     ensures { λ r. ⌜ numberIn r ≡ refusedBy (restartTests (now (image .entry))) ⌝ }
 {
-    if image.len() != 137 {
+    if image.len() != fields::IMAGE_LENGTH {
         return Verdict::Refused(Refusal::ImageLength);
     }
     if !fields::decoding::is_formed(image) {
@@ -38,7 +38,7 @@ fn restart_verdict(image: &[u8]) -> Verdict
 }
 
 // What is taken under a wrong sumcheck.
-fn repaired_settings(values: [u16; 28]) -> Settings
+fn repaired_settings(values: [u16; fields::FIELD_COUNT]) -> Settings
     ensures { λ r. ⌜ r ≡ repairedSettings values ⌝ }
 {
     let decoded = settings::decoding::parameters_in(values);
@@ -53,7 +53,7 @@ fn repaired_settings(values: [u16; 28]) -> Settings
     }
 }
 
-fn restored_settings(values: [u16; 28]) -> Settings
+fn restored_settings(values: [u16; fields::FIELD_COUNT]) -> Settings
     ensures { λ r. ⌜ r ≡ restoredSettings values ⌝ }
 {
     let right = settings::decoding::is_sum_right(values);
@@ -72,7 +72,7 @@ fn restarted_request(powerfail: bool, request: Request) -> Request
 
 impl Controller {
     // The controller after an accepted restart. The contract rules out that it keeps anything of the earlier state but SW.
-    fn restarted(self, values: [u16; 28]) -> Controller
+    fn restarted(self, values: [u16; fields::FIELD_COUNT]) -> Controller
         requires { ⌜ Legal (restoredSettings values .parameters) ⌝ }
         ensures { λ r. ⌜ r ≡ controllerRestarted self values ⌝ }
     {

@@ -14,10 +14,13 @@ use signals::Refusal;
 use signals::Verdict;
 use words::UserBits;
 
+// How many words there are.
+const WORD_COUNT: u64 = Controller::WORD_MOST as u64 + 1;
+
 fn word_of(v: i64) -> u16
     ensures { λ r. ⌜ r ≡ wordOf v ⌝ }
 {
-    (integers::magnitude(v) % 65536) as u16
+    (integers::magnitude(v) % WORD_COUNT) as u16
 }
 
 impl Core {
@@ -41,8 +44,8 @@ impl Core {
         let conditions = self.conditions;
         let word = word_of(v);
         match number {
-            20 => self.setpoint_verdict(),
-            24 => words::written::md_verdict(conditions, word),
+            parameters::SL => self.setpoint_verdict(),
+            parameters::MD => words::written::md_verdict(conditions, word),
             _ => Verdict::Accepted,
         }
     }
@@ -124,8 +127,8 @@ impl Core {
     {
         let word = word_of(v);
         match number {
-            24 => self.md_written(word),
-            25 => self.ds_written(word),
+            parameters::MD => self.md_written(word),
+            parameters::DS => self.ds_written(word),
             _ => self.parameter_written(number, v),
         }
     }

@@ -29,7 +29,7 @@ fn value_in(part: &[u8], size: u8) -> u16
     requires { ⌜ (3 + size ≤ length (now part)) × (1 ≤ size) × (size ≤ 2) ⌝ }
     ensures { λ r. ⌜ r ≡ valueIn size (now (part .entry)) ⌝ }
 {
-    if size == 2 {
+    if size == crate::WORD_LENGTH {
         wide(part[3]) * 256 + wide(part[4])
     } else {
         wide(part[3])
@@ -43,29 +43,29 @@ pub fn is_formed(image: &[u8]) -> bool
 {
     let mut start: usize = 0;
     let mut place: usize = 0;
-    while place < 28 {
+    while place < crate::FIELD_COUNT {
         let size = crate::length_of(place);
         if !is_headed(&image[start..], crate::tag_of(place), size) {
             return false;
         }
-        start = start + 3 + (size as usize);
+        start = start + crate::HEADER_LENGTH + (size as usize);
         place += 1;
     }
     true
 }
 
 // The values of all fields. The contract rules out a value with its bytes exchanged, and one that is taken from a neighbour.
-pub fn values_of(image: &[u8]) -> [u16; 28]
+pub fn values_of(image: &[u8]) -> [u16; crate::FIELD_COUNT]
     requires { ⌜ length (now image) ≡ 137 ⌝ }
     ensures { λ r. ⌜ r ≡ valuesFrom 0 28 (now (image .entry)) ⌝ }
 {
-    let mut values: [u16; 28] = [0; 28];
+    let mut values: [u16; crate::FIELD_COUNT] = [0; crate::FIELD_COUNT];
     let mut start: usize = 0;
     let mut place: usize = 0;
-    while place < 28 {
+    while place < crate::FIELD_COUNT {
         let size = crate::length_of(place);
         values[place] = value_in(&image[start..], size);
-        start = start + 3 + (size as usize);
+        start = start + crate::HEADER_LENGTH + (size as usize);
         place += 1;
     }
     values

@@ -2,7 +2,9 @@
 ghost use mathlib.Core.Path.{_≡_};
 ghost use mathlib.Core.Bool.{true};
 ghost use Rattle.signals.specs.declared.Input.{Input};
-ghost use Rattle.modes.specs.Modes.{isOpenCause, isCause, counted, openCountAfter, requestBy, requestAfter, conditionsAfter, modeBy, inPriority, modeOf, isAutomatic, isTrack, isRemote, isRatio, isAutoOrFallback, setsSetpoint, isLimiting, goesToMinimum};
+ghost use Rattle.modes.specs.Modes.{isOpenCause, isCause, counted, openCountAfter, requestBy, requestAfter};
+ghost use Rattle.modes.specs.Modes.{conditionsAfter, modeBy, inPriority, modeOf, goesToMinimum};
+ghost use Rattle.modes.specs.Modes.{isAutomatic, isTrack, isRemote, isRatio, isAutoOrFallback, setsSetpoint, isLimiting};
 use signals::Buttons;
 use signals::Input;
 
@@ -23,8 +25,14 @@ pub enum Mode {
     Fallback,
 }
 
-// The part of the state that, with S2.1, decides the mode: the request, the memory fault, the count of consecutive open scans (up to 85), and the
-// last scan's pin byte.
+// The consecutive open scan with which a cause begins: 84 × 36 ms is the first step past 3 s, so it is the 85th.
+const OPEN_CAUSE_SCANS: u8 = 85;
+
+// The open count just before that scan.
+const SCANS_BEFORE_CAUSE: u8 = OPEN_CAUSE_SCANS - 1;
+
+// The part of the state that, with S2.1, decides the mode: the request, the memory fault, the count of consecutive open
+// scans (up to 85), and the last scan's pin byte.
 pub struct Conditions {
     pub request: Request,
     pub fault: bool,
@@ -36,7 +44,7 @@ pub struct Conditions {
 pub fn is_open_cause(opencount: u8) -> bool
     ensures { λ r. ⌜ r ≡ isOpenCause opencount ⌝ }
 {
-    85 <= opencount
+    OPEN_CAUSE_SCANS <= opencount
 }
 
 // The contract rules out one cause that hides the other.
@@ -50,7 +58,11 @@ pub fn is_cause(fault: bool, opencount: u8) -> bool
 fn counted(opencount: u8) -> u8
     ensures { λ r. ⌜ r ≡ counted opencount ⌝ }
 {
-    if opencount < 85 { opencount + 1 } else { 85 }
+    if opencount < OPEN_CAUSE_SCANS {
+        opencount + 1
+    } else {
+        OPEN_CAUSE_SCANS
+    }
 }
 
 fn open_count_after(isopen: bool, opencount: u8) -> u8
@@ -121,14 +133,8 @@ pub fn is_automatic(mode: Mode) -> bool
     ensures { λ r. ⌜ r ≡ isAutomatic mode ⌝ }
 {
     match mode {
-        Mode::Hold => false,
-        Mode::Track => false,
-        Mode::Forced => false,
-        Mode::Manual => false,
-        Mode::Auto => true,
-        Mode::Remote => true,
-        Mode::Ratio => true,
-        Mode::Fallback => true,
+        Mode::Auto | Mode::Remote | Mode::Ratio | Mode::Fallback => true,
+        _ => false,
     }
 }
 
@@ -137,14 +143,8 @@ pub fn is_track(mode: Mode) -> bool
     ensures { λ r. ⌜ r ≡ isTrack mode ⌝ }
 {
     match mode {
-        Mode::Hold => false,
         Mode::Track => true,
-        Mode::Forced => false,
-        Mode::Manual => false,
-        Mode::Auto => false,
-        Mode::Remote => false,
-        Mode::Ratio => false,
-        Mode::Fallback => false,
+        _ => false,
     }
 }
 
@@ -153,14 +153,8 @@ pub fn is_remote(mode: Mode) -> bool
     ensures { λ r. ⌜ r ≡ isRemote mode ⌝ }
 {
     match mode {
-        Mode::Hold => false,
-        Mode::Track => false,
-        Mode::Forced => false,
-        Mode::Manual => false,
-        Mode::Auto => false,
         Mode::Remote => true,
-        Mode::Ratio => false,
-        Mode::Fallback => false,
+        _ => false,
     }
 }
 
@@ -169,14 +163,8 @@ pub fn is_ratio(mode: Mode) -> bool
     ensures { λ r. ⌜ r ≡ isRatio mode ⌝ }
 {
     match mode {
-        Mode::Hold => false,
-        Mode::Track => false,
-        Mode::Forced => false,
-        Mode::Manual => false,
-        Mode::Auto => false,
-        Mode::Remote => false,
         Mode::Ratio => true,
-        Mode::Fallback => false,
+        _ => false,
     }
 }
 
@@ -185,18 +173,13 @@ pub fn is_auto_or_fallback(mode: Mode) -> bool
     ensures { λ r. ⌜ r ≡ isAutoOrFallback mode ⌝ }
 {
     match mode {
-        Mode::Hold => false,
-        Mode::Track => false,
-        Mode::Forced => false,
-        Mode::Manual => false,
-        Mode::Auto => true,
-        Mode::Remote => false,
-        Mode::Ratio => false,
-        Mode::Fallback => true,
+        Mode::Auto | Mode::Fallback => true,
+        _ => false,
     }
 }
 
-// Whether SL is left to the scans of this mode. The contract rules out Auto and Fall-back, and, with S2.6 OFF, every mode but Remote and Ratio.
+// Whether SL is left to the scans of this mode. The contract rules out Auto and Fall-back, and, with S2.6 OFF, every
+// mode but Remote and Ratio.
 pub fn sets_setpoint(mode: Mode, setpointtracks: bool) -> bool
     ensures { λ r. ⌜ r ≡ setsSetpoint mode setpointtracks ⌝ }
 {
@@ -211,19 +194,14 @@ pub fn is_limiting(mode: Mode) -> bool
     ensures { λ r. ⌜ r ≡ isLimiting mode ⌝ }
 {
     match mode {
-        Mode::Hold => false,
-        Mode::Track => false,
-        Mode::Forced => true,
-        Mode::Manual => true,
-        Mode::Auto => true,
-        Mode::Remote => true,
-        Mode::Ratio => true,
-        Mode::Fallback => true,
+        Mode::Hold | Mode::Track => false,
+        _ => true,
     }
 }
 
 impl Conditions {
-    // What an accepted scan leaves. The contract rules out a count that goes on through a scan that isn't open, and a request kept under a cause.
+    // What an accepted scan leaves. The contract rules out a count that goes on through a scan that isn't open, and a
+    // request kept under a cause.
     pub fn after(self, input: Input) -> Conditions
         ensures { λ r. ⌜ r ≡ conditionsAfter counted self input ⌝ }
     {
@@ -250,12 +228,15 @@ impl Conditions {
         in_priority(p.hold, p.track, cause, requested)
     }
 
-    // Whether a scan of this input, made now, sets the output to minimum if its mode is Manual or Forced Manual. The contract rules out any but the 85th open
-    // scan, and the mode of this scan taken for the one before.
+    // Whether a scan of this input, made now, sets the output to minimum if its mode is Manual or Forced Manual. The
+    // contract rules out any but the 85th open scan, and the mode of this scan taken for the one before.
     pub fn goes_to_minimum(self, input: Input, ratioswitch: bool, powerfail: bool) -> bool
         ensures { λ r. ⌜ r ≡ goesToMinimum self input ratioswitch powerfail ⌝ }
     {
         let mode = self.mode(ratioswitch);
-        signals::is_open(input) & (self.opencount == 84) & is_automatic(mode) & powerfail
+        signals::is_open(input)
+            & (self.opencount == SCANS_BEFORE_CAUSE)
+            & is_automatic(mode)
+            & powerfail
     }
 }

@@ -21,6 +21,19 @@ use terms::Tuning;
 
 pub mod restarted;
 
+// What Raise or Lower moves the output by, in units.
+const RAISE_STEP: i64 = 12;
+
+const LOWER_STEP: i64 = -RAISE_STEP;
+
+// One unit, stored.
+const UNIT: i64 = terms::UNIT as i64;
+
+// The greatest output: as a sample, and stored.
+const OUTPUT_MOST: u16 = parameters::OUTPUT_MOST as u16;
+
+const STORED_MOST: i64 = parameters::OUTPUT_MOST * UNIT;
+
 // What is remembered of earlier scans: nothing; the PV and SP of the last one; these and the PV of the one before it.
 pub enum History {
     Nothing,
@@ -162,7 +175,7 @@ fn units(u: i64) -> i64
     requires { ⌜ natAbs u ≤ 65535 ⌝ }
     ensures { λ n. ⌜ n ≡ storedUnits u ⌝ }
 {
-    u * 65536
+    u * UNIT
 }
 
 fn minimum_of(p: Parameters, s: Switches) -> i64
@@ -179,11 +192,11 @@ fn adjusted(adjustment: Adjustment, output: i64) -> i64
 {
     match adjustment {
         Adjustment::Raise => {
-            let by = units(12);
+            let by = units(RAISE_STEP);
             integers::plus(output, by)
         }
         Adjustment::Lower => {
-            let by = units(-12);
+            let by = units(LOWER_STEP);
             integers::plus(output, by)
         }
         Adjustment::Neither => output,
@@ -225,10 +238,10 @@ fn by_terms(p: Parameters, x: Context, r: Readings, h: History, output: i64) -> 
 fn tracked(sample: u16) -> i64
     ensures { λ n. ⌜ n ≡ storedUnits (pos (min sample 9999)) ⌝ }
 {
-    if sample < 9999 {
-        return sample as i64 * 65536;
+    if sample < OUTPUT_MOST {
+        return sample as i64 * UNIT;
     }
-    655294464
+    STORED_MOST
 }
 
 fn changed_in(p: Parameters, x: Context, r: Readings, h: History, output: i64) -> i64
@@ -286,7 +299,7 @@ pub fn output_written(number: u64, mode: Mode, p: Parameters, output: i64) -> i6
     ensures { λ n. ⌜ n ≡ limitedTo storedArithmetic (limitsWritten number mode p) output ⌝ }
 {
     match number {
-        15..=16 => limited_in(mode, p, output),
+        parameters::HO..=parameters::LO => limited_in(mode, p, output),
         _ => output,
     }
 }

@@ -5,10 +5,12 @@ ghost use Rattle.parameters.specs.Table.{value, withValue};
 mod rows;
 mod written;
 
-// The values by their numbers; entry 0 is not used.
+// The values by their numbers, IC the last; entry 0 is not used.
 pub struct Parameters {
-    pub values: [i64; 24],
+    pub values: [i64; VALUE_COUNT],
 }
+
+pub const VALUE_COUNT: usize = 24;
 
 // What a parameter's number asks of a value that is written: the row of the table that it stands in.
 pub enum Rule {
@@ -91,20 +93,26 @@ pub const ER: u64 = 31;
 
 pub const MP: u64 = 32;
 
+// The greatest output, in units.
+pub const OUTPUT_MOST: i64 = 9999;
+
+// IC: channel 1's sample is rooted.
+pub const ROOT: i64 = 1;
+
 impl Parameters {
     // The value of a parameter, 0 for a number above 23. The contract rules out a neighbour's value.
     pub fn get(self, number: u64) -> i64
         ensures { λ r. ⌜ r ≡ value self number ⌝ }
     {
         let place = number as usize;
-        if number < 24 { self.values[place] } else { 0 }
+        if number <= IC { self.values[place] } else { 0 }
     }
 
     // The same but for one value. The contract rules out that another one changes.
     pub fn with(mut self, number: u64, to: i64) -> Parameters
         ensures { λ r. ⌜ r ≡ withValue self number to ⌝ }
     {
-        if number < 24 {
+        if number <= IC {
             self.values[number as usize] = to;
         }
         self

@@ -30,6 +30,14 @@ pub struct Computed {
     pub readings: Readings,
 }
 
+// What Raise or Lower moves RS and SL by while SP is held.
+const RATIO_STEP: i64 = 12;
+
+const SETPOINT_STEP: i64 = 1;
+
+// The magnitude of IC where channel 1's sample is rooted.
+const ROOT: u64 = parameters::ROOT as u64;
+
 // A sample scaled by the two parameters of these numbers.
 fn channel(p: Parameters, low: u64, high: u64, sample: u16) -> i64
     requires { ⌜ ChannelRange (value p low) (value p high) sample ⌝ }
@@ -45,7 +53,7 @@ fn first_sample(p: Parameters, sample: u16) -> u16
     ensures { λ r. ⌜ (r ≡ firstSample p sample) × (r ≤ 10000) ⌝ }
 {
     let ic = p.get(parameters::IC);
-    let rooted = integers::magnitude(ic) == 1;
+    let rooted = integers::magnitude(ic) == ROOT;
     if rooted {
         scaling::root(sample)
     } else {
@@ -106,7 +114,7 @@ fn ratio_after(p: Parameters, mode: Mode, input: Input) -> i64
     let rs = p.get(parameters::RS);
     let low = p.get(parameters::LR);
     let high = p.get(parameters::HR);
-    moved_by_hand(input, ratio, 12, low, high, rs)
+    moved_by_hand(input, ratio, RATIO_STEP, low, high, rs)
 }
 
 fn setpoint_moved(p: Parameters, mode: Mode, input: Input) -> i64
@@ -118,7 +126,7 @@ fn setpoint_moved(p: Parameters, mode: Mode, input: Input) -> i64
     let sl = p.get(parameters::SL);
     let low = p.get(parameters::LS);
     let high = p.get(parameters::HS);
-    moved_by_hand(input, !ratio & !remote, 1, low, high, sl)
+    moved_by_hand(input, !ratio & !remote, SETPOINT_STEP, low, high, sl)
 }
 
 // SL after step 4. The contract rules out a setpoint that follows PV in an automatic mode or while channel 1 is open.

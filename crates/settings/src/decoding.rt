@@ -7,12 +7,15 @@ use modes::Request;
 use parameters::Parameters;
 use words::UserBits;
 
+// The greatest output, as its field holds it.
+const OP_MOST: u16 = parameters::OUTPUT_MOST as u16;
+
 fn request_in(value: u16) -> Request
     ensures { λ r. ⌜ r ≡ requestIn value ⌝ }
 {
     match value {
-        0 => Request::Manual,
-        1 => Request::Auto,
+        crate::MANUAL => Request::Manual,
+        crate::AUTO => Request::Auto,
         _ => Request::Remote,
     }
 }
@@ -21,18 +24,18 @@ fn user_bits_in(value: u16) -> UserBits
     ensures { λ r. ⌜ r ≡ userBitsIn value ⌝ }
 {
     UserBits {
-        user1: signals::bit(value, 0),
-        user2: signals::bit(value, 1),
-        measuredpower: signals::bit(value, 2),
+        user1: signals::bit(value, crate::USER1),
+        user2: signals::bit(value, crate::USER2),
+        measuredpower: signals::bit(value, crate::MEASURED_POWER),
     }
 }
 
 // User bits and MD bit 4 under a wrong sumcheck: an illegal 44h is 0. The contract rules out that some of its bits are kept.
-pub fn legal_user_bits(values: [u16; 28]) -> UserBits
+pub fn legal_user_bits(values: [u16; fields::FIELD_COUNT]) -> UserBits
     ensures { λ r. ⌜ r ≡ legalUserBits values ⌝ }
 {
-    let value = values[26];
-    if value <= 7 {
+    let value = values[fields::USER_BITS];
+    if value <= crate::USER_BITS_MOST {
         user_bits_in(value)
     } else {
         user_bits_in(0)
@@ -40,7 +43,7 @@ pub fn legal_user_bits(values: [u16; 28]) -> UserBits
 }
 
 // The value of the parameter with this number; 0 for the entry that is not used.
-fn parameter_in(values: [u16; 28], number: usize) -> i64
+fn parameter_in(values: [u16; fields::FIELD_COUNT], number: usize) -> i64
     requires { ⌜ number ≤ 23 ⌝ }
     ensures { λ r. ⌜ r ≡ parameterIn values number ⌝ }
 {
@@ -51,49 +54,51 @@ fn parameter_in(values: [u16; 28], number: usize) -> i64
 }
 
 // The contract rules out a parameter that is taken from another one's field.
-pub fn parameters_in(values: [u16; 28]) -> Parameters
+pub fn parameters_in(values: [u16; fields::FIELD_COUNT]) -> Parameters
     ensures { λ r. ⌜ r ≡ parametersIn values ⌝ }
 {
-    let mut taken: [i64; 24] = [0; 24];
+    let mut decoded: [i64; parameters::VALUE_COUNT] = [0; parameters::VALUE_COUNT];
     let mut number: usize = 0;
-    while number < 24 {
+    while number < parameters::VALUE_COUNT {
         let v = parameter_in(values, number);
-        taken[number] = v;
+        decoded[number] = v;
         number += 1;
     }
-    Parameters { values: taken }
+    Parameters { values: decoded }
 }
 
 // The contract rules out a setting that is taken from another one's field.
-pub fn settings_in(values: [u16; 28]) -> Settings
+pub fn settings_in(values: [u16; fields::FIELD_COUNT]) -> Settings
     ensures { λ r. ⌜ r ≡ settingsIn values ⌝ }
 {
     let parameters = parameters_in(values);
-    let request = request_in(values[24]);
-    let userbits = user_bits_in(values[26]);
+    let request = request_in(values[fields::REQUEST]);
+    let userbits = user_bits_in(values[fields::USER_BITS]);
     Settings {
         parameters,
-        op: values[23],
+        op: values[fields::OP],
         request,
-        fault: values[25] == 1,
+        fault: values[fields::FAULT] == crate::FAULT_SET,
         userbits,
     }
 }
 
 // The contract rules out a sum over fewer values than all earlier ones.
-pub fn is_sum_right(values: [u16; 28]) -> bool
+pub fn is_sum_right(values: [u16; fields::FIELD_COUNT]) -> bool
     ensures { λ r. ⌜ r ≡ isSumRight values ⌝ }
 {
-    values[27] == fields::sumcheck(values)
+    values[fields::SUMCHECK] == fields::sumcheck(values)
 }
 
 // Whether OP, request, fault and 44h are legal. The contract rules out a fault with another request than Manual, and ends that are off by one.
-pub fn are_others_legal(values: [u16; 28]) -> bool
+pub fn are_others_legal(values: [u16; fields::FIELD_COUNT]) -> bool
     ensures { λ r. ⌜ r ≡ areOthersLegal values ⌝ }
 {
-    let op = values[23] <= 9999;
-    let request = values[24] <= 2;
-    let fault = (values[25] <= 1) & ((values[25] == 0) | (values[24] == 0));
-    let userbits = values[26] <= 7;
+    let op = values[fields::OP] <= OP_MOST;
+    let request = values[fields::REQUEST] <= crate::REMOTE;
+    let manual = values[fields::REQUEST] == crate::MANUAL;
+    let clear = values[fields::FAULT] == crate::FAULT_CLEAR;
+    let fault = (values[fields::FAULT] <= crate::FAULT_SET) & (clear | manual);
+    let userbits = values[fields::USER_BITS] <= crate::USER_BITS_MOST;
     op & request & fault & userbits
 }

@@ -1,4 +1,5 @@
--- "Within a group the lowest number wins.": of tests listed by ascending numbers the first that holds has the lowest number of all that hold.
+-- "Within a group the lowest number wins.": of tests listed by ascending numbers the first that holds has the lowest
+-- number of all that hold.
 use mathlib.Core.Path.{_≡_, refl}
 use mathlib.Core.Bool.{Bool, true, false}
 use mathlib.Core.List.{List, [], _∷_}

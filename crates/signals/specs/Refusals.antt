@@ -8,7 +8,9 @@ use Rattle.integers.specs.Choice.{if_then_else_}
 use Rattle.signals.specs.Bits.{bit}
 use Rattle.signals.specs.declared.Input.{Input}
 use Rattle.signals.specs.declared.Refusal.{Refusal}
-use Rattle.signals.specs.declared.Refusal.the-variants.{Sample, ButtonBits, SensorBits, Number, ReadOnly, Range, Pair, Setpoint, RequestBits, RemotePin, Cause, ImageLength, ImageField, ImageValue, ShortBuffer}
+use Rattle.signals.specs.declared.Refusal.the-variants.{Sample, ButtonBits, SensorBits, Number, ReadOnly, Range, Pair}
+use Rattle.signals.specs.declared.Refusal.the-variants.{Setpoint, RequestBits, RemotePin, Cause}
+use Rattle.signals.specs.declared.Refusal.the-variants.{ImageLength, ImageField, ImageValue, ShortBuffer}
 use Rattle.signals.specs.declared.Verdict.{Verdict}
 use Rattle.signals.specs.declared.Verdict.the-variants.{Accepted, Refused}
 

@@ -1,4 +1,5 @@
--- Document 01, "The calls" and "One scan", Input: what the bits of the switch word, the pin byte, the button byte and the sensor byte say.
+-- Document 01, "The calls" and "One scan", Input: what the bits of the switch word, the pin byte, the button byte and
+-- the sensor byte mean.
 use mathlib.Core.Bool.{Bool}
 use Prim.Native.Nat.{ℕ}
 use Rattle.integers.specs.Choice.{if_then_else_}
@@ -10,8 +11,9 @@ use Rattle.signals.specs.declared.Adjustment.{Adjustment}
 use Rattle.signals.specs.declared.Adjustment.the-variants.{Raise, Lower, Neither}
 use Rattle.signals.specs.declared.Switches.{Switches}
 
--- "SW bits 15 to 8 are switches S2.1 to S2.8 and bit 7 is S1.1, 1 = ON (004, 4.3.4). Used: S2.1 ratio, S2.2 display inversion, S2.3 inverse ratio,
--- S2.4 inverse output, S2.5 power fail, S2.6 setpoint tracks PV, S2.8 minutes, S1.1 balance off."
+-- "SW bits 15 to 8 are switches S2.1 to S2.8 and bit 7 is S1.1, 1 = ON (004, 4.3.4). Used: S2.1 ratio, S2.2 display
+-- inversion, S2.3 inverse ratio, S2.4 inverse output, S2.5 power fail, S2.6 setpoint tracks PV, S2.8 minutes, S1.1
+-- balance off."
 unfoldable pub switchesOf : ℕ → Switches
 switchesOf sw =
     record {
@@ -25,7 +27,8 @@ switchesOf sw =
       balanceoff = bit sw 7;
     }
 
--- "a pin byte (7 Hold, 6 Track, 5 Remote, 4 Computer, 3..0 unit address; 1 is 15 V)": the levels of the pins that decide the mode
+-- "a pin byte (7 Hold, 6 Track, 5 Remote, 4 Computer, 3..0 unit address; 1 is 15 V)": the levels of the pins that
+-- decide the mode
 unfoldable pub pinsOf : ℕ → Pins
 pinsOf pins = record { hold = bit pins 7; track = bit pins 6; remote = bit pins 5 }
 

@@ -1,4 +1,5 @@
--- Document 01, "Words" and "By whose hand a call is declined": what writing MD and DS takes, and which words MD refuses.
+-- Document 01, "Words" and "By whose hand a call is declined": what writing MD and DS takes, and which words MD
+-- refuses.
 use mathlib.Core.Bool.{Bool, false, not, _&&_, _||_}
 use mathlib.Core.List.{List, [], _∷_}
 use Prim.Native.Nat.{ℕ}
@@ -42,7 +43,8 @@ powerWritten userbits word = record { user1 = userbits .user1; user2 = userbits 
 unfoldable pub userBitsWritten : UserBits → ℕ → UserBits
 userBitsWritten userbits word = record { user1 = bit word 6; user2 = bit word 7; measuredpower = userbits .measuredpower }
 
--- ---- "9 not exactly one of MD bits 13, 12, 11; 10 bit 11 with the Remote pin 0; 11 bit 12 or 11 when a cause would remain."
+-- ---- "9 not exactly one of MD bits 13, 12, 11; 10 bit 11 with the Remote pin 0; 11 bit 12 or 11 when a cause would
+-- remain."
 
 abbrev pub exactlyOne : Bool → Bool → Bool → Bool
 exactlyOne a b c = a && not b && not c || not a && b && not c || not a && not b && c

@@ -1,8 +1,10 @@
 // Writing MD and DS: what is taken of the word, and which words MD refuses.
 ghost use mathlib.Core.Path.{_≡_};
 ghost use Rattle.signals.specs.Refusals.{numberIn, refusedBy};
-ghost use Rattle.words.specs.Written.{requestOf, clearsFault, faultWritten, requestWritten, conditionsWritten, powerWritten, userBitsWritten, exactlyOne, causeRemains, mdTests};
+ghost use Rattle.words.specs.Written.{requestOf, clearsFault, faultWritten, requestWritten, conditionsWritten};
+ghost use Rattle.words.specs.Written.{powerWritten, userBitsWritten, exactlyOne, causeRemains, mdTests};
 use crate::UserBits;
+use crate::bits;
 use modes::Conditions;
 use modes::Request;
 use signals::Refusal;
@@ -11,8 +13,8 @@ use signals::Verdict;
 fn request_of(word: u16) -> Request
     ensures { λ r. ⌜ r ≡ requestOf word ⌝ }
 {
-    let manual = signals::bit(word, 13);
-    let auto = signals::bit(word, 12);
+    let manual = signals::bit(word, bits::MANUAL);
+    let auto = signals::bit(word, bits::AUTO);
     if manual {
         return Request::Manual;
     }
@@ -26,7 +28,7 @@ fn request_of(word: u16) -> Request
 fn clears_fault(fault: bool, word: u16) -> bool
     ensures { λ r. ⌜ r ≡ clearsFault fault word ⌝ }
 {
-    fault & !signals::bit(word, 8)
+    fault & !signals::bit(word, bits::FAULT)
 }
 
 fn fault_written(fault: bool, word: u16) -> bool
@@ -44,8 +46,8 @@ fn request_written(fault: bool, word: u16) -> Request
     if clears { Request::Manual } else { asked }
 }
 
-// What an accepted write of MD leaves of the conditions. The contract rules out a request taken from another bit, a fault that a write clears or
-// leaves wrongly, and a write that moves the pins or the open count.
+// What an accepted write of MD leaves of the conditions. The contract rules out a request taken from another bit, a
+// fault that a write clears or leaves wrongly, and a write that moves the pins or the open count.
 pub fn conditions_written(c: Conditions, word: u16) -> Conditions
     ensures { λ r. ⌜ r ≡ conditionsWritten c word ⌝ }
 {
@@ -63,7 +65,7 @@ pub fn conditions_written(c: Conditions, word: u16) -> Conditions
 pub fn power_written(userbits: UserBits, word: u16) -> UserBits
     ensures { λ r. ⌜ r ≡ powerWritten userbits word ⌝ }
 {
-    let measuredpower = signals::bit(word, 4);
+    let measuredpower = signals::bit(word, bits::MEASURED_POWER);
     UserBits {
         user1: userbits.user1,
         user2: userbits.user2,
@@ -75,8 +77,8 @@ pub fn power_written(userbits: UserBits, word: u16) -> UserBits
 pub fn user_bits_written(userbits: UserBits, word: u16) -> UserBits
     ensures { λ r. ⌜ r ≡ userBitsWritten userbits word ⌝ }
 {
-    let user1 = signals::bit(word, 6);
-    let user2 = signals::bit(word, 7);
+    let user1 = signals::bit(word, bits::USER1);
+    let user2 = signals::bit(word, bits::USER2);
     UserBits {
         user1,
         user2,
@@ -97,13 +99,14 @@ fn cause_remains(c: Conditions, word: u16) -> bool
     modes::is_cause(fault, c.opencount)
 }
 
-// Whether MD takes this word. The contract rules out a refusal for another cause, one that is forgotten, and a higher number where a lower one applies.
+// Whether MD takes this word. The contract rules out a refusal for another cause, one that is forgotten, and a higher
+// number where a lower one applies.
 pub fn md_verdict(c: Conditions, word: u16) -> Verdict
     ensures { λ r. ⌜ numberIn r ≡ refusedBy (mdTests c word) ⌝ }
 {
-    let auto = signals::bit(word, 12);
-    let remote = signals::bit(word, 11);
-    let one = exactly_one(signals::bit(word, 13), auto, remote);
+    let auto = signals::bit(word, bits::AUTO);
+    let remote = signals::bit(word, bits::REMOTE);
+    let one = exactly_one(signals::bit(word, bits::MANUAL), auto, remote);
     let pins = signals::pins_of(c.pins);
     let remains = cause_remains(c, word);
     if !one {

@@ -21,7 +21,14 @@ request-after-requires c κs = search needs
 
 returns : tie.Need-returns
 unfolding conditionsAfter
-returns c = simp (c .request-after .ensures, c .before .buttons-of .ensures, c .before .before .is-cause .ensures, c .before .before .before .open-count-after .ensures, c .before .before .before .before .is-open .ensures)
+returns c =
+    simp (
+      c .request-after .ensures,
+      c .before .buttons-of .ensures,
+      c .before .before .is-cause .ensures,
+      c .before .before .before .open-count-after .ensures,
+      c .before .before .before .before .is-open .ensures,
+    )
 
 pub after-spec : {M : Type 1} → statement M
 after-spec =

@@ -11,14 +11,14 @@ array-read-op c = search needs
 array-read-request : tie.Need-array-read-request
 array-read-request c = search needs
 
+array-read-manual : tie.Need-array-read-manual
+array-read-manual c = search needs
+
+array-read-clear : tie.Need-array-read-clear
+array-read-clear c = search needs
+
 array-read-fault : tie.Need-array-read-fault
 array-read-fault c = search needs
-
-array-read-fault-2 : tie.Need-array-read-fault-2
-array-read-fault-2 c = search needs
-
-array-read-fault-3 : tie.Need-array-read-fault-3
-array-read-fault-3 c = search needs
 
 array-read-userbits : tie.Need-array-read-userbits
 array-read-userbits c = search needs
@@ -33,8 +33,8 @@ are-others-legal-spec =
     (tie.spec
     array-read-op
     array-read-request
+    array-read-manual
+    array-read-clear
     array-read-fault
-    array-read-fault-2
-    array-read-fault-3
     array-read-userbits
     returns)

@@ -13,10 +13,10 @@ use Rattle.settings.proofs.decoding.parameters_in.Statement.{statement}
 use Rattle.settings.proofs.decoding.parameters_in.Tie as tie
 
 abbrev Inv-loop : tie.InvT-loop
-Inv-loop values taken₀ number₀ taken number = Filled (parameterIn values) 24 24 taken number
+Inv-loop values decoded₀ number₀ decoded number = Filled (parameterIn values) 24 24 decoded number
 
 abbrev μ-loop : tie.MeasureT-loop
-μ-loop values taken₀ number₀ taken number = 24 - number
+μ-loop values decoded₀ number₀ decoded number = 24 - number
 
 loop-holds : tie.Need-loop-holds Inv-loop μ-loop
 loop-holds c = filled-start (parameterIn (c .args .values)) 24 24 _ refl
@@ -24,11 +24,11 @@ loop-holds c = filled-start (parameterIn (c .args .values)) 24 24 _ refl
 parameter-in-requires : tie.Need-parameter-in-requires Inv-loop μ-loop
 parameter-in-requires c κs = search needs
 
-mul-taken : tie.Need-mul-taken Inv-loop μ-loop
-mul-taken c = search needs
+mul-decoded : tie.Need-mul-decoded Inv-loop μ-loop
+mul-decoded c = search needs
 
-array-set-from-taken : tie.Need-array-set-from-taken Inv-loop μ-loop
-array-set-from-taken c = search needs
+array-set-from-decoded : tie.Need-array-set-from-decoded Inv-loop μ-loop
+array-set-from-decoded c = search needs
 
 add-number : tie.Need-add-number Inv-loop μ-loop
 add-number c = search needs
@@ -38,13 +38,13 @@ loop-less c = search needs
 
 loop-again : tie.Need-loop-again Inv-loop μ-loop
 loop-again c = let l = c .before .before .loop in
-    filled-next (parameterIn (c .before .before .before .args .values)) 24 24 (l .taken) (l .number) _ (omega arith) (l .inv) (c .before .loop-test .taken)
+    filled-next (parameterIn (c .before .before .before .args .values)) 24 24 (l .decoded) (l .number) _ (omega arith) (l .inv) (c .before .loop-test .taken)
     (back w64 (c .parameter-in .result) (c .parameter-in .ok) ∙ c .parameter-in .ensures)
 
 returns : tie.Need-returns Inv-loop μ-loop
 unfolding parametersIn
 returns c = let l = c .before .loop in
-    ap (λ (values : List ℤ). record { values = values }) (filled-all (parameterIn (c .before .before .args .values)) 24 (l .taken) (l .number) (l .inv) (c .loop-test .left))
+    ap (λ (values : List ℤ). record { values = values }) (filled-all (parameterIn (c .before .before .args .values)) 24 (l .decoded) (l .number) (l .inv) (c .loop-test .left))
 
 pub parameters-in-spec : {M : Type 1} → statement M
 parameters-in-spec =
@@ -54,8 +54,8 @@ parameters-in-spec =
     μ-loop
     loop-holds
     parameter-in-requires
-    mul-taken
-    array-set-from-taken
+    mul-decoded
+    array-set-from-decoded
     add-number
     loop-less
     loop-again

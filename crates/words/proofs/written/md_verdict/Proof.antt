@@ -37,8 +37,9 @@ tests-are : (c : tie.After-cause-remains) → let start = c .before .before .bef
     ∷ []
 unfolding mdTests
 tests-are c =
+    let bits = c .before .before .before in
     simp (c .cause-remains .ensures, c .before .pins-of .ensures, c .before .before .exactly-one .ensures)
-    (simp (c .before .before .before .bit3 .ensures, c .before .before .before .before .bit2 .ensures, c .before .before .before .before .before .bit .ensures))
+    (simp (bits .bit3 .ensures, bits .before .bit2 .ensures, bits .before .before .bit .ensures))
 
 returns : tie.Need-returns
 unfolding refusedBy
@@ -50,11 +51,15 @@ returns-2 c = simp (tests-are (c .before .before .before), c .before .before .if
 
 returns-3 : tie.Need-returns-3
 unfolding refusedBy
-returns-3 c = simp (tests-are (c .before .before .before .before), c .before .before .before .if1 .left, c .before .if2 .left, c .if3 .taken)
+returns-3 c =
+    let one = c .before .before .before in
+    simp (tests-are (one .before), one .if1 .left, c .before .if2 .left, c .if3 .taken)
 
 returns-4 : tie.Need-returns-4
 unfolding refusedBy
-returns-4 c = simp (tests-are (c .before .before .before .before), c .before .before .before .if1 .left, c .before .if2 .left, c .if3 .left)
+returns-4 c =
+    let one = c .before .before .before in
+    simp (tests-are (one .before), one .if1 .left, c .before .if2 .left, c .if3 .left)
 
 pub md-verdict-spec : {M : Type 1} → statement M
 md-verdict-spec =
