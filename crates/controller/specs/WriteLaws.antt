@@ -106,10 +106,6 @@ module _ (c : Core) (n : ℕ) (v : ℤ) where
   unfolding mdWritten dsWritten parameterWritten coreWith
   readings-stay = by-kind (λ k. k .readings ≡ c .readings) refl refl refl
 
-  pub indications-stays : coreWritten c n v .indications ≡ c .indications
-  unfolding mdWritten dsWritten parameterWritten coreWith
-  indications-stays = by-kind (λ k. k .indications ≡ c .indications) refl refl refl
-
   pub history-stays : coreWritten c n v .history ≡ c .history
   unfolding mdWritten dsWritten parameterWritten coreWith
   history-stays = by-kind (λ k. k .history ≡ c .history) refl refl refl

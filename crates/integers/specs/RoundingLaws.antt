@@ -10,7 +10,7 @@ use borrow.Author.Tests.{lt-ltb, le-ltb}
 use Rattle.integers.specs.Choice.{by-cases}
 use Rattle.integers.specs.Operations.{difference, negation}
 use Rattle.integers.specs.Parts.{apart}
-use Rattle.integers.specs.Rounding.{halfUp, halfEven, nearestBy, nearestAway, nearestEven, Nearest, division, left-over, halfUp-nearest, halfUp-up, halfEven-by, halfEven-nearest}
+use Rattle.integers.specs.Rounding.{halfUp, halfEven, nearestBy, nearestEven, Nearest, division, left-over, halfUp-nearest, halfUp-up, halfEven-by, halfEven-nearest}
 use Rattle.integers.specs.Sign.{fromSign, fromSign-times}
 
 module _ (n d : ℕ) (some : 0 < d) where
@@ -99,7 +99,3 @@ nearestBy-off rounding (negsuc n) d h =
 pub nearestEven-off : (z : ℤ) (d : ℕ) → 0 < d → 2 * natAbs (nearestEven z d *ℤ pos d -ℤ z) ≤ d
 unfolding nearestEven
 nearestEven-off z d h = nearestBy-off halfEven z d (halfEven-nearest (natAbs z) d h)
-
-pub nearestAway-off : (z : ℤ) (d : ℕ) → 0 < d → 2 * natAbs (nearestAway z d *ℤ pos d -ℤ z) ≤ d
-unfolding nearestAway
-nearestAway-off z d h = nearestBy-off halfUp z d (halfUp-nearest (natAbs z) d h)
