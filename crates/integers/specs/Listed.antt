@@ -1,7 +1,7 @@
 -- A list by its places, and a loop that fills an array so: one law for every type of element.
-use mathlib.Core.Path.{_≡_, refl, sym, ap, _∙_}
+use mathlib.Core.Path.{_≡_, refl, sym, ap, subst, _∙_}
 use mathlib.Core.List.{List, [], _∷_, _++_}
-use Prim.Native.Nat.{ℕ, zero, suc, _+_, _≤_, _<_}
+use Prim.Native.Nat.{ℕ, zero, suc, _+_, _-_, _≤_, _<_}
 use native.Mathlib.Nat.{add-zero, zero-add, add-suc, suc-add, le-of-suc-le-suc, not-suc-le-zero}
 use native.Mathlib.Numerals.{add-one}
 use native.Mathlib.Omega.{arith}
@@ -54,3 +54,14 @@ module _ {A : Type 0} (f : ℕ → A) where
 
   pub filled-all : (many : ℕ) (out : List A) (place : ℕ) → Filled many many out place → many ≤ place → out ≡ listed f 0 many
   filled-all many out place r h = sym (take-all many out (omega (arith, r .long))) ∙ filled-front many many out place r h
+
+-- two functions agree at each number of a short range: both lists are computed, and one `refl` compares them
+pub listed-same : {A : Type 0} (f g : ℕ → A) (first many n : ℕ) → listed f first many ≡ listed g first many →
+    first ≤ n → n < first + many → f n ≡ g n
+listed-same {A} f g first many n e h l =
+    let place = n - first in
+    let at : first + place ≡ n = omega arith in
+    subst (λ (m : ℕ). f m ≡ g m) at
+    (sym (listed-at f (f 0) first many place (omega arith))
+    ∙ ap (λ (xs : List A). getD xs place (f 0)) e
+    ∙ listed-at g (f 0) first many place (omega arith))

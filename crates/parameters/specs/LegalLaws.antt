@@ -1,21 +1,24 @@
 -- The defaults are legal, a setpoint and a ratio within their limits keep parameters legal, and what legal parameters satisfy.
 use mathlib.Core.Path.{_≡_, refl, sym, ap, _∙_, subst}
 use mathlib.Core.Bool.{Bool, true, false, _&&_}
-use Prim.Native.Nat.{ℕ, _+_, _-_, _≤_, _<_}
+use Prim.Native.Nat.{ℕ, _+_, _≤_, _<_}
 use native.Mathlib.Omega.{arith}
 use lib.Dec.{eqb, ltb}
 use lib.IntN.{ℤ, pos, negℤ, natAbs}
 use lib.ListN.{length, getD, set, length-set}
 use lib.Seq.{getD-set-same, getD-set-other}
 use lib.Signed.{leZ, ltZ, _≤ℤ_, _<ℤ_}
-use borrow.Author.Tests.{eqb-true, eqb-false, ltb-true, ltb-false}
+use borrow.Author.Tests.{eqb-true, eqb-false, eq-eqb, ne-eqb, ltb-true, ltb-false}
 use Rattle.integers.specs.Choice.{if_then_else_, by-cases, never, both}
+use Rattle.integers.specs.Limit.{limited, limited-low, limited-high}
+use Rattle.integers.specs.Listed.{listed, listed-same}
 use Rattle.integers.specs.Operations.{number}
 use Rattle.integers.specs.Parts.{integers, apart}
 use Rattle.parameters.specs.Legal.{Legal, keeps, inRange, pairInOrder, isWithin, inOrder, partner}
-use Rattle.parameters.specs.Range.{Each, each-in, each-of}
+use Rattle.parameters.specs.PairLaws.{partner-most, row-of, same-row}
 use Rattle.parameters.specs.Table as t
 use Rattle.parameters.specs.Table.{value, withValue, ruleOf, defaults}
+use Rattle.parameters.specs.Written.{limitedAnew}
 use Rattle.parameters.specs.declared.Parameters.{Parameters}
 use Rattle.parameters.specs.declared.Rule.{Rule}
 use Rattle.parameters.specs.declared.Rule.the-variants.{Unknown, ReadOnly, Word, Free, Pair, Between}
@@ -25,15 +28,13 @@ abbrev pub fresh : Parameters
 fresh = record { values = defaults }
 
 pub defaults-legal : Legal fresh
-unfolding value ruleOf
+unfolding value ruleOf listed
 defaults-legal =
     record {
       size = refl;
       unused = refl;
       rules = λ n a b.
-          each-in (λ (m : ℕ). keeps (ruleOf m) (value fresh) m ≡ true) 23 1 n
-          (refl, (refl, (refl, (refl, (refl, (refl, (refl, (refl, (refl, (refl, (refl, (refl, (refl, (refl, (refl, (refl, (refl, (refl, (refl, (refl, (refl, (refl, (refl, tt)))))))))))))))))))))))
-          a (omega arith);
+          listed-same (λ (m : ℕ). keeps (ruleOf m) (value fresh) m) (λ (m : ℕ). true) 1 23 n refl a (omega arith);
     }
 
 -- ---- one value changed
@@ -67,23 +68,51 @@ by-place {A} n k f g h = go (ltb n k) refl (eqb n k) refl
 pub and-true : {b : Bool} → b ≡ true → b && true ≡ true
 and-true e = rw e refl
 
--- row by row: those before SL and RS, those after them, and these two
+-- row by row: those of SL and RS, and the others
 pub legal-by : (p : Parameters) → length (p .values) ≡ 24 → value p 0 ≡ pos 0 →
-    ((n : ℕ) → 1 ≤ n → n ≤ 19 → keeps (ruleOf n) (value p) n ≡ true) → ((n : ℕ) → 22 ≤ n → n ≤ 23 → keeps (ruleOf n) (value p) n ≡ true) →
+    ((n : ℕ) → 1 ≤ n → n ≤ 23 → (n ≡ 20 → ⊥) → (n ≡ 21 → ⊥) → keeps (ruleOf n) (value p) n ≡ true) →
     keeps (ruleOf 20) (value p) 20 ≡ true → keeps (ruleOf 21) (value p) 21 ≡ true → Legal p
-legal-by p size unused before after sl rs =
+legal-by p size unused others sl rs =
     let P : ℕ → Type 0 = λ m. keeps (ruleOf m) (value p) m ≡ true in
     record {
       size = size;
       unused = unused;
       rules = λ n a b.
-          by-place n 20 (λ l. before n a (omega arith)) (λ q. subst P (sym q) sl)
-          (λ l. by-place n 21 (λ k. absurd (omega arith)) (λ q. subst P (sym q) rs) (λ k. after n (omega arith) b));
+          by-place n 20 (λ l. others n a b (λ q. omega arith) (λ q. omega arith)) (λ q. subst P (sym q) sl)
+          (λ l. by-place n 21 (λ k. absurd (omega arith)) (λ q. subst P (sym q) rs)
+          (λ k. others n a b (λ q. omega arith) (λ q. omega arith)));
     }
 
-pub rules-from : (p : Parameters) → Legal p → (many first : ℕ) → 1 ≤ first → first + many ≤ 24 → Each (λ (n : ℕ). keeps (ruleOf n) (value p) n ≡ true) first many
-rules-from p legal many first a b =
-    each-of (λ (n : ℕ). keeps (ruleOf n) (value p) n ≡ true) many first (λ n h l. legal .rules n (omega arith) (omega arith))
+-- ---- SL and RS limited anew
+
+module _ (p : Parameters) (size : length (p .values) ≡ 24) (m low high : ℕ) (l : m < 24) where
+  abbrev anew : Parameters
+  anew = limitedAnew p m low high
+
+  pub anew-size : length (anew .values) ≡ 24
+  unfolding limitedAnew withValue
+  anew-size = length-set (p .values) m _ ∙ size
+
+  -- the others stay
+  pub anew-other : (n : ℕ) → (n ≡ m → ⊥) → value anew n ≡ value p n
+  unfolding limitedAnew
+  anew-other n d = value-with p m _ size l n ∙ rw (ne-eqb n m d) refl
+
+  limited-is : value anew m ≡ limited (value p low) (value p high) (value p m)
+  unfolding limitedAnew
+  limited-is = value-with p m _ size l m ∙ rw (eq-eqb m m refl) refl
+
+  pub anew-value : (low ≡ m → ⊥) → (high ≡ m → ⊥) → value anew m ≡ limited (value anew low) (value anew high) (value p m)
+  anew-value a b = rw (anew-other low a, anew-other high b) limited-is
+
+-- a value limited to two others that are in order keeps its row
+pub limited-row : (f : ℕ → ℤ) (m low high : ℕ) (x : ℤ) → ruleOf m ≡ Between low high → leZ (f low) (f high) ≡ true →
+    f m ≡ limited (f low) (f high) x → keeps (ruleOf m) f m ≡ true
+limited-row f m low high x row order e =
+    let least : leZ (f low) (limited (f low) (f high) x) ≡ true =
+    omega (arith, integers, limited-low (f low) (f high) x (omega (arith, integers, order))) in
+    let most : leZ (limited (f low) (f high) x) (f high) ≡ true = omega (arith, integers, limited-high (f low) (f high) x) in
+    rw (row, e, least, most) refl
 
 -- ---- no other parameter's rule looks at SL or RS: within their limits they may take any values
 
@@ -101,14 +130,20 @@ module _ (p : Parameters) (legal : Legal p) (sl rs : ℤ) where
       value-with (withValue p 20 sl) 21 rs settings-size (omega arith) n ∙
       ap (λ (v : ℤ). if eqb n 21 then rs else v) (value-with p 20 sl (legal .size) (omega arith) n)
 
-  pub settings-legal : isWithin (t.LS p) (t.HS p) sl ≡ true → isWithin (t.LR p) (t.HR p) rs ≡ true → Legal (withValue (withValue p 20 sl) 21 rs)
+  pub settings-legal : isWithin (t.LS p) (t.HS p) sl ≡ true → isWithin (t.LR p) (t.HR p) rs ≡ true →
+      Legal (withValue (withValue p 20 sl) 21 rs)
   unfolding ruleOf withValue settings
   settings-legal e d =
       let q = withValue (withValue p 20 sl) 21 rs in
-      let same : (n : ℕ) → keeps (ruleOf n) (value q) n ≡ keeps (ruleOf n) settings n = λ n. keeps-same (ruleOf n) (value q) settings n settings-are in
+      let same : (n : ℕ) → keeps (ruleOf n) (value q) n ≡ keeps (ruleOf n) settings n =
+      λ n. keeps-same (ruleOf n) (value q) settings n settings-are in
+      let kept : (n : ℕ) → (n ≡ 20 → ⊥) → (n ≡ 21 → ⊥) → settings n ≡ value p n =
+      λ n a b. rw (ne-eqb n 21 b, ne-eqb n 20 a) refl in
       legal-by q (length-set (set (p .values) 20 sl) 21 rs ∙ settings-size) (settings-are 0 ∙ legal .unused)
-      (λ n a b. same n ∙ each-in (λ (m : ℕ). keeps (ruleOf m) settings m ≡ true) 19 1 n (rules-from p legal 19 1 (omega arith) (omega arith)) a (omega arith))
-      (λ n a b. same n ∙ each-in (λ (m : ℕ). keeps (ruleOf m) settings m ≡ true) 2 22 n (rules-from p legal 2 22 (omega arith) (omega arith)) a (omega arith))
+      (λ n a b u v.
+      let row = row-of n a b u v in
+      same n ∙ same-row (ruleOf n) (value p) settings n (row .own) (kept n u v)
+      (λ s. let most = partner-most n (row .most s) in kept (partner n) (λ q. omega arith) (λ q. omega arith)) ∙ legal .rules n a b)
       (same 20 ∙ and-true e) (same 21 ∙ and-true d)
 
 -- ---- what the rules come to, in orders of integers
@@ -206,15 +241,19 @@ bounded-most (Pair least most strict) f v b e = between-most least most v b e
 bounded-most (Between low high) f v b e = never b
 
 pub value-most : (p : Parameters) → Legal p → (n : ℕ) → 1 ≤ n → n ≤ 23 → natAbs (value p n) ≤ 9999
-unfolding ruleOf
+unfolding ruleOf listed
 value-most p legal n a b =
     let r = ranges p legal in
     let P : ℕ → Type 0 = λ m. natAbs (value p m) ≤ 9999 in
-    let B : ℕ → Type 0 = λ m. bounded (ruleOf m) ≡ true in
-    let most : (m : ℕ) → 1 ≤ m → m ≤ 23 → B m → P m = λ m h l e. bounded-most (ruleOf m) (value p) (value p m) e (both (inRange (ruleOf m) (value p) (value p m)) (pairInOrder (ruleOf m) (value p) m (value p m)) (legal .rules m h l) .0) in
+    let rows : ℕ → Bool = λ m. bounded (ruleOf m) in
+    let most : rows n ≡ true → P n =
+    λ e. bounded-most (ruleOf n) (value p) (value p n) e
+    (both (inRange (ruleOf n) (value p) (value p n)) (pairInOrder (ruleOf n) (value p) n (value p n)) (legal .rules n a b) .0) in
     by-place n 20
-    (λ l. most n a b (each-in B 19 1 n (refl, (refl, (refl, (refl, (refl, (refl, (refl, (refl, (refl, (refl, (refl, (refl, (refl, (refl, (refl, (refl, (refl, (refl, (refl, tt))))))))))))))))))) a (omega arith)))
-    (λ q. subst P (sym q) (omega (arith, integers, r .setpoints .not-below, r .setpoints .not-above, r .setpoint .not-below, r .setpoint .not-above, number (t.SL p), apart (t.SL p))))
+    (λ l. most (listed-same rows (λ (m : ℕ). true) 1 19 n refl a (omega arith)))
+    (λ q. subst P (sym q)
+    (omega (arith, integers, r .setpoints .not-below, r .setpoints .not-above, r .setpoint, number (t.SL p), apart (t.SL p))))
     (λ l. by-place n 21 (λ k. absurd (omega arith))
-    (λ q. subst P (sym q) (omega (arith, integers, r .ratios .not-below, r .ratios .not-above, r .ratio .not-below, r .ratio .not-above, number (t.RS p), apart (t.RS p))))
-    (λ k. most n a b (each-in B 2 22 n (refl, (refl, tt)) k (omega arith))))
+    (λ q. subst P (sym q)
+    (omega (arith, integers, r .ratios .not-below, r .ratios .not-above, r .ratio, number (t.RS p), apart (t.RS p))))
+    (λ k. most (listed-same rows (λ (m : ℕ). true) 22 2 n refl k (omega arith))))

@@ -12,7 +12,7 @@ use lib.ListN.{length, getD, take, length-take, length-append, List·getD-append
 use lib.Seq.{take-at, getD-at, ext-getD, getD-take, take-all, take-suc}
 use borrow.Author.Tests.{lt-ltb, eq-eqb, ne-eqb, le-leb, leb-true, eqb-true}
 use Rattle.integers.specs.Choice.{both}
-use Rattle.integers.specs.Listed.{listed, listed-at, listed-length}
+use Rattle.integers.specs.Listed.{listed, listed-at, listed-length, listed-same}
 use Rattle.integers.specs.TwosComplement.{asWord, word-back, value-back, word-most}
 use Rattle.fields.specs.Fields.{lengthOf, sumOf, withSumcheck}
 use Rattle.fields.specs.RoundTrip.{Fit}
@@ -22,7 +22,6 @@ use Rattle.words.specs.WordLaws.{weight-most}
 use Rattle.words.specs.declared.UserBits.{UserBits}
 use Rattle.parameters.specs.Legal.{Legal}
 use Rattle.parameters.specs.LegalLaws.{value-most, by-place}
-use Rattle.parameters.specs.Range.{each-in}
 use Rattle.parameters.specs.Table.{value}
 use Rattle.settings.specs.Settings.{requestNumber, faultNumber, userBitsNumber, valueAt, valuesOf, requestIn, userBitsIn, parameterIn, parametersIn, settingsIn, isSumRight, areOthersLegal}
 use Rattle.settings.specs.declared.Settings.{Settings}
@@ -168,21 +167,21 @@ module _ (s : Settings) where
 
 -- ---- decoded, then saved
 
+-- a number that is decoded and encoded, tried at each that is legal
+again : (f : ℕ → ℕ) (most v : ℕ) → listed f 0 (most + 1) ≡ listed (λ (n : ℕ). n) 0 (most + 1) → leb v most ≡ true → f v ≡ v
+again f most v same e = listed-same f (λ (n : ℕ). n) 0 (most + 1) v same (omega arith) (omega (arith, leb-true v most e))
+
 request-again : (v : ℕ) → leb v 2 ≡ true → requestNumber (requestIn v) ≡ v
-request-again v e =
-    let most = leb-true v 2 e in
-    by-place v 1 (λ h. rw (eq-eqb v 0 (omega arith)) (let z : 0 ≡ v = omega arith in z)) (λ q. rw q refl)
-    (λ h. rw (ne-eqb v 0 (λ q. omega arith), ne-eqb v 1 (λ q. omega arith)) (let z : 2 ≡ v = omega arith in z))
+unfolding listed
+request-again v e = again (λ (n : ℕ). requestNumber (requestIn n)) 2 v refl e
 
 fault-again : (v : ℕ) → leb v 1 ≡ true → faultNumber (eqb v 1) ≡ v
-fault-again v e =
-    let most = leb-true v 1 e in
-    by-place v 1 (λ h. rw (ne-eqb v 1 (λ q. omega arith)) (let z : 0 ≡ v = omega arith in z)) (λ q. rw q refl) (λ h. absurd (omega arith))
+unfolding listed
+fault-again v e = again (λ (n : ℕ). faultNumber (eqb n 1)) 1 v refl e
 
 user-bits-again : (v : ℕ) → leb v 7 ≡ true → userBitsNumber (userBitsIn v) ≡ v
-unfolding userBitsNumber userBitsIn
-user-bits-again v e =
-    each-in (λ (n : ℕ). userBitsNumber (userBitsIn n) ≡ n) 8 0 v (refl, (refl, (refl, (refl, (refl, (refl, (refl, (refl, tt)))))))) (omega arith) (omega (arith, leb-true v 7 e))
+unfolding userBitsNumber userBitsIn listed
+user-bits-again v e = again (λ (n : ℕ). userBitsNumber (userBitsIn n)) 7 v refl e
 
 -- what legal values satisfy besides the parameters
 pub record Others (vs : List ℕ) : Type 0 where
