@@ -77,7 +77,10 @@ lowest-number-wins =
     record {
       scans = λ c i r e. wins c (scanTests i) (rules.accepted counted (c .core) i) _ (scan-ascends i) refl e;
       writes = λ c n v r e. wins c (writeTests (c .core) n v) (writeAccepted (c .core) n v) _ (write-ascends (c .core) n v) refl e;
-      restarts = λ life c image r e. wins c (restartTests (now image)) (restartAccepted (c .core) (valuesIn (now image))) _ (restart-ascends (now image)) refl e;
+      restarts =
+          λ life c image r e. wins c (restartTests (now image))
+          (restartAccepted (c .core) (valuesIn (now image))) _ (restart-ascends (now image)) refl e;
       saves = λ life c buffer r after e.
-          subst (Lowest (saveTests (now buffer))) (sym (ap refusalIn (e .0) ∙ reply-refusal (refusedBy (saveTests (now buffer))))) (lowest _ (save-ascends (now buffer)));
+          subst (Lowest (saveTests (now buffer))) (sym (ap refusalIn (e .0) ∙ reply-refusal (refusedBy (saveTests (now buffer)))))
+          (lowest _ (save-ascends (now buffer)));
     }

@@ -23,13 +23,16 @@ module _ {A : Type 0} (f : ℕ → A) where
   unfolding listed
   listed-at d first zero place h = absurd (not-suc-le-zero h)
   listed-at d first (suc many) zero h = ap f (sym (add-zero first))
-  listed-at d first (suc many) (suc place) h = listed-at d (suc first) many place (le-of-suc-le-suc h) ∙ ap f (suc-add first place ∙ sym (add-suc first place))
+  listed-at d first (suc many) (suc place) h =
+      listed-at d (suc first) many place (le-of-suc-le-suc h) ∙ ap f (suc-add first place ∙ sym (add-suc first place))
 
   listed-more : (first many : ℕ) → listed f first (suc many) ≡ listed f first many ++ (f (first + many) ∷ [])
   unfolding listed
   listed-more first zero = ap (λ (n : ℕ). f n ∷ []) (sym (add-zero first))
   listed-more first (suc many) =
-      ap (λ (l : List A). f first ∷ l) (listed-more (suc first) many ∙ ap (λ (n : ℕ). listed f (suc first) many ++ (f n ∷ [])) (suc-add first many ∙ sym (add-suc first many)))
+      ap (λ (l : List A). f first ∷ l)
+      (listed-more (suc first) many ∙
+      ap (λ (n : ℕ). listed f (suc first) many ++ (f n ∷ [])) (suc-add first many ∙ sym (add-suc first many)))
 
   -- the places before this one are filled
   pub record Filled (many size : ℕ) (out : List A) (place : ℕ) : Type 0 where
@@ -41,15 +44,18 @@ module _ {A : Type 0} (f : ℕ → A) where
   unfolding listed
   filled-start many size out long = record { few = omega arith; long = long; front = refl }
 
-  pub filled-next : (many size : ℕ) (out : List A) (place : ℕ) (v : A) → many ≤ size → Filled many size out place → place < many → v ≡ f place →
+  pub filled-next : (many size : ℕ) (out : List A) (place : ℕ) (v : A) → many ≤ size → Filled many size out place → place < many →
+      v ≡ f place →
       Filled many size (set out place v) (place + 1)
   filled-next many size out place v room r h e =
       let one : take (place + 1) (set out place v) ≡ take place out ++ (v ∷ []) =
       ap (λ (k : ℕ). take k (set out place v)) (add-one place) ∙ take-suc-set out place v (omega (arith, r .long)) in
-      let two : listed f 0 (place + 1) ≡ listed f 0 place ++ (f (0 + place) ∷ []) = ap (λ (k : ℕ). listed f 0 k) (add-one place) ∙ listed-more 0 place in
+      let two : listed f 0 (place + 1) ≡ listed f 0 place ++ (f (0 + place) ∷ []) =
+      ap (λ (k : ℕ). listed f 0 k) (add-one place) ∙ listed-more 0 place in
       record { few = omega arith; long = length-set out place v ∙ r .long; front = cc (one, two, r .front, zero-add place) }
 
-  pub filled-front : (many size : ℕ) (out : List A) (place : ℕ) → Filled many size out place → many ≤ place → take many out ≡ listed f 0 many
+  pub filled-front : (many size : ℕ) (out : List A) (place : ℕ) → Filled many size out place → many ≤ place →
+      take many out ≡ listed f 0 many
   filled-front many size out place r h = let e : place ≡ many = omega (arith, r .few) in cc (r .front)
 
   pub filled-all : (many : ℕ) (out : List A) (place : ℕ) → Filled many many out place → many ≤ place → out ≡ listed f 0 many

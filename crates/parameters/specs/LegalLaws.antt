@@ -1,4 +1,5 @@
--- The defaults are legal, a setpoint and a ratio within their limits keep parameters legal, and what legal parameters satisfy.
+-- The defaults are legal, a setpoint and a ratio within their limits keep parameters legal, and what
+-- legal parameters satisfy.
 use mathlib.Core.Path.{_≡_, refl, sym, ap, _∙_, subst}
 use mathlib.Core.Bool.{Bool, true, false, _&&_}
 use Prim.Native.Nat.{ℕ, _+_, _≤_, _<_}
@@ -42,11 +43,13 @@ defaults-legal =
 abbrev pub changed : (ℕ → ℤ) → ℕ → ℤ → ℕ → ℤ
 changed values k v n = if eqb n k then v else values n
 
-pub value-with : (p : Parameters) (k : ℕ) (v : ℤ) → length (p .values) ≡ 24 → k < 24 → (n : ℕ) → value (withValue p k v) n ≡ changed (value p) k v n
+pub value-with : (p : Parameters) (k : ℕ) (v : ℤ) → length (p .values) ≡ 24 → k < 24 → (n : ℕ) →
+    value (withValue p k v) n ≡ changed (value p) k v n
 unfolding value withValue
 value-with p k v size h n =
     by-cases (λ (w : ℤ). getD (set (p .values) k v) n (pos 0) ≡ w) (eqb n k) v (value p n)
-    (λ e. subst (λ (m : ℕ). getD (set (p .values) k v) m (pos 0) ≡ v) (sym (eqb-true n k e)) (getD-set-same (p .values) k v (pos 0) (omega arith)))
+    (λ e. subst (λ (m : ℕ). getD (set (p .values) k v) m (pos 0) ≡ v) (sym (eqb-true n k e))
+    (getD-set-same (p .values) k v (pos 0) (omega arith)))
     (λ e. getD-set-other (p .values) k n v (pos 0) (eqb-false n k e))
 
 pub keeps-same : (r : Rule) (f g : ℕ → ℤ) (n : ℕ) → ((m : ℕ) → f m ≡ g m) → keeps r f n ≡ keeps r g n
@@ -184,10 +187,13 @@ ranged : (low high v : ℤ) → (isWithin low high v && true) ≡ true → Insid
 ranged low high v e = inside low high v (both (isWithin low high v) true e .0)
 
 -- the lower of a pair and the upper, from the rules of both
-ordered : (strict : Bool) (least most low high : ℤ) → (isWithin least most high && inOrder strict low high) ≡ true → (isWithin least most low && inOrder strict low high) ≡ true → Ordered least low high most
-ordered true least most low high d e = let h = both (isWithin least most high) (ltZ low high) d in let k = both (isWithin least most low) (ltZ low high) e in
+ordered : (strict : Bool) (least most low high : ℤ) → (isWithin least most high && inOrder strict low high) ≡ true →
+    (isWithin least most low && inOrder strict low high) ≡ true → Ordered least low high most
+ordered true least most low high d e =
+    let h = both (isWithin least most high) (ltZ low high) d in let k = both (isWithin least most low) (ltZ low high) e in
     omega (arith, integers, inside least most high (h .0), inside least most low (k .0), h .1)
-ordered false least most low high d e = let h = both (isWithin least most high) (leZ low high) d in let k = both (isWithin least most low) (leZ low high) e in
+ordered false least most low high d e =
+    let h = both (isWithin least most high) (leZ low high) d in let k = both (isWithin least most low) (leZ low high) e in
     omega (arith, integers, inside least most high (h .0), inside least most low (k .0), h .1)
 
 spanned : (least most low high : ℤ) → (isWithin least most high && ltZ low high) ≡ true → low <ℤ high
@@ -225,7 +231,8 @@ bounded (Free least most) = isWithin (negℤ (pos 9999)) most least && leZ most 
 bounded (Pair least most strict) = isWithin (negℤ (pos 9999)) most least && leZ most (pos 9999)
 bounded (Between low high) = false
 
-between-most : (least most v : ℤ) → isWithin (negℤ (pos 9999)) most least && leZ most (pos 9999) ≡ true → isWithin least most v ≡ true → natAbs v ≤ 9999
+between-most : (least most v : ℤ) → isWithin (negℤ (pos 9999)) most least && leZ most (pos 9999) ≡ true → isWithin least most v ≡ true →
+    natAbs v ≤ 9999
 between-most least most v b e =
     let h = both (isWithin (negℤ (pos 9999)) most least) (leZ most (pos 9999)) b in
     let k = inside (negℤ (pos 9999)) most least (h .0) in

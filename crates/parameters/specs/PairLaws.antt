@@ -93,7 +93,8 @@ row-of n a b c d = go (leb n 16) refl (leb n 19) refl
 
 -- ---- what a row says depends on its own value and, in a pair, on the other one's
 
-pub same-row : (r : Rule) (f g : ℕ → ℤ) (n : ℕ) → isBetween r ≡ false → g n ≡ f n → (isPair r ≡ true → g (partner n) ≡ f (partner n)) → keeps r g n ≡ keeps r f n
+pub same-row : (r : Rule) (f g : ℕ → ℤ) (n : ℕ) → isBetween r ≡ false → g n ≡ f n → (isPair r ≡ true → g (partner n) ≡ f (partner n)) →
+    keeps r g n ≡ keeps r f n
 same-row Unknown f g n b e p = refl
 same-row ReadOnly f g n b e p = refl
 same-row (Word least most) f g n b e p = rw e refl

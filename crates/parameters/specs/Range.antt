@@ -17,7 +17,8 @@ unfolding every
 tested-in test zero first n e h l = absurd (omega arith)
 tested-in test (suc many) first n e h l =
     let now = both (test first) (every test (suc first) many) e in
-    ⊎-elim (λ q. subst (λ (m : ℕ). test m ≡ true) q (now .0)) (λ m. tested-in test many (suc first) n (now .1) m (omega arith)) (eq-or-lt-of-le h)
+    ⊎-elim (λ q. subst (λ (m : ℕ). test m ≡ true) q (now .0)) (λ m. tested-in test many (suc first) n (now .1) m (omega arith))
+    (eq-or-lt-of-le h)
 
 pub every-of : (test : ℕ → Bool) (many first : ℕ) → ((n : ℕ) → first ≤ n → n < first + many → test n ≡ true) → every test first many ≡ true
 unfolding every

@@ -13,7 +13,8 @@ use Rattle.parameters.specs.Legal.{isWithin, inRange, partner, ordered, 
 use Rattle.parameters.specs.LegalLaws.{defaults-legal, value-with, and-true, legal-by, anew-size, anew-other, anew-value, limited-row}
 use Rattle.parameters.specs.PairLaws.{partner-most, partner-twice, turned, isPair, isBetween, row-of, same-row}
 use Rattle.parameters.specs.Range.{tested-in, every-of}
-use Rattle.parameters.specs.Repaired.{default, widestOutput, rangedValue, byRange, pairedValue, byPairs, setpointAndRatioLimited, repaired}
+use Rattle.parameters.specs.Repaired.{default, widestOutput, rangedValue, byRange}
+use Rattle.parameters.specs.Repaired.{pairedValue, byPairs, setpointAndRatioLimited, repaired}
 use Rattle.parameters.specs.Table.{value, withValue, ruleOf}
 use Rattle.parameters.specs.Written.{limitedAnew}
 use Rattle.parameters.specs.declared.Parameters.{Parameters}
@@ -37,7 +38,8 @@ legal-tested p legal = every-of (λ (m : ℕ). keeps (ruleOf m) (value p) m) 23 
 within : (low high d v : ℤ) → isWithin low high d ≡ true → isWithin low high (if isWithin low high v then v else d) ≡ true
 within low high d v h = by-cases (λ (z : ℤ). isWithin low high z ≡ true) (isWithin low high v) v d (λ e. e) (λ e. h)
 
--- of values w first each in its range or the default, which gives g, then both of a pair in order or the defaults, which gives h
+-- of values w first each in its range or the default, which gives g, then both of a pair in order or
+-- the defaults, which gives h
 module _ (w d g h : ℕ → ℤ) where
   -- the first step and the second, at one number
   abbrev Ranged : Rule → ℕ → Type 0
@@ -149,12 +151,14 @@ module _ (p : Parameters) where
   unused-is : f 0 ≡ value w 0
   unfolding ruleOf
   unused-is =
-      elsewhere 0 (λ q. omega arith) (λ q. omega arith) ∙ paired 0 (omega arith) ∙ ranged 0 (omega arith) (λ q. omega arith) (λ q. omega arith)
+      elsewhere 0 (λ q. omega arith) (λ q. omega arith) ∙ paired 0 (omega arith) ∙
+      ranged 0 (omega arith) (λ q. omega arith) (λ q. omega arith)
 
   setpoint-row : keeps (ruleOf 20) f 20 ≡ true
   unfolding ruleOf setpoint
   setpoint-row =
-      let order = both (isWithin (negℤ (pos 9999)) (pos 9999) (f 9)) _ (kept 9 (omega arith) (omega arith) (λ q. omega arith) (λ q. omega arith)) .1 in
+      let order = both (isWithin (negℤ (pos 9999)) (pos 9999) (f 9)) _ (kept 9 (omega arith) (omega arith) (λ q. omega arith)
+      (λ q. omega arith)) .1 in
       limited-row f 20 10 9 (value h 20) refl order
       (rw (but-ratio 20 (λ q. omega arith), but-ratio 10 (λ q. omega arith), but-ratio 9 (λ q. omega arith))
       (anew-value h h-size 20 10 9 (omega arith) (λ q. omega arith) (λ q. omega arith)))
@@ -162,7 +166,8 @@ module _ (p : Parameters) where
   ratio-row : keeps (ruleOf 21) f 21 ≡ true
   unfolding ruleOf f
   ratio-row =
-      let order = both (isWithin (pos 1) (pos 9999) (f 7)) _ (kept 7 (omega arith) (omega arith) (λ q. omega arith) (λ q. omega arith)) .1 in
+      let order = both (isWithin (pos 1) (pos 9999) (f 7)) _ (kept 7 (omega arith) (omega arith) (λ q. omega arith)
+      (λ q. omega arith)) .1 in
       limited-row f 21 8 7 (value setpoint 21) refl order
       (anew-value setpoint setpoint-size 21 8 7 (omega arith) (λ q. omega arith) (λ q. omega arith))
 

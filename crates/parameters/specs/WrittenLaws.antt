@@ -56,7 +56,8 @@ module _ (p : Parameters) (legal : Legal p) (k : ℕ) (v : ℤ) (first : 1 ≤ k
   next-is n = value-with p k v (legal .size) (omega arith) n
 
   -- the three ways of a write: SL limited anew, RS limited anew, neither
-  by-way : (P : Parameters → Type 0) → (isFrom k 9 10 ≡ true → P (limitedAnew next 20 10 9)) → (isFrom k 9 10 ≡ false → isFrom k 7 8 ≡ true → P (limitedAnew next 21 8 7)) →
+  by-way : (P : Parameters → Type 0) → (isFrom k 9 10 ≡ true → P (limitedAnew next 20 10 9)) →
+      (isFrom k 9 10 ≡ false → isFrom k 7 8 ≡ true → P (limitedAnew next 21 8 7)) →
       (isFrom k 9 10 ≡ false → isFrom k 7 8 ≡ false → P next) → P (written p k v)
   unfolding written next
   by-way P setpoint ratio neither =
@@ -78,12 +79,14 @@ module _ (p : Parameters) (legal : Legal p) (k : ℕ) (v : ℤ) (first : 1 ≤ k
 
   setpoint-anew : isFrom k 9 10 ≡ true → let g = value (written p k v) in g 20 ≡ limited (g 10) (g 9) (value next 20)
   setpoint-anew e =
-      by-way (λ (q : Parameters). value q 20 ≡ limited (value q 10) (value q 9) (value next 20)) (λ f. anew-value next next-size 20 10 9 (omega arith) (λ q. omega arith) (λ q. omega arith))
+      by-way (λ (q : Parameters). value q 20 ≡ limited (value q 10) (value q 9) (value next 20))
+      (λ f. anew-value next next-size 20 10 9 (omega arith) (λ q. omega arith) (λ q. omega arith))
       (λ f d. never (sym f ∙ e)) (λ f d. never (sym f ∙ e))
 
   ratio-anew : isFrom k 7 8 ≡ true → let g = value (written p k v) in g 21 ≡ limited (g 8) (g 7) (value next 21)
   ratio-anew e =
-      by-way (λ (q : Parameters). value q 21 ≡ limited (value q 8) (value q 7) (value next 21)) (λ f. let x = is-from k 9 10 f in let y = is-from k 7 8 e in absurd (omega arith))
+      by-way (λ (q : Parameters). value q 21 ≡ limited (value q 8) (value q 7) (value next 21))
+      (λ f. let x = is-from k 9 10 f in let y = is-from k 7 8 e in absurd (omega arith))
       (λ f d. anew-value next next-size 21 8 7 (omega arith) (λ q. omega arith) (λ q. omega arith)) (λ f d. never (sym d ∙ e))
 
   setpoint-stays : isFrom k 9 10 ≡ false → value (written p k v) 20 ≡ changed (value p) k v 20
@@ -94,7 +97,8 @@ module _ (p : Parameters) (legal : Legal p) (k : ℕ) (v : ℤ) (first : 1 ≤ k
   ratio-stays : isFrom k 7 8 ≡ false → value (written p k v) 21 ≡ changed (value p) k v 21
   ratio-stays e =
       by-way (λ (q : Parameters). value q 21 ≡ changed (value p) k v 21)
-      (λ f. anew-other next next-size 20 10 9 (omega arith) 21 (λ q. omega arith) ∙ next-is 21) (λ f d. never (sym e ∙ d)) (λ f d. next-is 21)
+      (λ f. anew-other next next-size 20 10 9 (omega arith) 21 (λ q. omega arith) ∙ next-is 21) (λ f d. never (sym e ∙ d))
+      (λ f d. next-is 21)
 
   module _ (range : inRange (ruleOf k) (value p) v ≡ true) (order : pairInOrder (ruleOf k) (value p) k v ≡ true) where
     row-kept : (n : ℕ) → 1 ≤ n → n ≤ 23 → (n ≡ 20 → ⊥) → (n ≡ 21 → ⊥) → keeps (ruleOf n) (value (written p k v)) n ≡ true
@@ -118,7 +122,8 @@ module _ (p : Parameters) (legal : Legal p) (k : ℕ) (v : ℤ) (first : 1 ≤ k
         other : (n ≡ k → ⊥) → (t : Bool) → isPair (ruleOf n) ≡ t → (u : Bool) → eqb (partner n) k ≡ u → keeps (ruleOf n) g n ≡ true
         other h true e true q =
             let here = eqb-true (partner n) k q in
-            other-row (ruleOf n) (value p) g n v a e (elsewhere n c d ∙ same-value n h) (partner-is e ∙ new-value (partner n) here) (legal .rules n a b)
+            other-row (ruleOf n) (value p) g n v a e (elsewhere n c d ∙ same-value n h) (partner-is e ∙ new-value (partner n) here)
+            (legal .rules n a b)
             (ap (λ (r : Rule). pairInOrder r (value p) (partner n) v) (sym (row .paired e)) ∙ rw here order)
         other h true e false q =
             same-row (ruleOf n) (value p) g n (row .own) (elsewhere n c d ∙ same-value n h)
@@ -142,8 +147,10 @@ module _ (p : Parameters) (legal : Legal p) (k : ℕ) (v : ℤ) (first : 1 ≤ k
     between-kept m low high true x a b l h row sound limits stays = limited-row (value (written p k v)) m low high x row sound (limits refl)
     between-kept m low high false x a b l h row sound limits stays =
         let s = stays refl in
-        let low-is : value (written p k v) low ≡ value p low = elsewhere low (λ q. omega arith) (λ q. omega arith) ∙ rw (ne-eqb low k (s .1)) refl in
-        let high-is : value (written p k v) high ≡ value p high = elsewhere high (λ q. omega arith) (λ q. omega arith) ∙ rw (ne-eqb high k (s .2)) refl in
+        let low-is : value (written p k v) low ≡ value p low =
+        elsewhere low (λ q. omega arith) (λ q. omega arith) ∙ rw (ne-eqb low k (s .1)) refl in
+        let high-is : value (written p k v) high ≡ value p high =
+        elsewhere high (λ q. omega arith) (λ q. omega arith) ∙ rw (ne-eqb high k (s .2)) refl in
         rw (row, low-is, high-is, s .0) (own (eqb m k) refl)
       where
         own : (t : Bool) → eqb m k ≡ t → (isWithin (value p low) (value p high) (if t then v else value p m) && true) ≡ true
@@ -156,8 +163,11 @@ module _ (p : Parameters) (legal : Legal p) (k : ℕ) (v : ℤ) (first : 1 ≤ k
         let g = value (written p k v) in
         let kept-9 = row-kept 9 (omega arith) (omega arith) (λ q. omega arith) (λ q. omega arith) in
         let kept-7 = row-kept 7 (omega arith) (omega arith) (λ q. omega arith) (λ q. omega arith) in
-        legal-by (written p k v) written-size (elsewhere 0 (λ q. omega arith) (λ q. omega arith) ∙ rw (ne-eqb 0 k (λ q. omega arith)) (legal .unused)) row-kept
-        (between-kept 20 10 9 (isFrom k 9 10) (value next 20) (omega arith) (omega arith) (omega arith) (omega arith) refl (both (inRange (ruleOf 9) g (g 9)) (leZ (g 10) (g 9)) kept-9 .1) setpoint-anew
+        legal-by (written p k v) written-size
+        (elsewhere 0 (λ q. omega arith) (λ q. omega arith) ∙ rw (ne-eqb 0 k (λ q. omega arith)) (legal .unused)) row-kept
+        (between-kept 20 10 9 (isFrom k 9 10) (value next 20) (omega arith) (omega arith) (omega arith) (omega arith) refl
+        (both (inRange (ruleOf 9) g (g 9)) (leZ (g 10) (g 9)) kept-9 .1) setpoint-anew
         (λ e. (setpoint-stays e, not-from k 9 10 e 10 (omega arith) (omega arith), not-from k 9 10 e 9 (omega arith) (omega arith))))
-        (between-kept 21 8 7 (isFrom k 7 8) (value next 21) (omega arith) (omega arith) (omega arith) (omega arith) refl (both (inRange (ruleOf 7) g (g 7)) (leZ (g 8) (g 7)) kept-7 .1) ratio-anew
+        (between-kept 21 8 7 (isFrom k 7 8) (value next 21) (omega arith) (omega arith) (omega arith) (omega arith) refl
+        (both (inRange (ruleOf 7) g (g 7)) (leZ (g 8) (g 7)) kept-7 .1) ratio-anew
         (λ e. (ratio-stays e, not-from k 7 8 e 8 (omega arith) (omega arith), not-from k 7 8 e 7 (omega arith) (omega arith))))

@@ -19,28 +19,41 @@ negative-requires : tie.Need-negative-requires
 negative-requires c κs = search needs
 
 sub-result : tie.Need-sub-result
-sub-result c = let size : c .before .before .magnitude .result ≡ natAbs (c .before .before .before .args .v) = c .before .before .magnitude .ensures ∙ ap natAbs (toZ-ofZ (c .before .before .before .fits .v)) in
+sub-result c =
+    let size : c .before .before .magnitude .result ≡ natAbs (c .before .before .before .args .v) =
+    c .before .before .magnitude .ensures ∙ ap natAbs (toZ-ofZ (c .before .before .before .fits .v)) in
     omega (arith, size, c .before .before .before .pre)
 
 cast-result : tie.Need-cast-result
-cast-result c = let size : c .before .before .magnitude .result ≡ natAbs (c .before .before .before .args .v) = c .before .before .magnitude .ensures ∙ ap natAbs (toZ-ofZ (c .before .before .before .fits .v)) in
-    let sign : isNegative (c .before .before .before .args .v) ≡ true = ap isNegative (sym (toZ-ofZ (c .before .before .before .fits .v))) ∙ sym (c .before .negative .ensures) ∙ c .if1 .taken in
+cast-result c =
+    let size : c .before .before .magnitude .result ≡ natAbs (c .before .before .before .args .v) =
+    c .before .before .magnitude .ensures ∙ ap natAbs (toZ-ofZ (c .before .before .before .fits .v)) in
+    let sign : isNegative (c .before .before .before .args .v) ≡ true =
+    ap isNegative (sym (toZ-ofZ (c .before .before .before .fits .v))) ∙ sym (c .before .negative .ensures) ∙ c .if1 .taken in
     omega (arith, integers, sign, size, c .before .before .before .pre, number (c .before .before .before .args .v))
 
 cast-result-2 : tie.Need-cast-result-2
-cast-result-2 c = let size : c .before .before .magnitude .result ≡ natAbs (c .before .before .before .args .v) = c .before .before .magnitude .ensures ∙ ap natAbs (toZ-ofZ (c .before .before .before .fits .v)) in
+cast-result-2 c =
+    let size : c .before .before .magnitude .result ≡ natAbs (c .before .before .before .args .v) =
+    c .before .before .magnitude .ensures ∙ ap natAbs (toZ-ofZ (c .before .before .before .fits .v)) in
     omega (arith, size, c .before .before .before .pre)
 
 returns : tie.Need-returns
 unfolding asWord
-returns c = let size : c .before .before .magnitude .result ≡ natAbs (c .before .before .before .args .v) = c .before .before .magnitude .ensures ∙ ap natAbs (toZ-ofZ (c .before .before .before .fits .v)) in
-    let sign : isNegative (c .before .before .before .args .v) ≡ true = ap isNegative (sym (toZ-ofZ (c .before .before .before .fits .v))) ∙ sym (c .before .negative .ensures) ∙ c .if1 .taken in
+returns c =
+    let size : c .before .before .magnitude .result ≡ natAbs (c .before .before .before .args .v) =
+    c .before .before .magnitude .ensures ∙ ap natAbs (toZ-ofZ (c .before .before .before .fits .v)) in
+    let sign : isNegative (c .before .before .before .args .v) ≡ true =
+    ap isNegative (sym (toZ-ofZ (c .before .before .before .fits .v))) ∙ sym (c .before .negative .ensures) ∙ c .if1 .taken in
     rw (size, sign) refl
 
 returns-2 : tie.Need-returns-2
 unfolding asWord
-returns-2 c = let size : c .before .before .magnitude .result ≡ natAbs (c .before .before .before .args .v) = c .before .before .magnitude .ensures ∙ ap natAbs (toZ-ofZ (c .before .before .before .fits .v)) in
-    let sign : isNegative (c .before .before .before .args .v) ≡ false = ap isNegative (sym (toZ-ofZ (c .before .before .before .fits .v))) ∙ sym (c .before .negative .ensures) ∙ c .if1 .left in
+returns-2 c =
+    let size : c .before .before .magnitude .result ≡ natAbs (c .before .before .before .args .v) =
+    c .before .before .magnitude .ensures ∙ ap natAbs (toZ-ofZ (c .before .before .before .fits .v)) in
+    let sign : isNegative (c .before .before .before .args .v) ≡ false =
+    ap isNegative (sym (toZ-ofZ (c .before .before .before .fits .v))) ∙ sym (c .before .negative .ensures) ∙ c .if1 .left in
     rw (size, sign) refl
 
 pub as-word-spec : {M : Type 1} → statement M

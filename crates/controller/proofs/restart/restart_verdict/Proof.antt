@@ -30,16 +30,22 @@ is-legal-requires c κs = search needs
 
 returns-3 : tie.Need-returns-3
 unfolding refusedBy restartTests
-returns-3 c = let formed = sym (c .before .before .before .before .before .is-formed .ensures) ∙ not-false _ (c .before .before .before .before .if2 .left) in
+returns-3 c =
+    let formed = sym (c .before .before .before .before .before .is-formed .ensures) ∙
+    not-false _ (c .before .before .before .before .if2 .left) in
     let illegal : isIllegal (valuesIn (c .before .before .before .before .before .before .before .before .args .image .now)) ≡ true =
-    simp (sym (c .before .before .before .values-of .ensures)) (simp (sym (c .before .before .is-sum-right .ensures), sym (c .before .is-legal .ensures)) (c .if3 .taken)) in
+    simp (sym (c .before .before .before .values-of .ensures))
+    (simp (sym (c .before .before .is-sum-right .ensures), sym (c .before .is-legal .ensures)) (c .if3 .taken)) in
     simp (eq-eqb _ _ (c .before .before .before .before .before .before .if1 .left), formed, illegal)
 
 returns-4 : tie.Need-returns-4
 unfolding refusedBy restartTests
-returns-4 c = let formed = sym (c .before .before .before .before .before .is-formed .ensures) ∙ not-false _ (c .before .before .before .before .if2 .left) in
+returns-4 c =
+    let formed = sym (c .before .before .before .before .before .is-formed .ensures) ∙
+    not-false _ (c .before .before .before .before .if2 .left) in
     let legal : isIllegal (valuesIn (c .before .before .before .before .before .before .before .before .args .image .now)) ≡ false =
-    simp (sym (c .before .before .before .values-of .ensures)) (simp (sym (c .before .before .is-sum-right .ensures), sym (c .before .is-legal .ensures)) (c .if3 .left)) in
+    simp (sym (c .before .before .before .values-of .ensures))
+    (simp (sym (c .before .before .is-sum-right .ensures), sym (c .before .is-legal .ensures)) (c .if3 .left)) in
     simp (eq-eqb _ _ (c .before .before .before .before .before .before .if1 .left), formed, legal)
 
 pub restart-verdict-spec : {M : Type 1} → statement M
