@@ -11,7 +11,7 @@ use Rattle.signals.specs.RefusalLaws.{Ascending, Holds, here, later, lowest-win
 use Rattle.signals.specs.Refusals.{refusedBy, scanTests}
 use Rattle.fields.specs.Fields.{saveTests}
 use Rattle.modes.specs.Modes.{counted}
-use Rattle.controller.specs.Answers.{Reply, replyBy, Response}
+use Rattle.controller.specs.Answers.{replyBy, Response}
 use Rattle.controller.specs.Restart.{valuesIn, restartTests, restartAccepted, restartCore, restart}
 use Rattle.controller.specs.RestartLaws.{restart-ascends}
 use Rattle.controller.specs.Scan as rules

@@ -1,7 +1,7 @@
 -- A quotient taken to the nearest whole number, by what the division leaves over.
 use mathlib.Core.Path.{_≡_}
 use mathlib.Core.Bool.{cond}
-use Prim.Native.Nat.{ℕ, _+_, _-_, _*_, _/_, _%_, _≤_, _<_}
+use Prim.Native.Nat.{ℕ, _+_, _*_, _/_, _%_, _≤_, _<_}
 use native.Mathlib.Nat.{div-add-mod', le-antisymm, mod-lt, mul-le-mul-right}
 use native.Mathlib.Omega.{arith, by-contra}
 use lib.Dec.{ltb}

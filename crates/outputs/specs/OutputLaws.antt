@@ -18,8 +18,8 @@ use Rattle.modes.specs.Modes.{isLimiting, isAutoOrFallback}
 use Rattle.modes.specs.declared.Mode.{Mode}
 use Rattle.modes.specs.declared.Mode.the-variants.{Hold, Track, Forced, Manual, Auto, Remote, Ratio, Fallback}
 use Rattle.parameters.specs.Legal.{Legal}
-use Rattle.parameters.specs.LegalLaws.{ranges}
-use Rattle.parameters.specs.Table.{H1, L1, HO, LO, XP, TI, TD}
+use Rattle.parameters.specs.LegalLaws.{ranges, value-most}
+use Rattle.parameters.specs.Table.{H1, L1, HO, LO, XP}
 use Rattle.parameters.specs.declared.Parameters.{Parameters}
 use Rattle.setpoints.specs.ComputationLaws.{Reading}
 use Rattle.setpoints.specs.declared.Readings.{Readings}
@@ -130,25 +130,14 @@ tuning-range p s legal =
     let w = H1 p -ℤ L1 p in
     record {
       xp-some = omega (arith, integers, r .band .not-below, number (XP p));
-      xp-most = omega (arith, integers, r .band .not-below, r .band .not-above, number (XP p), apart (XP p));
+      xp-most = value-most p legal 17 (omega arith) (omega arith);
       span-some = omega (arith, integers, r .span1, difference (H1 p) (L1 p), number w, apart w);
       span-most =
-          omega (
-            arith,
-            integers,
-            r .channel1 .not-below,
-            r .channel1 .not-above,
-            r .span1,
-            difference (H1 p) (L1 p),
-            number w,
-            number (H1 p),
-            number (L1 p),
-            apart (H1 p),
-            apart (L1 p),
-            apart w,
-          );
-      ti-most = omega (arith, integers, r .integral-time .not-below, r .integral-time .not-above, number (TI p), apart (TI p));
-      td-most = omega (arith, integers, r .derivative-time .not-below, r .derivative-time .not-above, number (TD p), apart (TD p));
+          let high = value-most p legal 1 (omega arith) (omega arith) in
+          let low = value-most p legal 2 (omega arith) (omega arith) in
+          omega (arith, difference (H1 p) (L1 p), number (H1 p), number (L1 p), high, low);
+      ti-most = value-most p legal 18 (omega arith) (omega arith);
+      td-most = value-most p legal 19 (omega arith) (omega arith);
     }
 
 -- ---- the stored output
@@ -172,14 +161,10 @@ limited-choice false low high x = refl
 
 module _ (p : Parameters) (legal : Legal p) where
   pub low-limit-most : natAbs (LO p) ≤ 65535
-  low-limit-most =
-      let r = ranges p legal in
-      omega (arith, integers, r .outputs .not-below, r .outputs .order, r .outputs .not-above, number (LO p), apart (LO p))
+  low-limit-most = omega (arith, value-most p legal 16 (omega arith) (omega arith))
 
   pub high-limit-most : natAbs (HO p) ≤ 65535
-  high-limit-most =
-      let r = ranges p legal in
-      omega (arith, integers, r .outputs .not-below, r .outputs .order, r .outputs .not-above, number (HO p), apart (HO p))
+  high-limit-most = omega (arith, value-most p legal 15 (omega arith) (omega arith))
 
 pub minimum-most : (p : Parameters) (s : Switches) → Legal p → natAbs (minimumOf p s) ≤ 65535
 unfolding minimumOf

@@ -2,7 +2,7 @@
 -- legal parameters satisfy.
 use mathlib.Core.Path.{_≡_, refl, sym, ap, _∙_, subst}
 use mathlib.Core.Bool.{Bool, true, false, _&&_}
-use Prim.Native.Nat.{ℕ, _+_, _≤_, _<_}
+use Prim.Native.Nat.{ℕ, _≤_, _<_}
 use native.Mathlib.Omega.{arith}
 use lib.Dec.{eqb, ltb}
 use lib.IntN.{ℤ, pos, negℤ, natAbs}
@@ -17,6 +17,7 @@ use Rattle.integers.specs.Operations.{number}
 use Rattle.integers.specs.Parts.{integers, apart}
 use Rattle.parameters.specs.Legal.{Legal, keeps, inRange, pairInOrder, isWithin, inOrder, partner}
 use Rattle.parameters.specs.PairLaws.{partner-most, row-of, same-row}
+use Rattle.parameters.specs.RuleLaws.{is-from}
 use Rattle.parameters.specs.Table as t
 use Rattle.parameters.specs.Table.{value, withValue, ruleOf, defaults}
 use Rattle.parameters.specs.Written.{limitedAnew}
@@ -202,23 +203,25 @@ spanned least most low high d = let h = both (isWithin least most high) (ltZ low
 pub ranges : (p : Parameters) → Legal p → Ranges p
 unfolding ruleOf
 ranges p legal =
+    let row : (n : ℕ) → t.isFrom n 1 23 ≡ true → keeps (ruleOf n) (value p) n ≡ true =
+    λ n e. let h = is-from n 1 23 e in legal .rules n (h .0) (h .1) in
     record {
-      channel1 = ordered true _ _ _ _ (legal .rules 1 (omega arith) (omega arith)) (legal .rules 2 (omega arith) (omega arith));
-      channel2 = ordered true _ _ _ _ (legal .rules 3 (omega arith) (omega arith)) (legal .rules 4 (omega arith) (omega arith));
-      channel3 = ordered true _ _ _ _ (legal .rules 5 (omega arith) (omega arith)) (legal .rules 6 (omega arith) (omega arith));
-      span1 = spanned (negℤ (pos 9999)) (pos 9999) (t.L1 p) (t.H1 p) (legal .rules 1 (omega arith) (omega arith));
-      span2 = spanned (negℤ (pos 9999)) (pos 9999) (t.L2 p) (t.H2 p) (legal .rules 3 (omega arith) (omega arith));
-      span3 = spanned (negℤ (pos 9999)) (pos 9999) (t.L3 p) (t.H3 p) (legal .rules 5 (omega arith) (omega arith));
-      ratios = ordered false _ _ _ _ (legal .rules 7 (omega arith) (omega arith)) (legal .rules 8 (omega arith) (omega arith));
-      setpoints = ordered false _ _ _ _ (legal .rules 9 (omega arith) (omega arith)) (legal .rules 10 (omega arith) (omega arith));
-      outputs = ordered false _ _ _ _ (legal .rules 15 (omega arith) (omega arith)) (legal .rules 16 (omega arith) (omega arith));
-      low-deviation = ranged _ _ _ (legal .rules 14 (omega arith) (omega arith));
-      band = ranged _ _ _ (legal .rules 17 (omega arith) (omega arith));
-      integral-time = ranged _ _ _ (legal .rules 18 (omega arith) (omega arith));
-      derivative-time = ranged _ _ _ (legal .rules 19 (omega arith) (omega arith));
-      setpoint = ranged _ _ _ (legal .rules 20 (omega arith) (omega arith));
-      ratio = ranged _ _ _ (legal .rules 21 (omega arith) (omega arith));
-      bias = ranged _ _ _ (legal .rules 22 (omega arith) (omega arith));
+      channel1 = ordered true _ _ _ _ (row 1 refl) (row 2 refl);
+      channel2 = ordered true _ _ _ _ (row 3 refl) (row 4 refl);
+      channel3 = ordered true _ _ _ _ (row 5 refl) (row 6 refl);
+      span1 = spanned (negℤ (pos 9999)) (pos 9999) (t.L1 p) (t.H1 p) (row 1 refl);
+      span2 = spanned (negℤ (pos 9999)) (pos 9999) (t.L2 p) (t.H2 p) (row 3 refl);
+      span3 = spanned (negℤ (pos 9999)) (pos 9999) (t.L3 p) (t.H3 p) (row 5 refl);
+      ratios = ordered false _ _ _ _ (row 7 refl) (row 8 refl);
+      setpoints = ordered false _ _ _ _ (row 9 refl) (row 10 refl);
+      outputs = ordered false _ _ _ _ (row 15 refl) (row 16 refl);
+      low-deviation = ranged _ _ _ (row 14 refl);
+      band = ranged _ _ _ (row 17 refl);
+      integral-time = ranged _ _ _ (row 18 refl);
+      derivative-time = ranged _ _ _ (row 19 refl);
+      setpoint = ranged _ _ _ (row 20 refl);
+      ratio = ranged _ _ _ (row 21 refl);
+      bias = ranged _ _ _ (row 22 refl);
     }
 
 -- ---- every value lies in -9999..9999

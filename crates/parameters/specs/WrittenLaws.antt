@@ -1,7 +1,7 @@
 -- A write whose value is in range and in order leaves the parameters legal.
 use mathlib.Core.Path.{_≡_, refl, sym, ap, _∙_, subst}
 use mathlib.Core.Bool.{Bool, true, false, _&&_}
-use Prim.Native.Nat.{ℕ, _+_, _-_, _%_, _≤_, _<_}
+use Prim.Native.Nat.{ℕ, _≤_}
 use native.Mathlib.Omega.{arith}
 use lib.Dec.{eqb}
 use lib.IntN.{ℤ}
@@ -10,7 +10,7 @@ use lib.Signed.{leZ}
 use borrow.Author.Tests.{eqb-true, eqb-false, eq-eqb, ne-eqb}
 use Rattle.integers.specs.Choice.{if_then_else_, by-cases, never, both}
 use Rattle.integers.specs.Limit.{limited}
-use Rattle.parameters.specs.Legal.{Legal, keeps, inRange, pairInOrder, isWithin, inOrder, partner, ordered}
+use Rattle.parameters.specs.Legal.{Legal, keeps, inRange, pairInOrder, isWithin, partner, ordered}
 use Rattle.parameters.specs.LegalLaws.{changed, value-with, and-true, legal-by, anew-size, anew-other, anew-value, limited-row}
 use Rattle.parameters.specs.PairLaws.{partner-differs, partner-most, partner-twice, turned, isPair, isBetween, Row, row-of, same-row}
 use Rattle.parameters.specs.RuleLaws.{is-from, not-from}

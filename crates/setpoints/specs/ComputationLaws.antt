@@ -5,7 +5,7 @@ use Prim.Native.Nat.{ℕ, _≤_}
 use native.Mathlib.Omega.{arith}
 use lib.Dec.{eqb}
 use lib.IntN.{ℤ, pos, negℤ, natAbs, _+ℤ_, _-ℤ_}
-use lib.Signed.{leZ, _≤ℤ_}
+use lib.Signed.{leZ, _≤ℤ_, _<ℤ_}
 use mir.Syntax.{w64}
 use mir.Val.{toZ, ofZ}
 use Rattle.integers.specs.Choice.{if_then_else_, by-cases}
@@ -21,8 +21,8 @@ use Rattle.signals.specs.declared.Switches.{Switches}
 use Rattle.modes.specs.Modes.{isAutomatic, isTrack, isRemote, isRatio}
 use Rattle.modes.specs.declared.Mode.{Mode}
 use Rattle.parameters.specs.Legal.{Legal, isWithin}
-use Rattle.parameters.specs.LegalLaws.{Ordered, Inside, ranges, settings-legal}
-use Rattle.parameters.specs.Table.{H1, L1, H2, L2, H3, L3, HR, LR, HS, LS, SL, RS, RB, IC, LD}
+use Rattle.parameters.specs.LegalLaws.{Ordered, Inside, ranges, settings-legal, value-most}
+use Rattle.parameters.specs.Table.{value, H1, L1, H2, L2, H3, L3, HR, LR, HS, LS, SL, RS, RB, IC, LD}
 use Rattle.parameters.specs.declared.Parameters.{Parameters}
 use Rattle.scaling.specs.Ratio.{RatioRange, ratioQuotient, inverseQuotient, ratio-size, inverse-size}
 use Rattle.scaling.specs.Root.{rootOf, root-most}
@@ -46,18 +46,20 @@ first-most p sample h =
 pub record Reading (z : ℤ) : Type 0 where
   pub reading : natAbs z ≤ 9999
 
+-- of a channel whose ends are in range and apart
+channel-range : {low high : ℤ} → Ordered (negℤ (pos 9999)) low high (pos 9999) → low <ℤ high → (sample : ℕ) → sample ≤ 10000 →
+    ChannelRange low high sample
+channel-range ends span sample h = record { least = ends .not-below; order = span; most = ends .not-above; sampled = h }
+
 module _ (p : Parameters) (legal : Legal p) where
   pub range1 : (sample : ℕ) → sample ≤ 10000 → ChannelRange (L1 p) (H1 p) sample
-  range1 sample h =
-      let r = ranges p legal in record { least = r .channel1 .not-below; order = r .span1; most = r .channel1 .not-above; sampled = h }
+  range1 = let r = ranges p legal in channel-range (r .channel1) (r .span1)
 
   pub range2 : (sample : ℕ) → sample ≤ 10000 → ChannelRange (L2 p) (H2 p) sample
-  range2 sample h =
-      let r = ranges p legal in record { least = r .channel2 .not-below; order = r .span2; most = r .channel2 .not-above; sampled = h }
+  range2 = let r = ranges p legal in channel-range (r .channel2) (r .span2)
 
   pub range3 : (sample : ℕ) → sample ≤ 10000 → ChannelRange (L3 p) (H3 p) sample
-  range3 sample h =
-      let r = ranges p legal in record { least = r .channel3 .not-below; order = r .span3; most = r .channel3 .not-above; sampled = h }
+  range3 = let r = ranges p legal in channel-range (r .channel3) (r .span3)
 
 pub scaled-reading : {low high : ℤ} {sample : ℕ} → ChannelRange low high sample → Reading (scaled low high sample)
 scaled-reading {low} {high} {sample} c =
@@ -80,46 +82,30 @@ pub added-small : (ratioswitch : Bool) (trim : ℤ) → Small trim → Small (if
 added-small ratioswitch trim h = by-cases Small ratioswitch (pos 0) trim (λ e. record { small = omega arith }) (λ e. h)
 
 module _ (p : Parameters) (legal : Legal p) where
-  pub setpoint-reading : Reading (SL p)
-  setpoint-reading =
-      let r = ranges p legal in
-      inside-reading _ _ (SL p) _ _ (r .setpoints) (omega (arith, integers)) (omega (arith, integers)) (r .setpoint)
+  -- every parameter is such a number
+  parameter-reading : (n : ℕ) → 1 ≤ n → n ≤ 23 → Reading (value p n)
+  parameter-reading n a b = record { reading = value-most p legal n a b }
 
-  ratio-reading : Reading (RS p)
-  ratio-reading =
-      let r = ranges p legal in inside-reading _ _ (RS p) _ _ (r .ratios) (omega (arith, integers)) (omega (arith, integers)) (r .ratio)
+  pub setpoint-reading : Reading (SL p)
+  setpoint-reading = parameter-reading 20 (omega arith) (omega arith)
 
   pub setpoint-small : Small (SL p)
   setpoint-small = reading-small (SL p) setpoint-reading
 
   pub ratio-small : Small (RS p)
-  ratio-small = reading-small (RS p) ratio-reading
+  ratio-small = reading-small (RS p) (parameter-reading 21 (omega arith) (omega arith))
 
   pub deviation-small : Small (LD p)
-  deviation-small =
-      let r = ranges p legal in
-      record { small = omega (arith, integers, r .low-deviation .not-below, r .low-deviation .not-above, number (LD p), apart (LD p)) }
+  deviation-small = reading-small (LD p) (parameter-reading 14 (omega arith) (omega arith))
 
   pub low-reading : Reading (L1 p)
-  low-reading =
-      let r = ranges p legal in
-      record {
-        reading = omega
-            (arith, integers, r .channel1 .not-below, r .channel1 .order, r .channel1 .not-above, number (L1 p), apart (L1 p));
-      }
+  low-reading = parameter-reading 2 (omega arith) (omega arith)
 
   pub high-reading : Reading (H1 p)
-  high-reading =
-      let r = ranges p legal in
-      record {
-        reading = omega
-            (arith, integers, r .channel1 .not-below, r .channel1 .order, r .channel1 .not-above, number (H1 p), apart (H1 p));
-      }
+  high-reading = parameter-reading 1 (omega arith) (omega arith)
 
   pub bias-small : Small (RB p)
-  bias-small =
-      let r = ranges p legal in
-      record { small = omega (arith, integers, r .bias .not-below, r .bias .not-above, number (RB p), apart (RB p)) }
+  bias-small = reading-small (RB p) (parameter-reading 22 (omega arith) (omega arith))
 
 pub zero-minus : (z : ℤ) → pos 0 -ℤ z ≡ negℤ z
 zero-minus z = omega (arith, integers, difference (pos 0) z, negation z)
