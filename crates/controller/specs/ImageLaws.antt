@@ -1,4 +1,5 @@
--- What was saved and what is restarted: a saved image is sound and brings its settings back; a sound image is saved again as the same bytes.
+-- What was saved and what is restarted: a saved image is sound and brings its settings back; a sound
+-- image is saved again as the same bytes.
 use mathlib.Core.Path.{_≡_, refl, ap, _∙_}
 use mathlib.Core.Bool.{true, false, _&&_}
 use mathlib.Core.List.{List}
@@ -23,14 +24,16 @@ use Rattle.parameters.specs.Legal.{areLegal, Legal}
 use Rattle.parameters.specs.RepairedLaws.{tested-legal, legal-tested}
 use Rattle.parameters.specs.Table.{LO, HO}
 use Rattle.settings.specs.Settings.{imageOf, parametersIn, settingsIn, isSumRight, areOthersLegal}
-use Rattle.settings.specs.SettingsLaws.{saved, saved-length, saved-right, saved-parameters, settings-back, saved-legal, saved-fits, others-of, values-again}
+use Rattle.settings.specs.SettingsLaws.{saved, saved-length, saved-right, saved-parameters}
+use Rattle.settings.specs.SettingsLaws.{settings-back, saved-legal, saved-fits, others-of, values-again}
 use Rattle.settings.specs.declared.Settings.{Settings}
 use Rattle.terms.specs.Fraction.{storedUnits, limitedStored}
 use Rattle.outputs.specs.Instruction.{storedArithmetic, changed, limitedTo, executed}
 use Rattle.outputs.specs.OutputLaws.{OutputRange, stored-most}
 use Rattle.outputs.specs.Outputs.{restartedTo, restartInstruction}
 use Rattle.controller.specs.Answers.{opOf}
-use Rattle.controller.specs.Restart.{valuesIn, isLegal, restartTests, isSound, restoredSettings, restartAccepted, restartCore, controllerRestarted, restart}
+use Rattle.controller.specs.Restart.{valuesIn, isLegal, restartTests, isSound, restoredSettings}
+use Rattle.controller.specs.Restart.{restartAccepted, restartCore, controllerRestarted, restart}
 use Rattle.controller.specs.RestartLaws.{in-size, in-unused}
 use Rattle.controller.specs.Save.{settingsOf, settingsNow, savedImage}
 use Rattle.controller.specs.Scan.{controllerAfter, responseFrom}
@@ -121,7 +124,8 @@ pub sound-legal : (image : List ℕ) → isSound image ≡ true → Legal (param
 unfolding isLegal
 sound-legal image e =
     let vs = valuesIn image in
-    tested-legal (parametersIn vs) (in-size vs) (in-unused vs) (both (areLegal (parametersIn vs)) (areOthersLegal vs) (sound-of image e .legal) .0)
+    tested-legal (parametersIn vs) (in-size vs) (in-unused vs)
+    (both (areLegal (parametersIn vs)) (areOthersLegal vs) (sound-of image e .legal) .0)
 
 op-of-units : (low high : ℤ) (op : ℕ) → low ≤ℤ pos op → pos op ≤ℤ high → opOf (limitedStored low high (storedUnits (pos op))) ≡ op
 unfolding opOf limitedStored storedUnits
@@ -129,17 +133,22 @@ op-of-units low high op h k =
     let x = pos op *ℤ pos 65536 in
     let same : limited (low *ℤ pos 65536) (high *ℤ pos 65536) x ≡ x =
     limited-same (low *ℤ pos 65536) (high *ℤ pos 65536) x
-    (omega (arith, integers, product low (pos 65536), product (pos op) (pos 65536), h)) (omega (arith, integers, product high (pos 65536), product (pos op) (pos 65536), k)) in
+    (omega (arith, integers, product low (pos 65536), product (pos op) (pos 65536), h))
+    (omega (arith, integers, product high (pos 65536), product (pos op) (pos 65536), k)) in
     rw same (let e : natAbs x ≡ op * 65536 = refl in omega (arith, e))
 
-module _ (d : Controller) (image : List ℕ) (bytes : Bytes image) (sound : isSound image ≡ true) (off : switchesOf (d .core .sw) .powerfail ≡ false)
-    (least : LO (parametersIn (valuesIn image)) ≤ℤ pos (getD (valuesIn image) 23 0)) (most : pos (getD (valuesIn image) 23 0) ≤ℤ HO (parametersIn (valuesIn image))) where
+module _ (d : Controller) (image : List ℕ) (bytes : Bytes image) (sound : isSound image ≡ true)
+    (off : switchesOf (d .core .sw) .powerfail ≡ false)
+    (least : LO (parametersIn (valuesIn image)) ≤ℤ pos (getD (valuesIn image) 23 0))
+    (most : pos (getD (valuesIn image) 23 0) ≤ℤ HO (parametersIn (valuesIn image))) where
   vs : List ℕ
   vs = valuesIn image
 
   settings-are : settingsNow (controllerRestarted d vs) ≡ settingsIn vs
-  unfolding vs settingsNow settingsOf controllerRestarted controllerAfter restartAccepted restoredSettings settingsIn executed changed limitedTo restartInstruction restartedTo storedArithmetic
-  settings-are = rw (sound-of image sound .right, off) (rw (op-of-units (LO (parametersIn vs)) (HO (parametersIn vs)) (getD vs 23 0) least most) refl)
+  unfolding vs settingsNow settingsOf controllerRestarted controllerAfter restartAccepted restoredSettings settingsIn executed changed
+      limitedTo restartInstruction restartedTo storedArithmetic
+  settings-are =
+      rw (sound-of image sound .right, off) (rw (op-of-units (LO (parametersIn vs)) (HO (parametersIn vs)) (getD vs 23 0) least most) refl)
 
   -- it saves to the same bytes
   pub same-bytes : savedImage (restart d image .next) ≡ image
@@ -148,5 +157,6 @@ module _ (d : Controller) (image : List ℕ) (bytes : Bytes image) (sound : isSo
       let s = sound-of image sound in
       rw (sound-accepted image sound)
       (ap imageOf settings-are ∙ ap (fieldsFrom 0)
-      (values-again vs (values-length 28 0 image) (words-of 28 0 image bytes) (others-of vs (both (areLegal (parametersIn vs)) (areOthersLegal vs) (s .legal) .1)) (s .right)) ∙
+      (values-again vs (values-length 28 0 image) (words-of 28 0 image bytes)
+      (others-of vs (both (areLegal (parametersIn vs)) (areOthersLegal vs) (s .legal) .1)) (s .right)) ∙
       saved-again image (s .size) bytes (s .formed))

@@ -9,7 +9,8 @@ use Rattle.controller.specs.Scan.{mdNow, dsNow}
 use Rattle.controller.specs.declared.Controller.{Controller}
 use Rattle.controller.specs.declared.Core.{Core}
 
--- the table's column "Numbers", with the OP of an output; MD and DS by the present state; "4 number outside 1..32 (reads too)"
+-- the table's column "Numbers", with the OP of an output; MD and DS by the present state; "4 number
+-- outside 1..32 (reads too)"
 unfoldable pub readIn : Core → ℕ → ℕ → Reply
 readIn c op n =
     if isFrom n 1 23 then reading (value (c .parameters) n) else

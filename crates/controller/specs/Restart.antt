@@ -1,5 +1,5 @@
--- Document 01, "The image": a restart, whole. As for a scan and a write: the next state but for the output, the answer, and an instruction for the output,
--- once for our controller and for the exact one.
+-- Document 01, "The image": a restart, whole. As for a scan and a write: the next state but for the
+-- output, the answer, and an instruction for the output, once for our controller and for the exact one.
 use mathlib.Core.Bool.{Bool, true, not, _&&_, _||_}
 use mathlib.Core.List.{List, [], _∷_}
 use Prim.Native.Nat.{ℕ}
@@ -49,10 +49,11 @@ isSound image = eqb (length image) 137 && formedFrom 0 28 image && isSumRight (v
 
 -- ---- what an accepted restart takes
 
--- "A .. wrong sumcheck brings the memory fault .. A wrong sumcheck also sets request Manual, HO 9999, LO 0, OP minimum ..; of parameters 1 to 23 .. an illegal 44h is 0."
--- The OP that the image holds isn't used
+-- "A .. wrong sumcheck brings the memory fault .. A wrong sumcheck also sets request Manual, HO 9999, LO
+-- 0, OP minimum ..; of parameters 1 to 23 .. an illegal 44h is 0." The OP that the image holds isn't used
 unfoldable pub repairedSettings : List ℕ → Settings
-repairedSettings vs = record { parameters = repaired (parametersIn vs); op = 0; request = Manual; fault = true; userbits = legalUserBits vs }
+repairedSettings vs =
+    record { parameters = repaired (parametersIn vs); op = 0; request = Manual; fault = true; userbits = legalUserBits vs }
 
 -- it "takes the rest": with the right sumcheck the settings that the image holds, "A fault of 1" among them
 unfoldable pub restoredSettings : List ℕ → Settings
@@ -62,7 +63,8 @@ restoredSettings vs = if isSumRight vs then settingsIn vs else repairedSettings 
 abbrev pub restartedRequest : Bool → Request → Request
 restartedRequest powerfail request = if powerfail then Manual else request
 
--- "Restart keeps SW and takes the rest, OP limited to LO..HO; S2.5 ON makes the request Manual and OP minimum."; a wrong sumcheck also sets "OP minimum"
+-- "Restart keeps SW and takes the rest, OP limited to LO..HO; S2.5 ON makes the request Manual and OP
+-- minimum."; a wrong sumcheck also sets "OP minimum"
 unfoldable pub restartAccepted : Core → List ℕ → Outcome
 restartAccepted c vs =
     let s = switchesOf (c .sw) in

@@ -25,7 +25,8 @@ use Rattle.settings.specs.SettingsLaws.{others-of}
 use Rattle.settings.specs.declared.Settings.{Settings}
 use Rattle.outputs.specs.Instruction.{executed, changed, limitedTo}
 use Rattle.outputs.specs.OutputLaws.{restart-stored}
-use Rattle.controller.specs.Restart.{valuesIn, isLegal, isIllegal, restartTests, repairedSettings, restoredSettings, restartAccepted, restartCore, controllerRestarted, restart}
+use Rattle.controller.specs.Restart.{valuesIn, isLegal, isIllegal, restartTests, repairedSettings}
+use Rattle.controller.specs.Restart.{restoredSettings, restartAccepted, restartCore, controllerRestarted, restart}
 use Rattle.controller.specs.Scan.{refused, controllerAfter, responseFrom}
 use Rattle.controller.specs.Valid.{Valid}
 use Rattle.controller.specs.ValidLaws.{passed, by-verdict, start-readable}
@@ -76,7 +77,8 @@ pub taken-legal : (vs : List ℕ) → isIllegal vs ≡ false → Legal (restored
 unfolding restoredSettings settingsIn repairedSettings isLegal
 taken-legal vs e =
     by-cases (λ (s : Settings). Legal (s .parameters)) (isSumRight vs) (settingsIn vs) (repairedSettings vs)
-    (λ right. tested-legal (parametersIn vs) (in-size vs) (in-unused vs) (both (areLegal (parametersIn vs)) (areOthersLegal vs) (right-legal vs e right) .0))
+    (λ right. tested-legal (parametersIn vs) (in-size vs) (in-unused vs)
+    (both (areLegal (parametersIn vs)) (areOthersLegal vs) (right-legal vs e right) .0))
     (λ wrong. repaired-legal (parametersIn vs) (in-size vs) (in-unused vs))
 
 -- a fault that an image brings comes with the request Manual: "1 only with request 0"
@@ -106,7 +108,8 @@ restarted-valid c vs e =
       kept = tt;
       readable = start-readable (restoredSettings vs .parameters) legal;
       manual = λ f.
-          by-cases (λ (r : Request). r ≡ Manual) (switchesOf (c .core .sw) .powerfail) Manual (restoredSettings vs .request) (λ on. refl) (λ off. taken-manual vs e f);
+          by-cases (λ (r : Request). r ≡ Manual) (switchesOf (c .core .sw) .powerfail) Manual (restoredSettings vs .request) (λ on. refl)
+          (λ off. taken-manual vs e f);
       stored = restart-stored (restoredSettings vs .parameters) legal (switchesOf (c .core .sw)) _ (restoredSettings vs .op) (c .output);
     }
 

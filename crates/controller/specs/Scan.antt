@@ -1,5 +1,5 @@
--- Document 01, One scan, whole: the next state but for the output, the answer but for OP and electrical output, and an instruction for the output. These
--- stand once, for our controller and for the exact one.
+-- Document 01, One scan, whole: the next state but for the output, the answer but for OP and electrical
+-- output, and an instruction for the output. These stand once, for our controller and for the exact one.
 use mathlib.Core.Option.{Option, some, none}
 use Prim.Native.Nat.{ℕ}
 use lib.IntN.{ℤ}
@@ -26,7 +26,8 @@ use Rattle.controller.specs.declared.Core.{Core}
 unfoldable pub modeNow : Core → Mode
 modeNow c = modeOf (c .conditions) (switchesOf (c .sw) .ratio)
 
--- ---- step 3: the mode of this scan, by what it leaves of the conditions; and of step 6 whether it goes to minimum, by those before it
+-- ---- step 3: the mode of this scan, by what it leaves of the conditions; and of step 6 whether it
+-- goes to minimum, by those before it
 unfoldable pub contextOf : Core → Conditions → Input → Context
 contextOf c after i =
     let s = switchesOf (c .sw) in
@@ -109,7 +110,8 @@ unless (some n) c o = refused c n
 unfoldable pub scanCore : (ℕ → ℕ) → Core → Input → Outcome
 scanCore more c i = unless (refusedBy (scanTests i)) c (accepted more c i)
 
--- ---- our controller's: the instruction executed in whole 1/65,536 units, OP and electrical output of the stored output
+-- ---- our controller's: the instruction executed in whole 1/65,536 units, OP and electrical output of
+-- the stored output
 
 -- an answer with the OP and electrical output of a stored output
 abbrev pub withOutput : Status → ℕ → ℤ → Reply

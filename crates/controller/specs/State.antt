@@ -14,7 +14,8 @@ use Rattle.outputs.specs.declared.History.the-variants.{Nothing}
 use Rattle.controller.specs.declared.Controller.{Controller}
 use Rattle.controller.specs.declared.Core.{Core}
 
--- ---- "A fresh start and an accepted restart leave pins 80h, no buttons, open count 0, PV = 1L, SP = SL, ER = PV - SP, MP 0, battery good, no alarms"
+-- ---- "A fresh start and an accepted restart leave pins 80h, no buttons, open count 0, PV = 1L, SP =
+-- SL, ER = PV - SP, MP 0, battery good, no alarms"
 
 abbrev pub startConditions : Request → Bool → Conditions
 startConditions request fault = record { request = request; fault = fault; opencount = 0; pins = 0x80 }
@@ -25,7 +26,8 @@ startReadings p = record { pv = L1 p; sp = SL p; er = L1 p -ℤ SL p; mp = pos 0
 abbrev pub startIndications : Indications
 startIndications = record { buttons = 0; batterylow = false; lowalarm = false; highalarm = false }
 
--- a core of these settings, and of what such a start leaves. "no earlier PV or SP remembered"; "All earlier PV and SP are forgotten."
+-- a core of these settings, and of what such a start leaves. "no earlier PV or SP remembered"; "All
+-- earlier PV and SP are forgotten."
 abbrev pub startCore : ℕ → Parameters → Request → Bool → UserBits → Core
 startCore sw parameters request fault userbits =
     record {

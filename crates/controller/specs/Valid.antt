@@ -1,4 +1,5 @@
--- What holds of every controller that calls lead to from a fresh start, and all that a call asks of the controller it is given.
+-- What holds of every controller that calls lead to from a fresh start, and all that a call asks of the
+-- controller it is given.
 use mathlib.Core.Path.{_≡_}
 use mathlib.Core.Bool.{true}
 use Prim.Native.Nat.{_≤_}

@@ -20,12 +20,14 @@ use Rattle.parameters.specs.LegalLaws.{defaults-legal}
 use Rattle.parameters.specs.Table.{L1, SL}
 use Rattle.parameters.specs.declared.Parameters.{Parameters}
 use Rattle.setpoints.specs.Computation.{computed}
-use Rattle.setpoints.specs.ComputationLaws.{Reading, SampleRange, computed-legal, pv-reading, setpoint-read, setpoint-reading, low-reading, power-reading, limited-setpoint}
+use Rattle.setpoints.specs.ComputationLaws.{Reading, SampleRange, computed-legal, pv-reading, setpoint-read}
+use Rattle.setpoints.specs.ComputationLaws.{setpoint-reading, low-reading, power-reading, limited-setpoint}
 use Rattle.terms.specs.Fraction.{storedUnits}
 use Rattle.outputs.specs.Instruction.{executed, changed, limitedTo}
 use Rattle.outputs.specs.OutputLaws.{ReadingsRange, history-kept, output-stored}
 use Rattle.outputs.specs.declared.Context.{Context}
-use Rattle.controller.specs.Scan.{controllerAfter, contextOf, computedIn, coreAfter, Outcome, accepted, refused, unless, scanCore, responseFrom, stepped, scan}
+use Rattle.controller.specs.Scan.{controllerAfter, contextOf, computedIn, coreAfter, Outcome}
+use Rattle.controller.specs.Scan.{accepted, refused, unless, scanCore, responseFrom, stepped, scan}
 use Rattle.controller.specs.State.{startReadings, freshParameters, freshCore, freshController}
 use Rattle.controller.specs.Valid.{Valid, Readable}
 use Rattle.controller.specs.declared.Controller.{Controller}
@@ -42,7 +44,8 @@ unfolding refusedBy
 passed [] e = tt
 passed (t ∷ ts) e = go (t .0) refl e (passed ts)
   where
-    go : (b : Bool) → t .0 ≡ b → (if b then some (t .1) else refusedBy ts) ≡ none → (refusedBy ts ≡ none → Passed ts) → (t .0 ≡ false) × Passed ts
+    go : (b : Bool) → t .0 ≡ b → (if b then some (t .1) else refusedBy ts) ≡ none → (refusedBy ts ≡ none → Passed ts) →
+        (t .0 ≡ false) × Passed ts
     go true q e r = let z : _≡_ {A = ℕ} 0 1 = cc in absurd (omega arith)
     go false q e r = (q, r e)
 
@@ -56,7 +59,11 @@ sampled i e =
     let p = passed (scanTests i) e .0 in
     let a = neither (ltb 10000 (i .sample1) || ltb 10000 (i .sample2)) (ltb 10000 (i .sample3)) p in
     let b = neither (ltb 10000 (i .sample1)) (ltb 10000 (i .sample2)) (a .0) in
-    record { first = ltb-false 10000 (i .sample1) (b .0); second = ltb-false 10000 (i .sample2) (b .1); third = ltb-false 10000 (i .sample3) (a .1) }
+    record {
+      first = ltb-false 10000 (i .sample1) (b .0);
+      second = ltb-false 10000 (i .sample2) (b .1);
+      third = ltb-false 10000 (i .sample3) (a .1);
+    }
 
 -- ---- what an accepted scan reads
 
@@ -107,13 +114,15 @@ stepped-valid c i v s =
     record {
       legal = computed-legal (c .core .parameters) (x .switches) (c .core .userbits .measuredpower) (x .mode) i (v .legal);
       kept = history-kept (c .core .history) (isOpen i) readings (v .kept) r;
-      readable = readable _ _ _ (r .pv-read) (r .sp-read) (power-reading (c .core .parameters) (v .legal) i s (c .core .userbits .measuredpower));
+      readable =
+          readable _ _ _ (r .pv-read) (r .sp-read) (power-reading (c .core .parameters) (v .legal) i s (c .core .userbits .measuredpower));
       manual = λ e. rw e refl;
       stored = output-stored (c .core .parameters) (v .legal) x readings (c .core .history) (c .output) (v .stored);
     }
 
 -- the two ways a call can go
-pub by-verdict : (P : Outcome → Type 0) (d : Option ℕ) (c : Core) (o : Outcome) → (d ≡ none → P o) → ((n : ℕ) → P (refused c n)) → P (unless d c o)
+pub by-verdict : (P : Outcome → Type 0) (d : Option ℕ) (c : Core) (o : Outcome) → (d ≡ none → P o) → ((n : ℕ) → P (refused c n)) →
+    P (unless d c o)
 by-verdict P none c o f g = f refl
 by-verdict P (some n) c o f g = g n
 

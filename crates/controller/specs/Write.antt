@@ -1,5 +1,6 @@
--- Document 01, "Parameters", "Words" and "By whose hand a call is declined": a write, whole. As for a scan: the next state but for the output, the answer,
--- and an instruction for the output, once for our controller and for the exact one.
+-- Document 01, "Parameters", "Words" and "By whose hand a call is declined": a write, whole. As for a
+-- scan: the next state but for the output, the answer, and an instruction for the output, once for our
+-- controller and for the exact one.
 use mathlib.Core.Bool.{Bool, not}
 use mathlib.Core.List.{List, [], _∷_}
 use Prim.Native.Nat.{ℕ, _%_}
@@ -23,14 +24,16 @@ use Rattle.controller.specs.Scan.{modeNow, accepts, Outcome, unless, con
 use Rattle.controller.specs.declared.Controller.{Controller}
 use Rattle.controller.specs.declared.Core.{Core}
 
--- ---- "Writer: 4 number outside 1..32 (reads too); 5 read only; 6 out of range; 7 pair out of order; 8 SL in Remote, Ratio, or with S2.6 ON in a
--- non-automatic mode; 9 not exactly one of MD bits 13, 12, 11; 10 bit 11 with the Remote pin 0; 11 bit 12 or 11 when a cause would remain."
+-- ---- "Writer: 4 number outside 1..32 (reads too); 5 read only; 6 out of range; 7 pair out of order; 8
+-- SL in Remote, Ratio, or with S2.6 ON in a non-automatic mode; 9 not exactly one of MD bits 13, 12,
+-- 11; 10 bit 11 with the Remote pin 0; 11 bit 12 or 11 when a cause would remain."
 
 -- 8
 unfoldable pub setpointTests : Core → List (Bool × ℕ)
 setpointTests c = (setsSetpoint (modeNow c) (switchesOf (c .sw) .setpointtracks), 8) ∷ []
 
--- a value as a word: a value in 0..65535 itself. A value out of that range was refused with 6 before any bit of it is asked for
+-- a value as a word: a value in 0..65535 itself. A value out of that range was refused with 6 before
+-- any bit of it is asked for
 abbrev pub wordOf : ℤ → ℕ
 wordOf v = natAbs v % 65536
 
@@ -53,8 +56,8 @@ writeTests c n v =
 
 -- ---- what an accepted write leaves, but for the output
 
--- a write changes no more than these three. Of PV, SP, ER, MP, buttons, battery and alarms "only scans and restarts change any", and no sentence lets a write
--- touch SW or the earlier PVs and SP
+-- a write changes no more than these three. Of PV, SP, ER, MP, buttons, battery and alarms "only scans
+-- and restarts change any", and no sentence lets a write touch SW or the earlier PVs and SP
 unfoldable pub coreWith : Core → Parameters → Conditions → UserBits → Core
 coreWith c parameters conditions userbits =
     record {
@@ -90,7 +93,11 @@ coreWritten c n v =
 unfoldable pub writeAccepted : Core → ℕ → ℤ → Outcome
 writeAccepted c n v =
     let next = coreWritten c n v in
-    record { next = next; answer = accepts; instruction = record { change = keep; limits = limitsWritten n (modeNow c) (next .parameters) } }
+    record {
+      next = next;
+      answer = accepts;
+      instruction = record { change = keep; limits = limitsWritten n (modeNow c) (next .parameters) };
+    }
 
 -- a write, refused or accepted
 unfoldable pub writeCore : Core → ℕ → ℤ → Outcome

@@ -25,8 +25,8 @@ mod scan;
 mod table;
 mod write;
 
-// All that lasts between calls but the output: SW; parameters 1 to 23; request, memory fault, open count and pins; user bits and MD bit 4; PV, SP, ER and
-// MP; buttons, battery and alarms; the earlier PVs and SP.
+// All that lasts between calls but the output: SW; parameters 1 to 23; request, memory fault, open count
+// and pins; user bits and MD bit 4; PV, SP, ER and MP; buttons, battery and alarms; the earlier PVs and SP.
 pub struct Core {
     pub sw: u16,
     pub parameters: Parameters,
@@ -96,7 +96,8 @@ fn start_readings(p: Parameters) -> Readings
     Readings { pv, sp, er, mp: 0 }
 }
 
-// The state that a start leaves but for the output, with these settings. The contract rules out that anything of an earlier state is kept.
+// The state that a start leaves but for the output, with these settings. The contract rules out that
+// anything of an earlier state is kept.
 fn start_core(
     sw: u16,
     parameters: Parameters,

@@ -26,8 +26,9 @@ impl Controller {
     // II, the instrument identity of the 6360.
     pub const IDENTITY: i32 = 0x3608;
 
-    // The value of a parameter in its own units, MD and DS as they stand now, or refusal 4, the only one. The contract rules out a neighbour's value,
-    // a word of an earlier state, and any other refusal; nothing changes, since no controller is returned.
+    // The value of a parameter in its own units, MD and DS as they stand now, or refusal 4, the only
+    // one. The contract rules out a neighbour's value, a word of an earlier state, and any other
+    // refusal; nothing changes, since no controller is returned.
     pub fn read(self, number: u64) -> ReadAnswer
         requires { ⌜ Valid self ⌝ }
         ensures { λ r. ⌜ replyOfRead r ≡ read self number ⌝ }

@@ -83,7 +83,8 @@ fn by_pairs(p: Parameters) -> Parameters
     Parameters { values }
 }
 
-// The contract rules out HO and LO as the image holds them, pairs that are looked at before the ranges, and SL or RS that take defaults.
+// The contract rules out HO and LO as the image holds them, pairs that are looked at before the ranges,
+// and SL or RS that take defaults.
 pub fn repaired(p: Parameters) -> Parameters
     ensures { λ r. ⌜ r ≡ repaired p ⌝ }
 {

@@ -3,7 +3,8 @@ ghost use mathlib.Core.Path.{_≡_};
 ghost use Rattle.signals.specs.Refusals.{numberIn, refusedBy};
 ghost use Rattle.parameters.specs.Legal.{Legal};
 ghost use Rattle.controller.specs.Answers.{responseOfVerdict};
-ghost use Rattle.controller.specs.Restart.{isLegal, restartTests, repairedSettings, restoredSettings, restartedRequest, controllerRestarted, restart};
+ghost use Rattle.controller.specs.Restart.{isLegal, restartTests, repairedSettings, restoredSettings};
+ghost use Rattle.controller.specs.Restart.{restartedRequest, controllerRestarted, restart};
 use crate::CallResult;
 use crate::Controller;
 use modes::Request;
@@ -19,7 +20,8 @@ fn is_legal(values: [u16; fields::FIELD_COUNT]) -> bool
     crate::repaired::are_legal(parameters) & settings::decoding::are_others_legal(values)
 }
 
-// Whether an image is accepted. The contract rules out a refusal for another cause, one that is forgotten, and a higher number where a lower one applies.
+// Whether an image is accepted. The contract rules out a refusal for another cause, one that is
+// forgotten, and a higher number where a lower one applies.
 fn restart_verdict(image: &[u8]) -> Verdict
     ensures { λ r. ⌜ numberIn r ≡ refusedBy (restartTests (now (image .entry))) ⌝ }
 {
@@ -71,7 +73,8 @@ fn restarted_request(powerfail: bool, request: Request) -> Request
 }
 
 impl Controller {
-    // The controller after an accepted restart. The contract rules out that it keeps anything of the earlier state but SW.
+    // The controller after an accepted restart. The contract rules out that it keeps anything of the
+    // earlier state but SW.
     fn restarted(self, values: [u16; fields::FIELD_COUNT]) -> Controller
         requires { ⌜ Legal (restoredSettings values .parameters) ⌝ }
         ensures { λ r. ⌜ r ≡ controllerRestarted self values ⌝ }
@@ -94,9 +97,10 @@ impl Controller {
         Controller { core, output }
     }
 
-    // Restarts with an image, any bytes of any number: the next controller and that it was accepted, or refusal 12, 13 or 14 and the controller as it was. The
-    // contract gives the whole of both and asks nothing of either argument, so it rules out an image that is refused for no listed cause, a setting other
-    // than the rules give, a wrong sumcheck that goes unnoticed, and anything that is kept of the earlier state but SW.
+    // Restarts with an image, any bytes of any number: the next controller and that it was accepted, or refusal 12,
+    // 13 or 14 and the controller as it was. The contract gives the whole of both and asks nothing of either
+    // argument, so it rules out an image that is refused for no listed cause, a setting other than the rules give,
+    // a wrong sumcheck that goes unnoticed, and anything that is kept of the earlier state but SW.
     pub fn restart(self, image: &[u8]) -> CallResult
         ensures { λ r. ⌜ responseOfVerdict r ≡ restart self (now (image .entry)) ⌝ }
     {

@@ -30,12 +30,14 @@ impl Controller {
         }
     }
 
-    // Encodes an image of the settings in the caller's buffer: the first 137 bytes are the image, those behind stay; or refusal 15, and the buffer as it was. The
-    // controller doesn't change: a caller keeps the one that it has. The contract gives the verdict and every byte, so it rules out a buffer of 137 bytes that is
-    // refused, an image of other settings, and a byte behind it that changes.
+    // Encodes an image of the settings in the caller's buffer: the first 137 bytes are the image, those
+    // behind stay; or refusal 15, and the buffer as it was. The controller doesn't change: a caller keeps
+    // the one that it has. The contract gives the verdict and every byte, so it rules out a buffer of 137
+    // bytes that is refused, an image of other settings, and a byte behind it that changes.
     pub fn save(self, buffer: &mut [u8]) -> Verdict
         requires { ⌜ Valid self ⌝ }
-        ensures { λ r. ⌜ (replyOfVerdict r ≡ replyBy (refusedBy (saveTests (now (buffer .entry))))) × (now (buffer .exit) ≡ savedIn (savedImage self) (now (buffer .entry))) ⌝ }
+        ensures { λ r. ⌜ (replyOfVerdict r ≡ replyBy (refusedBy (saveTests (now (buffer .entry)))))
+            × (now (buffer .exit) ≡ savedIn (savedImage self) (now (buffer .entry))) ⌝ }
     {
         let settings = self.settings();
         settings.save(buffer)

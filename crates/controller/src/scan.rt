@@ -128,8 +128,9 @@ impl Controller {
         }
     }
 
-    // One scan: the next controller and the answer, or the refusal and the controller as it was. The contract gives the whole of both, so it rules out
-    // a scan that changes anything else, a refusal for no listed cause, and an output or a word other than the rules'.
+    // One scan: the next controller and the answer, or the refusal and the controller as it was. The
+    // contract gives the whole of both, so it rules out a scan that changes anything else, a refusal
+    // for no listed cause, and an output or a word other than the rules'.
     pub fn scan(self, input: Input) -> ScanResult
         requires { ⌜ Valid self ⌝ }
         ensures { λ r. ⌜ responseOf r ≡ scan self input ⌝ }

@@ -67,8 +67,8 @@ impl Controller {
         0, // IC
     ];
 
-    // What a parameter's number asks of a value: limits, pair rule, or refusal 4 or 5. The contract rules out a range or an order other than the table's, and
-    // a number that is taken for one of another row.
+    // What a parameter's number asks of a value: limits, pair rule, or refusal 4 or 5. The contract rules
+    // out a range or an order other than the table's, and a number that is taken for one of another row.
     pub fn rule(number: u64) -> Rule
         ensures { λ r. ⌜ r ≡ ruleOf number ⌝ }
     {

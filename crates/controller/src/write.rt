@@ -4,7 +4,8 @@ ghost use mathlib.Core.Option.{none};
 ghost use Rattle.signals.specs.Refusals.{numberIn, refusedBy};
 ghost use Rattle.controller.specs.Answers.{responseOfVerdict};
 ghost use Rattle.controller.specs.Valid.{Valid};
-ghost use Rattle.controller.specs.Write.{setpointTests, wordOf, stateTests, writeTests, coreWith, mdWritten, dsWritten, parameterWritten, coreWritten, controllerWritten, write};
+ghost use Rattle.controller.specs.Write.{setpointTests, wordOf, stateTests, writeTests, coreWith, mdWritten};
+ghost use Rattle.controller.specs.Write.{dsWritten, parameterWritten, coreWritten, controllerWritten, write};
 use crate::CallResult;
 use crate::Controller;
 use crate::Core;
@@ -50,8 +51,8 @@ impl Core {
         }
     }
 
-    // Whether a write is accepted. The contract rules out a refusal for another cause, one that is forgotten, and a higher number where a lower one
-    // applies.
+    // Whether a write is accepted. The contract rules out a refusal for another cause, one that is
+    // forgotten, and a higher number where a lower one applies.
     fn write_verdict(self, number: u64, v: i64) -> Verdict
         ensures { λ r. ⌜ numberIn r ≡ refusedBy (writeTests self number v) ⌝ }
     {
@@ -149,9 +150,10 @@ impl Controller {
         Controller { core, output }
     }
 
-    // One write of a value, in the parameter's own units (`parameters` has the numbers by name): the next controller and that it was accepted, or a
-    // refusal from 4 to 11 and the controller as it was. The contract gives the whole of both, so it rules out a write that changes anything else,
-    // one that forgets what it should do besides, and a refusal for no listed cause.
+    // One write of a value, in the parameter's own units (`parameters` has the numbers by name): the next
+    // controller and that it was accepted, or a refusal from 4 to 11 and the controller as it was. The
+    // contract gives the whole of both, so it rules out a write that changes anything else, one that
+    // forgets what it should do besides, and a refusal for no listed cause.
     pub fn write(self, number: u64, value: i32) -> CallResult
         requires { ⌜ Valid self ⌝ }
         ensures { λ r. ⌜ responseOfVerdict r ≡ write self number value ⌝ }

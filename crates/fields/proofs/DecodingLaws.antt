@@ -52,7 +52,10 @@ formed-next b start place t n g h et en hh =
     let d : drop (3 + n) (drop start b) ≡ drop (start + (3 + n)) b = drop-drop (3 + n) start b in
     let a : start + (3 + n) ≡ start + 3 + n = omega arith in
     let hd : isHeaded (tagOf place) (lengthOf place) (drop start b) ≡ true = cc in
-    record { begun = begun-next start place n (g .begun) h en; formed = cc (g .formed, formed-more place (28 - (place + 1)) (drop start b) hd) }
+    record {
+      begun = begun-next start place n (g .begun) h en;
+      formed = cc (g .formed, formed-more place (28 - (place + 1)) (drop start b) hd);
+    }
 
 pub formed-wrong : (b : List ℕ) (start place t n : ℕ) → Formed b start place → place < 28 → t ≡ tagOf place → n ≡ lengthOf place →
     isHeaded t n (take (length b - start) (drop start b)) ≡ false → formedFrom 0 28 b ≡ false
@@ -87,7 +90,13 @@ decoded-next b values start place n v g h en ev =
     record {
       begun = begun-next start place n (g .begun) h en;
       size = length-set values place v ∙ g .size;
-      decoded = cc (g .decoded, values-more place (28 - (place + 1)) (drop start b), take-suc-set values place v (omega arith), append-snoc (take place values) v (valuesFrom (suc place) (28 - (place + 1)) (drop (start + (3 + n)) b)));
+      decoded =
+          cc (
+            g .decoded,
+            values-more place (28 - (place + 1)) (drop start b),
+            take-suc-set values place v (omega arith),
+            append-snoc (take place values) v (valuesFrom (suc place) (28 - (place + 1)) (drop (start + (3 + n)) b)),
+          );
     }
 
 pub decoded-all : (b values : List ℕ) (start place : ℕ) → Decoded b values start place → 28 ≤ place → values ≡ valuesFrom 0 28 b
@@ -106,7 +115,8 @@ sum-more [] i h = absurd (not-suc-le-zero h)
 sum-more (w ∷ ws) zero h = omega arith
 sum-more (w ∷ ws) (suc i) h = omega (arith, sum-more ws i (le-of-suc-le-suc h))
 
-pub sum-next : (vs : List ℕ) (s i r : ℕ) → i < length vs → s ≡ sumOf (take i vs) → r ≡ (s + getD vs i 0) % 65536 → r ≡ sumOf (take (i + 1) vs)
+pub sum-next : (vs : List ℕ) (s i r : ℕ) → i < length vs → s ≡ sumOf (take i vs) → r ≡ (s + getD vs i 0) % 65536 →
+    r ≡ sumOf (take (i + 1) vs)
 unfolding sumOf
 sum-next vs s i r h es er =
     let more : sum (take (i + 1) vs) ≡ sum (take i vs) + getD vs i 0 = ap (λ (k : ℕ). sum (take k vs)) (add-one i) ∙ sum-more vs i h in

@@ -15,7 +15,8 @@ pub encoded-two : (l : List ℕ) (t n v : ℕ) → n ≡ 2 → 3 + n ≤ length 
     set (set (set (set (set l 0 t) 1 0) 2 n) 3 (v / 256)) 4 (v % 256) ≡ fieldBytes t n v ++ drop (3 + n) l
 unfolding fieldBytes valueBytes
 encoded-two l t n v e =
-    subst (λ (n : ℕ). 3 + n ≤ length l → set (set (set (set (set l 0 t) 1 0) 2 n) 3 (v / 256)) 4 (v % 256) ≡ fieldBytes t n v ++ drop (3 + n) l) (sym e)
+    subst (λ (n : ℕ). 3 + n ≤ length l →
+    set (set (set (set (set l 0 t) 1 0) 2 n) 3 (v / 256)) 4 (v % 256) ≡ fieldBytes t n v ++ drop (3 + n) l) (sym e)
     (λ h. sets-eq (t ∷ 0 ∷ 2 ∷ v / 256 ∷ v % 256 ∷ []) l 0 h)
 
 pub encoded-one : (l : List ℕ) (t n v : ℕ) → n ≡ 1 → 3 + n ≤ length l →
@@ -32,8 +33,10 @@ encoded-more : (fields field b buffer last : List ℕ) (start n : ℕ) → b ≡
 encoded-more fields field b buffer last start n eb ea el h =
     let eT : take start b ≡ fields = ap (take start) eb ∙ take-at fields (drop start buffer) start (sym ea) in
     let eD : drop start b ≡ drop start buffer = ap (drop start) eb ∙ drop-at fields (drop start buffer) start (sym ea) in
-    let eA : take (length b - start) (drop start b) ≡ drop start b = take-all (length b - start) (drop start b) (omega (arith, length-drop start b)) in
-    let eE : drop (length b - start) (drop start b) ≡ [] = drop-of-length-le (drop start b) {i = length b - start} (omega (arith, length-drop start b)) in
+    let eA : take (length b - start) (drop start b) ≡ drop start b =
+    take-all (length b - start) (drop start b) (omega (arith, length-drop start b)) in
+    let eE : drop (length b - start) (drop start b) ≡ [] =
+    drop-of-length-le (drop start b) {i = length b - start} (omega (arith, length-drop start b)) in
     let eS : drop n (drop start buffer) ≡ drop (start + n) buffer = drop-drop n start buffer in
     cc (append-nil (field ++ drop (start + n) buffer), append-assoc fields field (drop (start + n) buffer))
 
@@ -46,7 +49,8 @@ pub record Encoded (values buffer b : List ℕ) (start place : ℕ) : Type 0 whe
   pub after : start ≡ length (fieldsFrom 0 (take place values))
   pub bytes : b ≡ fieldsFrom 0 (take place values) ++ drop start buffer
 
-pub encoded-next : (values buffer b last : List ℕ) (start place t n : ℕ) → length values ≡ 28 → 137 ≤ length buffer → Encoded values buffer b start place → place < 28 →
+pub encoded-next : (values buffer b last : List ℕ) (start place t n : ℕ) → length values ≡ 28 → 137 ≤ length buffer →
+    Encoded values buffer b start place → place < 28 →
     t ≡ tagOf place → n ≡ lengthOf place → length (putMid start (length b - start) b last) ≡ length b →
     last ≡ fieldBytes t n (getD values place 0) ++ drop (3 + n) (take (length b - start) (drop start b)) →
     Encoded values buffer (putMid start (length b - start) b last) (start + 3 + n) (place + 1)
@@ -63,7 +67,9 @@ encoded-next values buffer b last start place t n size room r h et en es el =
       within = omega (arith, start-most place h);
       same = es ∙ r .same;
       after = omega (arith, ap length more, length-append (fieldsFrom 0 (take place values)) (fieldBytes t n v));
-      bytes = cc (encoded-more (fieldsFrom 0 (take place values)) (fieldBytes t n v) b buffer last start (3 + n) (r .bytes) (r .after) el (omega (arith, start-most place h)));
+      bytes =
+          cc (encoded-more (fieldsFrom 0 (take place values)) (fieldBytes t n v) b buffer last start (3 + n) (r .bytes) (r .after) el
+          (omega (arith, start-most place h)));
     }
 
 -- what a field asks of the part that is passed to it

@@ -18,7 +18,8 @@ valueIn size bytes = if eqb size 2 then getD bytes 3 0 * 256 + getD bytes 4 0 el
 -- so many fields from this place on: each tag and length right
 unfoldable pub formedFrom : ℕ → ℕ → List ℕ → Bool
 formedFrom place zero bytes = true
-formedFrom place (suc many) bytes = isHeaded (tagOf place) (lengthOf place) bytes && formedFrom (suc place) many (drop (3 + lengthOf place) bytes)
+formedFrom place (suc many) bytes =
+    isHeaded (tagOf place) (lengthOf place) bytes && formedFrom (suc place) many (drop (3 + lengthOf place) bytes)
 
 -- and their values
 unfoldable pub valuesFrom : ℕ → ℕ → List ℕ → List ℕ

@@ -33,13 +33,15 @@ Fit place (v ∷ vs) = (v < 256 ^ lengthOf place) × Fit (suc place) vs
 
 head-of : (tag v : ℕ) (rest : List ℕ) (place : ℕ) → isHeaded tag (lengthOf place) (fieldBytes tag (lengthOf place) v ++ rest) ≡ true
 unfolding isHeaded fieldBytes valueBytes
-head-of tag v rest place = by-length (λ (n : ℕ). isHeaded tag n (fieldBytes tag n v ++ rest) ≡ true) (rw (eq-eqb tag tag refl)) (rw (eq-eqb tag tag refl)) place
+head-of tag v rest place =
+    by-length (λ (n : ℕ). isHeaded tag n (fieldBytes tag n v ++ rest) ≡ true) (rw (eq-eqb tag tag refl)) (rw (eq-eqb tag tag refl)) place
 
 rest-of : (tag v : ℕ) (rest : List ℕ) (place : ℕ) → drop (3 + lengthOf place) (fieldBytes tag (lengthOf place) v ++ rest) ≡ rest
 unfolding fieldBytes valueBytes
 rest-of tag v rest place = by-length (λ (n : ℕ). drop (3 + n) (fieldBytes tag n v ++ rest) ≡ rest) refl refl place
 
-value-of : (tag v : ℕ) (rest : List ℕ) (place : ℕ) → v < 256 ^ lengthOf place → valueIn (lengthOf place) (fieldBytes tag (lengthOf place) v ++ rest) ≡ v
+value-of : (tag v : ℕ) (rest : List ℕ) (place : ℕ) → v < 256 ^ lengthOf place →
+    valueIn (lengthOf place) (fieldBytes tag (lengthOf place) v ++ rest) ≡ v
 unfolding valueIn fieldBytes valueBytes
 value-of tag v rest place =
     by-length (λ (n : ℕ). v < 256 ^ n → valueIn n (fieldBytes tag n v ++ rest) ≡ v) (λ h. omega arith) (λ h. omega arith) place
@@ -51,16 +53,26 @@ encoded-formed (v ∷ vs) place rest =
     let field = fieldBytes (tagOf place) (lengthOf place) v in
     let b = (field ++ fieldsFrom (suc place) vs) ++ rest in
     let a : b ≡ field ++ (fieldsFrom (suc place) vs ++ rest) = append-assoc field (fieldsFrom (suc place) vs) rest in
-    cc (formed-more place (length vs) b (ap (isHeaded (tagOf place) (lengthOf place)) a ∙ head-of (tagOf place) v _ place), rest-of (tagOf place) v (fieldsFrom (suc place) vs ++ rest) place, encoded-formed vs (suc place) rest)
+    cc (
+      formed-more place (length vs) b (ap (isHeaded (tagOf place) (lengthOf place)) a ∙ head-of (tagOf place) v _ place),
+      rest-of (tagOf place) v (fieldsFrom (suc place) vs ++ rest) place,
+      encoded-formed vs (suc place) rest,
+    )
 
-pub encoded-values : (vs : List ℕ) (place : ℕ) (rest : List ℕ) → Fit place vs → valuesFrom place (length vs) (fieldsFrom place vs ++ rest) ≡ vs
+pub encoded-values : (vs : List ℕ) (place : ℕ) (rest : List ℕ) → Fit place vs →
+    valuesFrom place (length vs) (fieldsFrom place vs ++ rest) ≡ vs
 unfolding fieldsFrom valuesFrom
 encoded-values [] place rest f = refl
 encoded-values (v ∷ vs) place rest f =
     let field = fieldBytes (tagOf place) (lengthOf place) v in
     let b = (field ++ fieldsFrom (suc place) vs) ++ rest in
     let a : b ≡ field ++ (fieldsFrom (suc place) vs ++ rest) = append-assoc field (fieldsFrom (suc place) vs) rest in
-    cc (values-more place (length vs) b, value-of (tagOf place) v (fieldsFrom (suc place) vs ++ rest) place (f .0), rest-of (tagOf place) v (fieldsFrom (suc place) vs ++ rest) place, encoded-values vs (suc place) rest (f .1))
+    cc (
+      values-more place (length vs) b,
+      value-of (tagOf place) v (fieldsFrom (suc place) vs ++ rest) place (f .0),
+      rest-of (tagOf place) v (fieldsFrom (suc place) vs ++ rest) place,
+      encoded-values vs (suc place) rest (f .1),
+    )
 
 -- ---- decoded, then encoded
 
@@ -111,7 +123,8 @@ drop-bytes : (n : ℕ) (b : List ℕ) → Bytes b → Bytes (drop n b)
 drop-bytes n b y = λ k. rw getD-drop (y (n + k))
 
 -- so many fields from this place on, with no byte behind them
-decoded-fields : (many place : ℕ) (b : List ℕ) → place + many ≤ 28 → startOf place + length b ≡ startOf (place + many) → Bytes b → formedFrom place many b ≡ true →
+decoded-fields : (many place : ℕ) (b : List ℕ) → place + many ≤ 28 → startOf place + length b ≡ startOf (place + many) → Bytes b →
+    formedFrom place many b ≡ true →
     fieldsFrom place (valuesFrom place many b) ≡ b
 unfolding fieldsFrom valuesFrom formedFrom
 decoded-fields zero place [] h e y f = refl
@@ -128,7 +141,8 @@ decoded-fields (suc many) place b h e y f =
     let up : startOf (suc place) ≤ startOf (suc place + many) = start-grows many (suc place) (omega arith) in
     let fit : 3 + lengthOf place ≤ length b = omega arith in
     let rest : fieldsFrom (suc place) (valuesFrom (suc place) many (drop (3 + lengthOf place) b)) ≡ drop (3 + lengthOf place) b =
-    decoded-fields many (suc place) (drop (3 + lengthOf place) b) (omega arith) (omega (arith, length-drop (3 + lengthOf place) b)) (drop-bytes (3 + lengthOf place) b y)
+    decoded-fields many (suc place) (drop (3 + lengthOf place) b) (omega arith) (omega (arith, length-drop (3 + lengthOf place) b))
+    (drop-bytes (3 + lengthOf place) b y)
     (both (isHeaded (tagOf place) (lengthOf place) b) _ f .1) in
     cc (field-is (tagOf place) place b fit y hd)
 
@@ -164,7 +178,8 @@ values-length zero place b = refl
 values-length (suc many) place b = ap suc (values-length many (suc place) (drop (3 + lengthOf place) b))
 
 -- fields from this place on, up to the place behind them
-fields-length : (vs : List ℕ) (place : ℕ) → place + length vs ≤ 28 → startOf place + length (fieldsFrom place vs) ≡ startOf (place + length vs)
+fields-length : (vs : List ℕ) (place : ℕ) → place + length vs ≤ 28 →
+    startOf place + length (fieldsFrom place vs) ≡ startOf (place + length vs)
 unfolding fieldsFrom
 fields-length [] place h = let z : startOf (place + 0) ≡ startOf place = ap startOf (add-zero place) in omega arith
 fields-length (v ∷ vs) place h =
@@ -173,7 +188,13 @@ fields-length (v ∷ vs) place h =
     let s1 : place + 1 ≡ suc place = omega arith in
     let o1 : startOf (place + 1) ≡ startOf (suc place) = ap startOf s1 in
     let oe : startOf (place + suc (length vs)) ≡ startOf (suc place + length vs) = ap startOf s in
-    omega (arith, next-start place (omega arith), length-field (tagOf place) place v, length-append field (fieldsFrom (suc place) vs), fields-length vs (suc place) (omega arith))
+    omega (
+      arith,
+      next-start place (omega arith),
+      length-field (tagOf place) place v,
+      length-append field (fieldsFrom (suc place) vs),
+      fields-length vs (suc place) (omega arith),
+    )
 
 pub image-length : (vs : List ℕ) → length vs ≡ 28 → length (fieldsFrom 0 vs) ≡ 137
 unfolding startOf

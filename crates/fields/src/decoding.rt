@@ -54,7 +54,8 @@ pub fn is_formed(image: &[u8]) -> bool
     true
 }
 
-// The values of all fields. The contract rules out a value with its bytes exchanged, and one that is taken from a neighbour.
+// The values of all fields. The contract rules out a value with its bytes exchanged, and one that is
+// taken from a neighbour.
 pub fn values_of(image: &[u8]) -> [u16; crate::FIELD_COUNT]
     requires { ⌜ length (now image) ≡ 137 ⌝ }
     ensures { λ r. ⌜ r ≡ valuesFrom 0 28 (now (image .entry)) ⌝ }

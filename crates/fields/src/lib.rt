@@ -1,4 +1,5 @@
-// The image as bytes: 28 fields of a tag, a length and a value, encoded in the caller's buffer and decoded again; and the sumcheck over the values.
+// The image as bytes: 28 fields of a tag, a length and a value, encoded in the caller's buffer and
+// decoded again; and the sumcheck over the values.
 ghost use mathlib.Core.Path.{_≡_};
 ghost use mathlib.Core.List.{_++_};
 ghost use Prim.Native.Nat.{_+_, _≤_, _<_};
@@ -65,7 +66,8 @@ fn length_of(place: usize) -> u8
     }
 }
 
-// Encodes one field at the front of the part that is passed. The contract rules out a byte behind the field that changes.
+// Encodes one field at the front of the part that is passed. The contract rules out a byte behind the
+// field that changes.
 fn encode_field(part: &mut [u8], tag: u8, size: u8, value: u16)
     requires { ⌜ (3 + size ≤ length (now part)) × (1 ≤ size) × (size ≤ 2) ⌝ }
     ensures { λ _. ⌜ now (part .exit) ≡ fieldBytes tag size value ++ drop (3 + size) (now (part .entry)) ⌝ }
@@ -96,10 +98,12 @@ fn encode(values: [u16; FIELD_COUNT], buffer: &mut [u8])
     }
 }
 
-// Saves the values of all 28 fields. The contract gives the verdict and every byte of the buffer, so it rules out a refusal of 137 bytes, an image that is
-// encoded elsewhere, a byte behind it that changes, and a short buffer that doesn't stay.
+// Saves the values of all 28 fields. The contract gives the verdict and every byte of the buffer, so it
+// rules out a refusal of 137 bytes, an image that is encoded elsewhere, a byte behind it that changes,
+// and a short buffer that doesn't stay.
 pub fn save(values: [u16; FIELD_COUNT], buffer: &mut [u8]) -> Verdict
-    ensures { λ r. ⌜ (numberIn r ≡ refusedBy (saveTests (now (buffer .entry)))) × (now (buffer .exit) ≡ savedIn (fieldsFrom 0 values) (now (buffer .entry))) ⌝ }
+    ensures { λ r. ⌜ (numberIn r ≡ refusedBy (saveTests (now (buffer .entry))))
+        × (now (buffer .exit) ≡ savedIn (fieldsFrom 0 values) (now (buffer .entry))) ⌝ }
 {
     if buffer.len() < IMAGE_LENGTH {
         return Verdict::Refused(Refusal::ShortBuffer);
@@ -108,7 +112,8 @@ pub fn save(values: [u16; FIELD_COUNT], buffer: &mut [u8]) -> Verdict
     Verdict::Accepted
 }
 
-// The sum of all values before the sumcheck. Wrapping 16-bit addition is the sum modulo 65,536: the contract says so, and rules out a value that is left out.
+// The sum of all values before the sumcheck. Wrapping 16-bit addition is the sum modulo 65,536: the
+// contract says so, and rules out a value that is left out.
 pub fn sumcheck(values: [u16; FIELD_COUNT]) -> u16
     ensures { λ r. ⌜ r ≡ sumOf (take 27 values) ⌝ }
 {

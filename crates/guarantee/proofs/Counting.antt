@@ -1,4 +1,5 @@
--- n counts what the rules do to the output: it goes to 0 where the instruction sets outright, up by 1 where terms are added, and stays elsewhere.
+-- n counts what the rules do to the output: it goes to 0 where the instruction sets outright, up by 1
+-- where terms are added, and stays elsewhere.
 use mathlib.Core.Path.{_≡_, refl, sym, _∙_}
 use mathlib.Core.Bool.{Bool, true, false, not, _&&_, _||_}
 use mathlib.Core.Option.{some}
@@ -45,21 +46,26 @@ adjustment-counts Raise n = refl
 adjustment-counts Lower n = refl
 adjustment-counts Neither n = refl
 
-hand-choice : (t b : Bool) (u : ℤ) (q : Adjustment) (n : ℕ) → (if t then 0 else n) ≡ changeCount (if t then setTo u else if b then keep else adjusted q) n
+hand-choice : (t b : Bool) (u : ℤ) (q : Adjustment) (n : ℕ) →
+    (if t then 0 else n) ≡ changeCount (if t then setTo u else if b then keep else adjusted q) n
 hand-choice true b u q n = refl
 hand-choice false true u q n = refl
 hand-choice false false u q n = adjustment-counts q n
 
 hand-counts : (p : Parameters) (x : Context) (n : ℕ) → (if x .tominimum then 0 else n) ≡ changeCount (byHand p x) n
 unfolding byHand
-hand-counts p x n = hand-choice (x .tominimum) (buttonsOf (x .input .buttons) .sp) (minimumOf p (x .switches)) (adjustmentOf (buttonsOf (x .input .buttons))) n
+hand-counts p x n =
+    hand-choice (x .tominimum) (buttonsOf (x .input .buttons) .sp) (minimumOf p (x .switches))
+    (adjustmentOf (buttonsOf (x .input .buttons))) n
 
-term-choice : (t : Bool) (p : Parameters) (x : Context) (r : Readings) (h : History) (n : ℕ) → (if not t then n + 1 else n) ≡ changeCount (if t then keep else termsOf p x r h) n
+term-choice : (t : Bool) (p : Parameters) (x : Context) (r : Readings) (h : History) (n : ℕ) →
+    (if not t then n + 1 else n) ≡ changeCount (if t then keep else termsOf p x r h) n
 unfolding termsOf
 term-choice true p x r h n = refl
 term-choice false p x r h n = refl
 
-term-counts : (p : Parameters) (x : Context) (r : Readings) (h : History) (n : ℕ) → (if not (isOpen (x .input)) then n + 1 else n) ≡ changeCount (byTerms p x r h) n
+term-counts : (p : Parameters) (x : Context) (r : Readings) (h : History) (n : ℕ) →
+    (if not (isOpen (x .input)) then n + 1 else n) ≡ changeCount (byTerms p x r h) n
 unfolding byTerms
 term-counts p x r h n = term-choice (isOpen (x .input)) p x r h n
 
@@ -115,14 +121,19 @@ module _ (c : Core) (i : Input) where
       let x = contextOf c (conditionsAfter oneMore (c .conditions) i) i in
       rw (mode-next, minimum-is) (counts-in (x .mode) (c .parameters) x _ (c .history) n)
 
-pub counts : (c : Core) (x : Call) (n : ℕ) → let o = outcomeOf oneMore c x in countAfter c (o .next) x (o .answer) n ≡ changeCount (o .instruction .change) n
-unfolding outcomeOf scanCore writeCore writeAccepted restartCore restartAccepted restartInstruction refused countAfter setsOutright isAutomaticScan next accepted
+pub counts : (c : Core) (x : Call) (n : ℕ) → let o = outcomeOf oneMore c x in
+    countAfter c (o .next) x (o .answer) n ≡ changeCount (o .instruction .change) n
+unfolding outcomeOf scanCore writeCore writeAccepted restartCore restartAccepted restartInstruction refused countAfter setsOutright
+    isAutomaticScan next accepted
 counts c (scan i) n =
-    by-verdict (λ o. countAfter c (o .next) (scan i) (o .answer) n ≡ changeCount (o .instruction .change) n) (refusedBy (scanTests i)) c (accepted oneMore c i)
+    by-verdict (λ o. countAfter c (o .next) (scan i) (o .answer) n ≡ changeCount (o .instruction .change) n) (refusedBy (scanTests i)) c
+    (accepted oneMore c i)
     (λ e. accepted-counts c i n) (λ k. refl)
 counts c (write number v) n =
-    by-verdict (λ o. countAfter c (o .next) (write number v) (o .answer) n ≡ changeCount (o .instruction .change) n) (refusedBy (writeTests c number v)) c (writeAccepted c number v)
+    by-verdict (λ o. countAfter c (o .next) (write number v) (o .answer) n ≡ changeCount (o .instruction .change) n)
+    (refusedBy (writeTests c number v)) c (writeAccepted c number v)
     (λ e. refl) (λ k. refl)
 counts c (restart image) n =
-    by-verdict (λ o. countAfter c (o .next) (restart image) (o .answer) n ≡ changeCount (o .instruction .change) n) (refusedBy (restartTests image)) c
+    by-verdict (λ o. countAfter c (o .next) (restart image) (o .answer) n ≡ changeCount (o .instruction .change) n)
+    (refusedBy (restartTests image)) c
     (restartAccepted c (valuesIn image)) (λ e. refl) (λ k. refl)

@@ -20,7 +20,8 @@ use Rattle.controller.specs.declared.ScanResult.{ScanResult}
 use Rattle.guarantee.specs.Claim.{modeIn, isHoldOrTrack, capped, SameReading, SameAnswer, SameAnswers, no-answer, and-answer}
 use Rattle.guarantee.specs.Demand.{Demand3}
 use Rattle.guarantee.specs.Exact.{Call, scan, write, restart, Calls, _then_, outcomeOf, exactAfter, exact, exactAnswer}
-use Rattle.guarantee.specs.Linked.{ScanEnsures, WriteEnsures, RestartEnsures, Slice, Lifetime, Linked, started, scanned, wrote, restarted, Ready}
+use Rattle.guarantee.specs.Linked.{ScanEnsures, WriteEnsures, RestartEnsures, Slice, Lifetime}
+use Rattle.guarantee.specs.Linked.{Linked, started, scanned, wrote, restarted, Ready}
 use Rattle.guarantee.proofs.Answers.{outcome-shows, same-answer, same-reading, same-save}
 use Rattle.guarantee.proofs.Capped.{cappedOutcome, capped-twice, now-capped}
 use Rattle.guarantee.proofs.Faults.{fault-after}
@@ -35,7 +36,8 @@ unfolding ours rules.scan writes.write restarts.restart outcomeOf rules.scanCore
 linked (started r e) = e
 linked (scanned i r l e) = ap (λ (h : Response). h .next) e ∙ ap (λ (k : Controller). rules.scan k i .next) (linked l)
 linked (wrote n v r l e) = ap (λ (h : Response). h .next) e ∙ ap (λ (k : Controller). writes.write k n v .next) (linked l)
-linked (restarted life image r l e) = ap (λ (h : Response). h .next) e ∙ ap (λ (k : Controller). restarts.restart k (now image) .next) (linked l)
+linked (restarted life image r l e) =
+    ap (λ (h : Response). h .next) e ∙ ap (λ (k : Controller). restarts.restart k (now image) .next) (linked l)
 
 -- what a call returns, in the exact controller's answer and our own output
 response-answer : (word : ℕ) (xs : Calls) (x : Call) → let h = responseFrom (ours word xs) (outcomeOf counted (ours word xs .core) x) in
@@ -46,32 +48,39 @@ response-answer word xs x =
     let next = responseFrom (ours word xs) o .next in
     let now = exact word (xs then x) .core in
     let answers-are : exactAnswer word xs x ≡ o .answer = sym (ap (λ (o : Outcome). o .answer) (outcomes word xs x)) in
-    let answer = same-answer next now (exactAnswer word xs x) (outcome-shows (exact word xs .core) x) (valid-after word (xs then x) .stored) in
+    let answer = same-answer next now (exactAnswer word xs x) (outcome-shows (exact word xs .core) x)
+    (valid-after word (xs then x) .stored) in
     subst (λ (s : Status). SameAnswer next now (withOutput s (ours word xs .core .sw) (next .output)) (exactAnswer word xs x)) answers-are
-    (subst (λ (sw : ℕ). SameAnswer next now (withOutput (exactAnswer word xs x) sw (next .output)) (exactAnswer word xs x)) (switch-word (ours word xs .core) x) answer)
+    (subst (λ (sw : ℕ). SameAnswer next now (withOutput (exactAnswer word xs x) sw (next .output)) (exactAnswer word xs x))
+    (switch-word (ours word xs .core) x) answer)
 
 -- the contract of a scan, made after these calls, that of a write, and that of a restart
-scan-is : {word : ℕ} {xs : Calls} {rs : List Response} {c : Controller} (i : Input) (r : ScanResult) → Linked word xs rs c → ScanEnsures c i r →
+scan-is : {word : ℕ} {xs : Calls} {rs : List Response} {c : Controller} (i : Input) (r : ScanResult) → Linked word xs rs c →
+    ScanEnsures c i r →
     responseOf r ≡ responseFrom (ours word xs) (outcomeOf counted (ours word xs .core) (scan i))
 unfolding rules.scan outcomeOf
 scan-is i r l e = e ∙ ap (λ (k : Controller). rules.scan k i) (linked l)
 
-write-is : {word : ℕ} {xs : Calls} {rs : List Response} {c : Controller} (n : ℕ) (v : ℤ) (r : CallResult) → Linked word xs rs c → WriteEnsures c n v r →
+write-is : {word : ℕ} {xs : Calls} {rs : List Response} {c : Controller} (n : ℕ) (v : ℤ) (r : CallResult) → Linked word xs rs c →
+    WriteEnsures c n v r →
     responseOfVerdict r ≡ responseFrom (ours word xs) (outcomeOf counted (ours word xs .core) (write n v))
 unfolding writes.write outcomeOf
 write-is n v r l e = e ∙ ap (λ (k : Controller). writes.write k n v) (linked l)
 
-restart-is : {word : ℕ} {xs : Calls} {rs : List Response} {c : Controller} (life : Lifetime) (image : Slice) (r : CallResult) → Linked word xs rs c → RestartEnsures life c image r →
+restart-is : {word : ℕ} {xs : Calls} {rs : List Response} {c : Controller} (life : Lifetime) (image : Slice) (r : CallResult) →
+    Linked word xs rs c → RestartEnsures life c image r →
     responseOfVerdict r ≡ responseFrom (ours word xs) (outcomeOf counted (ours word xs .core) (restart (now image)))
 unfolding restarts.restart outcomeOf
 restart-is life image r l e = e ∙ ap (λ (k : Controller). restarts.restart k (now image)) (linked l)
 
 -- one answer more
-answered : {word : ℕ} {xs : Calls} {rs : List Response} (x : Call) (h : Response) → h ≡ responseFrom (ours word xs) (outcomeOf counted (ours word xs .core) x) →
+answered : {word : ℕ} {xs : Calls} {rs : List Response} (x : Call) (h : Response) →
+    h ≡ responseFrom (ours word xs) (outcomeOf counted (ours word xs .core) x) →
     SameAnswers word xs rs → SameAnswers word (xs then x) (h ∷ rs)
 answered {word} {xs} x h e earlier =
     and-answer earlier
-    (subst (λ (k : Response). SameAnswer (k .next) (exact word (xs then x) .core) (k .answer) (exactAnswer word xs x)) (sym e) (response-answer word xs x))
+    (subst (λ (k : Response). SameAnswer (k .next) (exact word (xs then x) .core) (k .answer) (exactAnswer word xs x)) (sym e)
+    (response-answer word xs x))
 
 answers : {word : ℕ} {xs : Calls} {rs : List Response} {c : Controller} → Linked word xs rs c → SameAnswers word xs rs
 answers (started r e) = no-answer
@@ -98,13 +107,16 @@ guarantee word calls rs c l =
       open-scans-counted = open-count-after word calls;
       fault-stands = rw e (fault-after word calls);
       within-limits = λ mode q outside.
-          rw e (within-after word calls (ap (λ (k : Controller). isHoldOrTrack (modeNow (k .core))) (sym e) ∙ ap isHoldOrTrack (ap here (sym first ∙ q)) ∙ outside));
+          rw e (within-after word calls
+          (ap (λ (k : Controller). isHoldOrTrack (modeNow (k .core))) (sym e) ∙ ap isHoldOrTrack (ap here (sym first ∙ q)) ∙ outside));
       same-state = ap capped core-is ∙ capped-twice (exact word calls .core);
       same-answers = answers l;
       same-reads = λ n r h.
           subst (λ (reply : Reply). SameReading c (exact word calls .core) n reply) (sym h)
           (same-reading c (exact word calls .core) n core-is (rw e (valid-after word calls .stored)));
-      same-saves = λ life buffer r after h. same-save c (exact word calls .core) (now buffer) (replyOfVerdict r) after core-is (rw e (valid-after word calls .stored)) (h .0) (h .1);
+      same-saves =
+          λ life buffer r after h. same-save c (exact word calls .core) (now buffer) (replyOfVerdict r) after core-is
+          (rw e (valid-after word calls .stored)) (h .0) (h .1);
       bound = rw e (bound-after word calls);
     }
 
@@ -112,4 +124,10 @@ guarantee word calls rs c l =
 pub ready : (word : ℕ) (calls : Calls) (rs : List Response) (c : Controller) → Linked word calls rs c → Ready c
 ready word calls rs c l =
     let valid : Valid c = rw (linked l) (valid-after word calls) in
-    record { scan-ready = λ i. valid; write-ready = λ n v. valid; restart-ready = λ life image. tt; read-ready = λ n. valid; save-ready = λ life buffer. valid }
+    record {
+      scan-ready = λ i. valid;
+      write-ready = λ n v. valid;
+      restart-ready = λ life image. tt;
+      read-ready = λ n. valid;
+      save-ready = λ life buffer. valid;
+    }

@@ -24,7 +24,8 @@ use Rattle.controller.specs.declared.Controller.{Controller}
 use Rattle.controller.specs.declared.Core.{Core}
 use Rattle.guarantee.specs.Claim.{capped}
 use Rattle.guarantee.specs.Count.{openAfter, openScans, automaticScans}
-use Rattle.guarantee.specs.Exact.{Call, scan, write, restart, Calls, none, _then_, oneMore, outcomeOf, exactOutcome, exactAfter, exact, exactAnswer}
+use Rattle.guarantee.specs.Exact.{Call, scan, write, restart, Calls, none, _then_, oneMore}
+use Rattle.guarantee.specs.Exact.{outcomeOf, exactOutcome, exactAfter, exact, exactAnswer}
 use Rattle.guarantee.proofs.Bound.{Divides, keeps, sets, instruction-sound, executed-near}
 use Rattle.guarantee.proofs.Capped.{cappedOutcome, outcome-capped}
 use Rattle.guarantee.proofs.Counting.{counts}
@@ -45,7 +46,8 @@ cores word none = fresh-capped word
 cores word (xs then x) =
     ap (λ (k : Core). outcomeOf counted k x .next) (cores word xs) ∙ ap (λ (o : Outcome). o .next) (outcome-capped (exact word xs .core) x)
 
-pub outcomes : (word : ℕ) (xs : Calls) (x : Call) → outcomeOf counted (ours word xs .core) x ≡ cappedOutcome (exactOutcome (exact word xs) x)
+pub outcomes : (word : ℕ) (xs : Calls) (x : Call) →
+    outcomeOf counted (ours word xs .core) x ≡ cappedOutcome (exactOutcome (exact word xs) x)
 outcomes word xs x = ap (λ (k : Core). outcomeOf counted k x) (cores word xs) ∙ outcome-capped (exact word xs .core) x
 
 pub valid-after : (word : ℕ) (xs : Calls) → Valid (ours word xs)
@@ -59,8 +61,10 @@ valid-after word (xs then restart image) = valid-restart (ours word xs) image (v
 pub switch-word : (c : Core) (x : Call) → outcomeOf counted c x .next .sw ≡ c .sw
 unfolding outcomeOf scanCore writeCore writeAccepted restartCore restartAccepted refused accepted coreAfter
 switch-word c (scan i) = by-verdict (λ o. o .next .sw ≡ c .sw) (refusedBy (scanTests i)) c (accepted counted c i) (λ e. refl) (λ n. refl)
-switch-word c (write n v) = by-verdict (λ o. o .next .sw ≡ c .sw) (refusedBy (writeTests c n v)) c (writeAccepted c n v) (λ e. sw-stays c n v) (λ m. refl)
-switch-word c (restart image) = by-verdict (λ o. o .next .sw ≡ c .sw) (refusedBy (restartTests image)) c (restartAccepted c (valuesIn image)) (λ e. refl) (λ m. refl)
+switch-word c (write n v) =
+    by-verdict (λ o. o .next .sw ≡ c .sw) (refusedBy (writeTests c n v)) c (writeAccepted c n v) (λ e. sw-stays c n v) (λ m. refl)
+switch-word c (restart image) =
+    by-verdict (λ o. o .next .sw ≡ c .sw) (refusedBy (restartTests image)) c (restartAccepted c (valuesIn image)) (λ e. refl) (λ m. refl)
 
 -- ---- the bound
 
@@ -76,7 +80,8 @@ outcome-sound c (scan i) legal =
 outcome-sound c (write n v) legal =
     by-verdict (λ o. Divides (o .instruction .change)) (refusedBy (writeTests c n v)) c (writeAccepted c n v) (λ e. keeps) (λ m. keeps)
 outcome-sound c (restart image) legal =
-    by-verdict (λ o. Divides (o .instruction .change)) (refusedBy (restartTests image)) c (restartAccepted c (valuesIn image)) (λ e. sets) (λ m. keeps)
+    by-verdict (λ o. Divides (o .instruction .change)) (refusedBy (restartTests image)) c (restartAccepted c (valuesIn image)) (λ e. sets)
+    (λ m. keeps)
 
 pub bound-after : (word : ℕ) (xs : Calls) → Near (ours word xs .output) (exact word xs .output) (3 * automaticScans word xs)
 unfolding ours exact exactAfter exactAnswer automaticScans freshController responseFrom controllerAfter storedUnits cappedOutcome
@@ -88,19 +93,25 @@ bound-after word (xs then x) =
 
 -- ---- the open count
 
-open-counts : (c : Core) (x : Call) → let o = outcomeOf oneMore c x in o .next .conditions .opencount ≡ openAfter x (o .answer) (c .conditions .opencount)
-unfolding outcomeOf scanCore writeCore writeAccepted restartCore restartAccepted refused accepted coreAfter conditionsAfter openCountAfter statusOf openAfter
+open-counts : (c : Core) (x : Call) → let o = outcomeOf oneMore c x in
+    o .next .conditions .opencount ≡ openAfter x (o .answer) (c .conditions .opencount)
+unfolding outcomeOf scanCore writeCore writeAccepted restartCore restartAccepted refused accepted coreAfter conditionsAfter openCountAfter
+    statusOf openAfter
 open-counts c (scan i) =
-    by-verdict (λ o. o .next .conditions .opencount ≡ openAfter (scan i) (o .answer) (c .conditions .opencount)) (refusedBy (scanTests i)) c (accepted oneMore c i)
+    by-verdict (λ o. o .next .conditions .opencount ≡ openAfter (scan i) (o .answer) (c .conditions .opencount)) (refusedBy (scanTests i)) c
+    (accepted oneMore c i)
     (λ e. refl) (λ n. refl)
 open-counts c (write n v) =
-    by-verdict (λ o. o .next .conditions .opencount ≡ openAfter (write n v) (o .answer) (c .conditions .opencount)) (refusedBy (writeTests c n v)) c (writeAccepted c n v)
+    by-verdict (λ o. o .next .conditions .opencount ≡ openAfter (write n v) (o .answer) (c .conditions .opencount))
+    (refusedBy (writeTests c n v)) c (writeAccepted c n v)
     (λ e. open-count-stay c n v) (λ m. refl)
 open-counts c (restart image) =
-    by-verdict (λ o. o .next .conditions .opencount ≡ openAfter (restart image) (o .answer) (c .conditions .opencount)) (refusedBy (restartTests image)) c (restartAccepted c (valuesIn image))
+    by-verdict (λ o. o .next .conditions .opencount ≡ openAfter (restart image) (o .answer) (c .conditions .opencount))
+    (refusedBy (restartTests image)) c (restartAccepted c (valuesIn image))
     (λ e. refl) (λ m. refl)
 
 pub open-count-after : (word : ℕ) (xs : Calls) → exact word xs .core .conditions .opencount ≡ openScans word xs
 unfolding exact exactAfter exactAnswer openScans freshCore
 open-count-after word none = refl
-open-count-after word (xs then x) = open-counts (exact word xs .core) x ∙ ap (λ (n : ℕ). openAfter x (exactAnswer word xs x) n) (open-count-after word xs)
+open-count-after word (xs then x) =
+    open-counts (exact word xs .core) x ∙ ap (λ (n : ℕ). openAfter x (exactAnswer word xs x) n) (open-count-after word xs)

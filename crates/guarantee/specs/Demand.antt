@@ -1,4 +1,5 @@
--- Demand 3, the long guarantee, as README.md has it: after these calls, with these controllers and answers returned, of the controller c.
+-- Demand 3, the long guarantee, as README.md has it: after these calls, with these controllers and
+-- answers returned, of the controller c.
 use mathlib.Core.Path.{_≡_}
 use mathlib.Core.Bool.{false}
 use mathlib.Core.List.{List}
@@ -19,7 +20,8 @@ use Rattle.guarantee.specs.Fault.{faultStands}
 use Rattle.guarantee.specs.Linked.{ReadEnsures, SaveEnsures, Slice, Lifetime}
 
 pub record Demand3 (word : ℕ) (calls : Calls) (rs : List Response) (c : Controller) : Type 0 where
-  -- the mode is the first in the priority order whose condition is present; conditions are read from the exact controller
+  -- the mode is the first in the priority order whose condition is present; conditions are read from
+  -- the exact controller
   pub mode-first : modeIn (exact word calls .core) ≡ some (modeNow (c .core))
   -- and the count of open scans behind Forced Manual is the one that the accepted calls of the list give
   pub open-scans-counted : exact word calls .core .conditions .opencount ≡ openScans word calls
@@ -27,7 +29,8 @@ pub record Demand3 (word : ℕ) (calls : Calls) (rs : List Response) (c : Contro
   pub fault-stands : c .core .conditions .fault ≡ faultStands word calls
   -- outside Hold and Track, by the conditions again, the stored output is within its limits
   pub within-limits : (mode : Mode) → modeIn (exact word calls .core) ≡ some mode → isHoldOrTrack mode ≡ false → WithinLimits c
-  -- apart from the output, the whole state and every answer equal those of the exact controller, OP and electrical output being our own
+  -- apart from the output, the whole state and every answer equal those of the exact controller, OP and
+  -- electrical output being our own
   pub same-state : capped (c .core) ≡ capped (exact word calls .core)
   pub same-answers : SameAnswers word calls rs
   -- and so does every read that is made now, which changes nothing
@@ -35,5 +38,6 @@ pub record Demand3 (word : ℕ) (calls : Calls) (rs : List Response) (c : Contro
   -- and every save, which changes nothing either, of any buffer: the answer and every byte
   pub same-saves : (life : Lifetime) (buffer : Slice) (r : Verdict) (after : List ℕ) → SaveEnsures life c buffer r after →
       SameSave c (exact word calls .core) (now buffer) (replyOfVerdict r) after
-  -- the stored output is within 3/2 × n × 1/65,536 unit of the exact controller's: `Near` counts halves of 1/65,536 unit
+  -- the stored output is within 3/2 × n × 1/65,536 unit of the exact controller's: `Near` counts halves
+  -- of 1/65,536 unit
   pub bound : Near (c .output) (exact word calls .output) (3 * automaticScans word calls)

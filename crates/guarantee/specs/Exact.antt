@@ -1,5 +1,5 @@
--- Document 01, "The exact controller": the same steps and rules, its own copy of every state item, the output a fraction, the terms unrounded. It is fed
--- the switch word and the calls, and nothing of ours.
+-- Document 01, "The exact controller": the same steps and rules, its own copy of every state item, the
+-- output a fraction, the terms unrounded. It is fed the switch word and the calls, and nothing of ours.
 use mathlib.Core.List.{List}
 use Prim.Native.Nat.{ℕ, _+_}
 use lib.IntN.{ℤ, pos}

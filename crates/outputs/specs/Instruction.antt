@@ -1,5 +1,5 @@
--- What a call does to the output, as an instruction, and how it is executed: by our controller in whole 1/65,536 units, by the exact
--- controller in fractions. The rules give the instruction once, for both.
+-- What a call does to the output, as an instruction, and how it is executed: by our controller in whole
+-- 1/65,536 units, by the exact controller in fractions. The rules give the instruction once, for both.
 use lib.IntN.{ℤ, _+ℤ_}
 use Rattle.terms.specs.Fraction.{Fraction, whole, plus, limited, storedUnits, limitedStored}
 use Rattle.terms.specs.Terms.{limitedTerm, storedTerm}

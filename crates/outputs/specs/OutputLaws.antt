@@ -1,4 +1,5 @@
--- How large the numbers of step 6 are; what is remembered stays within -9999..9999, and the stored output within 0..9999 units.
+-- How large the numbers of step 6 are; what is remembered stays within -9999..9999, and the stored
+-- output within 0..9999 units.
 use mathlib.Core.Path.{_≡_, refl}
 use mathlib.Core.Bool.{Bool, true, false, not, _&&_}
 use Prim.Native.Nat.{ℕ, _+_, _≤_, min}
@@ -17,8 +18,8 @@ use Rattle.modes.specs.Modes.{isLimiting, isAutoOrFallback}
 use Rattle.modes.specs.declared.Mode.{Mode}
 use Rattle.modes.specs.declared.Mode.the-variants.{Hold, Track, Forced, Manual, Auto, Remote, Ratio, Fallback}
 use Rattle.parameters.specs.Legal.{Legal}
-use Rattle.parameters.specs.LegalLaws.{ranges}
-use Rattle.parameters.specs.Table.{H1, L1, HO, LO, XP, TI, TD}
+use Rattle.parameters.specs.LegalLaws.{ranges, value-most}
+use Rattle.parameters.specs.Table.{H1, L1, HO, LO, XP}
 use Rattle.parameters.specs.declared.Parameters.{Parameters}
 use Rattle.setpoints.specs.ComputationLaws.{Reading}
 use Rattle.setpoints.specs.declared.Readings.{Readings}
@@ -80,12 +81,14 @@ deviation-most inverse sp pv h k =
     (λ e. omega (arith, difference pv sp, number pv, number sp, h .reading, k .reading))
     (λ e. omega (arith, difference sp pv, number pv, number sp, h .reading, k .reading))
 
-pub earlier-reading : (s : Switches) (mode : Mode) (r : Readings) (past : Past) → ReadingsRange r → PastRange past → Reading (earlierSetpoint s mode r past)
+pub earlier-reading : (s : Switches) (mode : Mode) (r : Readings) (past : Past) → ReadingsRange r → PastRange past →
+    Reading (earlierSetpoint s mode r past)
 unfolding earlierSetpoint
 earlier-reading s mode r past n k =
     by-cases Reading (isAutoOrFallback mode && not (s .balanceoff)) (r .sp) (past .sp) (λ e. n .sp-read) (λ e. k .sp-read)
 
-pub change-most : (s : Switches) (mode : Mode) (r : Readings) (past : Past) → ReadingsRange r → PastRange past → natAbs (changeOfDeviation s mode r past) ≤ 39996
+pub change-most : (s : Switches) (mode : Mode) (r : Readings) (past : Past) → ReadingsRange r → PastRange past →
+    natAbs (changeOfDeviation s mode r past) ≤ 39996
 unfolding changeOfDeviation
 change-most s mode r past n k =
     let now = deviation (s .inverseoutput) (r .sp) (r .pv) in
@@ -127,11 +130,14 @@ tuning-range p s legal =
     let w = H1 p -ℤ L1 p in
     record {
       xp-some = omega (arith, integers, r .band .not-below, number (XP p));
-      xp-most = omega (arith, integers, r .band .not-below, r .band .not-above, number (XP p), apart (XP p));
+      xp-most = value-most p legal 17 (omega arith) (omega arith);
       span-some = omega (arith, integers, r .span1, difference (H1 p) (L1 p), number w, apart w);
-      span-most = omega (arith, integers, r .channel1 .not-below, r .channel1 .not-above, r .span1, difference (H1 p) (L1 p), number w, number (H1 p), number (L1 p), apart (H1 p), apart (L1 p), apart w);
-      ti-most = omega (arith, integers, r .integral-time .not-below, r .integral-time .not-above, number (TI p), apart (TI p));
-      td-most = omega (arith, integers, r .derivative-time .not-below, r .derivative-time .not-above, number (TD p), apart (TD p));
+      span-most =
+          let high = value-most p legal 1 (omega arith) (omega arith) in
+          let low = value-most p legal 2 (omega arith) (omega arith) in
+          omega (arith, difference (H1 p) (L1 p), number (H1 p), number (L1 p), high, low);
+      ti-most = value-most p legal 18 (omega arith) (omega arith);
+      td-most = value-most p legal 19 (omega arith) (omega arith);
     }
 
 -- ---- the stored output
@@ -147,25 +153,29 @@ stored-small x h = record { small = omega (arith, stored-most x h) }
 pub stored-back : {x : ℤ} → OutputRange x → toZ w64 (ofZ w64 x) ≡ x
 stored-back {x} h = back w64 x (omega (arith, stored-most x h, number x))
 
-pub limited-choice : (t : Bool) (low high x : ℤ) → (if t then limitedStored low high x else x) ≡ limitedTo storedArithmetic (if t then between low high else unlimited) x
+pub limited-choice : (t : Bool) (low high x : ℤ) →
+    (if t then limitedStored low high x else x) ≡ limitedTo storedArithmetic (if t then between low high else unlimited) x
 unfolding limitedTo storedArithmetic
 limited-choice true low high x = refl
 limited-choice false low high x = refl
 
 module _ (p : Parameters) (legal : Legal p) where
   pub low-limit-most : natAbs (LO p) ≤ 65535
-  low-limit-most = let r = ranges p legal in omega (arith, integers, r .outputs .not-below, r .outputs .order, r .outputs .not-above, number (LO p), apart (LO p))
+  low-limit-most = omega (arith, value-most p legal 16 (omega arith) (omega arith))
 
   pub high-limit-most : natAbs (HO p) ≤ 65535
-  high-limit-most = let r = ranges p legal in omega (arith, integers, r .outputs .not-below, r .outputs .order, r .outputs .not-above, number (HO p), apart (HO p))
+  high-limit-most = omega (arith, value-most p legal 15 (omega arith) (omega arith))
 
 pub minimum-most : (p : Parameters) (s : Switches) → Legal p → natAbs (minimumOf p s) ≤ 65535
 unfolding minimumOf
-minimum-most p s legal = by-cases (λ (z : ℤ). natAbs z ≤ 65535) (s .displayinversion) (HO p) (LO p) (λ e. high-limit-most p legal) (λ e. low-limit-most p legal)
+minimum-most p s legal =
+    by-cases (λ (z : ℤ). natAbs z ≤ 65535) (s .displayinversion) (HO p) (LO p) (λ e. high-limit-most p legal) (λ e. low-limit-most p legal)
 
-pub restarted-most : (p : Parameters) (s : Switches) (tominimum : Bool) (op : ℕ) → Legal p → op ≤ 65535 → natAbs (restartedTo p s tominimum op) ≤ 65535
+pub restarted-most : (p : Parameters) (s : Switches) (tominimum : Bool) (op : ℕ) → Legal p → op ≤ 65535 →
+    natAbs (restartedTo p s tominimum op) ≤ 65535
 unfolding restartedTo
-restarted-most p s tominimum op legal h = by-cases (λ (z : ℤ). natAbs z ≤ 65535) tominimum (minimumOf p s) (pos op) (λ e. minimum-most p s legal) (λ e. h)
+restarted-most p s tominimum op legal h =
+    by-cases (λ (z : ℤ). natAbs z ≤ 65535) tominimum (minimumOf p s) (pos op) (λ e. minimum-most p s legal) (λ e. h)
 
 -- ---- sums and differences of bounded numbers
 
@@ -206,7 +216,10 @@ stored-order a b h = omega (arith, integers, product a (pos 65536), product b (p
 pub limited-in-units : (low high x : ℤ) → low ≤ℤ high → InUnits low high (limitedStored low high x)
 unfolding limitedStored
 limited-in-units low high x h =
-    record { not-below = limited-low (storedUnits low) (storedUnits high) x (stored-order low high h); not-above = limited-high (storedUnits low) (storedUnits high) x }
+    record {
+      not-below = limited-low (storedUnits low) (storedUnits high) x (stored-order low high h);
+      not-above = limited-high (storedUnits low) (storedUnits high) x;
+    }
 
 in-units-stored : (low high x : ℤ) → pos 0 ≤ℤ low → high ≤ℤ pos 9999 → InUnits low high x → OutputRange x
 unfolding storedUnits
@@ -217,11 +230,16 @@ in-units-stored low high x h k w =
 
 units-stored : (n : ℕ) → n ≤ 9999 → OutputRange (storedUnits (pos n))
 unfolding storedUnits
-units-stored n h = record { not-below = omega (arith, integers, product (pos n) (pos 65536)); not-above = omega (arith, integers, product (pos n) (pos 65536), h) }
+units-stored n h =
+    record {
+      not-below = omega (arith, integers, product (pos n) (pos 65536));
+      not-above = omega (arith, integers, product (pos n) (pos 65536), h);
+    }
 
 module _ (p : Parameters) (legal : Legal p) where
   -- outside Hold and Track
-  pub output-in-units : (mode : Mode) (y : ℤ) → isLimiting mode ≡ true → InUnits (LO p) (HO p) (limitedTo storedArithmetic (limitsIn mode p) y)
+  pub output-in-units : (mode : Mode) (y : ℤ) → isLimiting mode ≡ true →
+      InUnits (LO p) (HO p) (limitedTo storedArithmetic (limitsIn mode p) y)
   unfolding limitsIn limitedTo storedArithmetic
   output-in-units mode y e = rw e (limited-in-units (LO p) (HO p) y (ranges p legal .outputs .order))
 
@@ -250,16 +268,19 @@ module _ (p : Parameters) (legal : Legal p) where
   stored-in Ratio x r h output k = limited-stored Ratio _ refl
   stored-in Fallback x r h output k = limited-stored Fallback _ refl
 
-  pub output-stored : (x : Context) (r : Readings) (h : History) (output : ℤ) → OutputRange output → OutputRange (executed storedArithmetic (instructionOf p x r h) output)
+  pub output-stored : (x : Context) (r : Readings) (h : History) (output : ℤ) → OutputRange output →
+      OutputRange (executed storedArithmetic (instructionOf p x r h) output)
   unfolding executed instructionOf
   output-stored x r h output k = stored-in (x .mode) x r h output k
 
   -- after a restart
-  pub restart-in-units : (s : Switches) (tominimum : Bool) (op : ℕ) (output : ℤ) → InUnits (LO p) (HO p) (executed storedArithmetic (restartInstruction p s tominimum op) output)
+  pub restart-in-units : (s : Switches) (tominimum : Bool) (op : ℕ) (output : ℤ) →
+      InUnits (LO p) (HO p) (executed storedArithmetic (restartInstruction p s tominimum op) output)
   unfolding executed restartInstruction limitedTo storedArithmetic
   restart-in-units s tominimum op output = limited-in-units (LO p) (HO p) _ (ranges p legal .outputs .order)
 
-  pub restart-stored : (s : Switches) (tominimum : Bool) (op : ℕ) (output : ℤ) → OutputRange (executed storedArithmetic (restartInstruction p s tominimum op) output)
+  pub restart-stored : (s : Switches) (tominimum : Bool) (op : ℕ) (output : ℤ) →
+      OutputRange (executed storedArithmetic (restartInstruction p s tominimum op) output)
   restart-stored s tominimum op output =
       let r = ranges p legal in
       in-units-stored (LO p) (HO p) _ (r .outputs .not-below) (r .outputs .not-above) (restart-in-units s tominimum op output)

@@ -30,8 +30,8 @@ adjusted Raise = moveBy (pos 12)
 adjusted Lower = moveBy (negℤ (pos 12))
 adjusted Neither = keep
 
--- "Manual and Forced: one of Raise, Lower without SP moves it 12 units; but on the 85th open scan, if the mode just before this scan was automatic
--- and S2.5 is ON, it goes to minimum instead."
+-- "Manual and Forced: one of Raise, Lower without SP moves it 12 units; but on the 85th open scan, if
+-- the mode just before this scan was automatic and S2.5 is ON, it goes to minimum instead."
 unfoldable pub byHand : Parameters → Context → Change
 byHand p x =
     let b = buttonsOf (x .input .buttons) in
@@ -70,11 +70,13 @@ limitsIn mode p = if isLimiting mode then between (LO p) (HO p) else unlimited
 unfoldable pub instructionOf : Parameters → Context → Readings → History → Instruction
 instructionOf p x r h = record { change = changeIn (x .mode) p x r h; limits = limitsIn (x .mode) p }
 
--- ---- a write: "HO or LO limits the output unless the mode is Hold or Track", numbers 15 and 16, to the limits as they are now
+-- ---- a write: "HO or LO limits the output unless the mode is Hold or Track", numbers 15 and 16, to
+-- the limits as they are now
 unfoldable pub limitsWritten : ℕ → Mode → Parameters → Limits
 limitsWritten n mode p = if isFrom n 15 16 then limitsIn mode p else unlimited
 
--- ---- a restart: it "takes the rest, OP limited to LO..HO; S2.5 ON makes the request Manual and OP minimum", and so does a wrong sumcheck
+-- ---- a restart: it "takes the rest, OP limited to LO..HO; S2.5 ON makes the request Manual and OP
+-- minimum", and so does a wrong sumcheck
 
 unfoldable pub restartedTo : Parameters → Switches → Bool → ℕ → ℤ
 restartedTo p s tominimum op = if tominimum then minimumOf p s else pos op

@@ -1,4 +1,5 @@
-// Step 6 of a scan: the output in each mode, the terms and what they are made of, the limits; and what is remembered of earlier scans.
+// Step 6 of a scan: the output in each mode, the terms and what they are made of, the limits; and what
+// is remembered of earlier scans.
 ghost use mathlib.Core.Path.{_≡_};
 ghost use Prim.Native.Nat.{_≤_, min};
 ghost use lib.IntN.{natAbs, pos};
@@ -10,7 +11,8 @@ ghost use Rattle.outputs.specs.Deviation.{deviation, earlierSetpoint, ch
 ghost use Rattle.outputs.specs.History.{remembered, historyAfter, recalled};
 ghost use Rattle.outputs.specs.Instruction.{storedArithmetic, changed, limitedTo, executed};
 ghost use Rattle.outputs.specs.OutputLaws.{ReadingsRange, HistoryRange, PastRange, OutputRange};
-ghost use Rattle.outputs.specs.Outputs.{minimumOf, adjusted, byHand, termsOf, byTerms, changeIn, limitsIn, instructionOf, limitsWritten};
+ghost use Rattle.outputs.specs.Outputs.{minimumOf, adjusted, byHand, termsOf, byTerms};
+ghost use Rattle.outputs.specs.Outputs.{changeIn, limitsIn, instructionOf, limitsWritten};
 use modes::Mode;
 use parameters::Parameters;
 use setpoints::Readings;
@@ -48,7 +50,8 @@ pub struct Past {
     pub before: i64,
 }
 
-// What a scan is computed by: the switches, its mode, whether it goes to minimum in Manual or Forced Manual, and its input.
+// What a scan is computed by: the switches, its mode, whether it goes to minimum in Manual or Forced
+// Manual, and its input.
 pub struct Context {
     pub switches: Switches,
     pub mode: Mode,
@@ -153,7 +156,8 @@ fn tuning_of(p: Parameters, s: Switches) -> Tuning
     }
 }
 
-// The output with the three terms added, each limited and rounded by itself. The contract rules out an output that never moves.
+// The output with the three terms added, each limited and rounded by itself. The contract rules out an
+// output that never moves.
 fn with_terms(p: Parameters, x: Context, r: Readings, h: History, output: i64) -> i64
     requires { ⌜ Legal p × ReadingsRange r × HistoryRange h × OutputRange output ⌝ }
     ensures { λ n. ⌜ n ≡ changed storedArithmetic (termsOf p x r h) output ⌝ }
@@ -281,8 +285,8 @@ fn limited_in(mode: Mode, p: Parameters, output: i64) -> i64
     integers::choose(limiting, within, output)
 }
 
-// The stored output after an accepted scan. The contract rules out an output limited in Hold, one that is not limited elsewhere, one that
-// never moves, and one that repeats an earlier one.
+// The stored output after an accepted scan. The contract rules out an output limited in Hold, one that
+// is not limited elsewhere, one that never moves, and one that repeats an earlier one.
 pub fn output_after(p: Parameters, x: Context, r: Readings, h: History, output: i64) -> i64
     requires { ⌜ Legal p × ReadingsRange r × HistoryRange h × OutputRange output ⌝ }
     ensures { λ n. ⌜ n ≡ executed storedArithmetic (instructionOf p x r h) output ⌝ }
@@ -292,8 +296,8 @@ pub fn output_after(p: Parameters, x: Context, r: Readings, h: History, output: 
     limited_in(mode, p, to)
 }
 
-// The stored output after an accepted write of the parameter with this number. The contract rules out an output that HO or LO limits in Hold or Track,
-// one that they leave outside elsewhere, and one that another write moves.
+// The stored output after an accepted write of the parameter with this number. The contract rules out an output
+// that HO or LO limits in Hold or Track, one that they leave outside elsewhere, and one that another write moves.
 pub fn output_written(number: u64, mode: Mode, p: Parameters, output: i64) -> i64
     requires { ⌜ Legal p ⌝ }
     ensures { λ n. ⌜ n ≡ limitedTo storedArithmetic (limitsWritten number mode p) output ⌝ }

@@ -1,5 +1,6 @@
 pub mod Legal
 pub mod LegalLaws
+pub mod PairLaws
 pub mod Range
 pub mod RuleLaws
 pub mod Table

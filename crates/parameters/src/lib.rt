@@ -22,7 +22,8 @@ pub enum Rule {
     Word(i64, i64),
     // a range alone, from least to most
     Free(i64, i64),
-    // a range, and an order: the upper one of a pair has the odd number and the lower one the next; strictly in order where true
+    // a range, and an order: the upper one of a pair has the odd number and the lower one the next;
+    // strictly in order where true
     Pair(i64, i64, bool),
     // between two other parameters, the lower and the upper one, named by their numbers
     Between(u64, u64),

@@ -79,8 +79,8 @@ remoteSetpoint p trim i = scaled (L1 p) (H1 p) (i .sample2) +ℤ trim
 abbrev pub quotientOf : Bool → ℤ → ℕ → ℤ
 quotientOf inverse q s = if inverse then inverseQuotient q s else ratioQuotient q s
 
--- "In Ratio s is the sum RS + trim, that sum limited to LR..HR" and so 1 or more, "q is channel 2 scaled by 2L, 2H, and SP is 100 × q / s + RB, or with
--- S2.3 ON q × s / 100 + RB"; the quotient is rounded before RB is added
+-- "In Ratio s is the sum RS + trim, that sum limited to LR..HR" and so 1 or more, "q is channel 2 scaled by 2L,
+-- 2H, and SP is 100 × q / s + RB, or with S2.3 ON q × s / 100 + RB"; the quotient is rounded before RB is added
 unfoldable pub ratioSetpoint : Parameters → Bool → ℤ → ℤ → Input → ℤ
 ratioSetpoint p inverse rs trim i =
     let q = scaled (L2 p) (H2 p) (i .sample2) in

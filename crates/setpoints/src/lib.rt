@@ -9,7 +9,9 @@ ghost use Rattle.parameters.specs.Legal.{Legal};
 ghost use Rattle.parameters.specs.Table.{value, HS, LS};
 ghost use Rattle.setpoints.specs.Computation.{computed, lowAlarm, highAlarm};
 ghost use Rattle.setpoints.specs.ComputationLaws.{SampleRange};
-ghost use Rattle.setpoints.specs.Setpoints.{firstSample, processVariable, thirdChannel, moved, movedByHand, ratioAfter, setpointMoved, setpointAfter, trimOf, localSetpoint, remoteSetpoint, quotientOf, ratioSetpoint, setpointIn, measuredPower};
+ghost use Rattle.setpoints.specs.Setpoints.{firstSample, processVariable, thirdChannel, moved, movedByHand};
+ghost use Rattle.setpoints.specs.Setpoints.{ratioAfter, setpointMoved, setpointAfter, trimOf, localSetpoint};
+ghost use Rattle.setpoints.specs.Setpoints.{remoteSetpoint, quotientOf, ratioSetpoint, setpointIn, measuredPower};
 use modes::Mode;
 use parameters::Parameters;
 use signals::Adjustment;
@@ -234,8 +236,8 @@ fn measured_power(p: Parameters, measuredpower: bool, input: Input) -> i64
     integers::choose(measuredpower, third, 0)
 }
 
-// Steps 1, 4 and 5 of an accepted scan in this mode. The contract rules out a rule of another mode, a limit left out, a trim added twice, and
-// any other parameter changed.
+// Steps 1, 4 and 5 of an accepted scan in this mode. The contract rules out a rule of another mode, a
+// limit left out, a trim added twice, and any other parameter changed.
 pub fn compute(
     p: Parameters,
     s: Switches,

@@ -83,7 +83,8 @@ isSumRight vs = eqb (getD vs 27 0) (sumOf (take 27 vs))
 -- "Legal: .. OP 0..9999, request 0..2, fault 0 or 1 and 1 only with request 0, 44h 0..7."
 unfoldable pub areOthersLegal : List ℕ → Bool
 areOthersLegal vs =
-    leb (getD vs 23 0) 9999 && leb (getD vs 24 0) 2 && (leb (getD vs 25 0) 1 && (eqb (getD vs 25 0) 0 || eqb (getD vs 24 0) 0)) && leb (getD vs 26 0) 7
+    leb (getD vs 23 0) 9999 && leb (getD vs 24 0) 2 && (leb (getD vs 25 0) 1 && (eqb (getD vs 25 0) 0 || eqb (getD vs 24 0) 0))
+    && leb (getD vs 26 0) 7
 
 -- under a wrong sumcheck "an illegal 44h is 0"
 unfoldable pub legalUserBits : List ℕ → UserBits

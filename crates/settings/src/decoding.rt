@@ -1,7 +1,8 @@
 // The settings that the values of an image hold, and whether these are legal but for the parameters.
 ghost use mathlib.Core.Path.{_≡_};
 ghost use Prim.Native.Nat.{_≤_};
-ghost use Rattle.settings.specs.Settings.{requestIn, userBitsIn, parameterIn, parametersIn, settingsIn, isSumRight, areOthersLegal, legalUserBits};
+ghost use Rattle.settings.specs.Settings.{requestIn, userBitsIn, parameterIn, parametersIn};
+ghost use Rattle.settings.specs.Settings.{settingsIn, isSumRight, areOthersLegal, legalUserBits};
 use crate::Settings;
 use modes::Request;
 use parameters::Parameters;
@@ -30,7 +31,8 @@ fn user_bits_in(value: u16) -> UserBits
     }
 }
 
-// User bits and MD bit 4 under a wrong sumcheck: an illegal 44h is 0. The contract rules out that some of its bits are kept.
+// User bits and MD bit 4 under a wrong sumcheck: an illegal 44h is 0. The contract rules out that some
+// of its bits are kept.
 pub fn legal_user_bits(values: [u16; fields::FIELD_COUNT]) -> UserBits
     ensures { λ r. ⌜ r ≡ legalUserBits values ⌝ }
 {
@@ -90,7 +92,8 @@ pub fn is_sum_right(values: [u16; fields::FIELD_COUNT]) -> bool
     values[fields::SUMCHECK] == fields::sumcheck(values)
 }
 
-// Whether OP, request, fault and 44h are legal. The contract rules out a fault with another request than Manual, and ends that are off by one.
+// Whether OP, request, fault and 44h are legal. The contract rules out a fault with another request
+// than Manual, and ends that are off by one.
 pub fn are_others_legal(values: [u16; fields::FIELD_COUNT]) -> bool
     ensures { λ r. ⌜ r ≡ areOthersLegal values ⌝ }
 {

@@ -103,7 +103,8 @@ impl Settings {
     // Encodes the image in the caller's buffer. The contract gives the verdict and every byte of the buffer.
     pub fn save(self, buffer: &mut [u8]) -> Verdict
         requires { ⌜ Legal (self .parameters) ⌝ }
-        ensures { λ r. ⌜ (numberIn r ≡ refusedBy (saveTests (now (buffer .entry)))) × (now (buffer .exit) ≡ savedIn (imageOf self) (now (buffer .entry))) ⌝ }
+        ensures { λ r. ⌜ (numberIn r ≡ refusedBy (saveTests (now (buffer .entry))))
+            × (now (buffer .exit) ≡ savedIn (imageOf self) (now (buffer .entry))) ⌝ }
     {
         let values = self.values();
         fields::save(values, buffer)

@@ -1,12 +1,15 @@
-// Document 01's three terms: each an exact fraction, limited to ±10,000 units, and then the nearest whole number of 1/65,536 units.
+// Document 01's three terms: each an exact fraction, limited to ±10,000 units, and then the nearest
+// whole number of 1/65,536 units.
 ghost use mathlib.Core.Path.{_≡_};
 ghost use Prim.Native.Nat.{_≤_, _*_};
 ghost use lib.IntN.{natAbs};
 ghost use Rattle.integers.specs.Sign.{fromSign};
-ghost use Rattle.terms.specs.Terms.{storedTerm, proportionalTerm, integralTerm, derivativeTerm, scanNumerator, scanDenominator, TuningRange};
+ghost use Rattle.terms.specs.Terms.{storedTerm, proportionalTerm, integralTerm, derivativeTerm};
+ghost use Rattle.terms.specs.Terms.{scanNumerator, scanDenominator, TuningRange};
 ghost use Rattle.terms.specs.TermLaws.{over, turned, Storable};
 
-// What the terms are computed with: XP; W = 1H - 1L, which is above zero; TI; TD; S2.8 ON, minutes; S2.4 ON, inverse output.
+// What the terms are computed with: XP; W = 1H - 1L, which is above zero; TI; TD; S2.8 ON, minutes;
+// S2.4 ON, inverse output.
 pub struct Tuning {
     pub xp: u64,
     pub span: u64,
@@ -36,8 +39,8 @@ const MINUTES_NUMERATOR: u64 = 3;
 
 const MINUTES_DENOMINATOR: u64 = 500;
 
-// The stored term of the fraction numerator / denominator, or of its negative. The fraction is limited by its whole part first, since
-// 65,536 times an unlimited numerator need not fit 64 bits.
+// The stored term of the fraction numerator / denominator, or of its negative. The fraction is limited
+// by its whole part first, since 65,536 times an unlimited numerator need not fit 64 bits.
 fn stored_term(minus: bool, numerator: u64, denominator: u64) -> i64
     requires { ⌜ Storable numerator denominator ⌝ }
     ensures { λ r. ⌜ r ≡ storedTerm (over (fromSign minus numerator) denominator) ⌝ }
@@ -86,8 +89,8 @@ fn turn(keep: bool, minus: bool) -> bool
     if keep { minus } else { !minus }
 }
 
-// The proportional term of a change c - c1. PV and SP lie in -9999..9999, so c in -19998..19998 and the change in -39996..39996.
-// The contract rules out a term of the wrong sign, one that is cut, and one whose limit is off.
+// The proportional term of a change c - c1. PV and SP lie in -9999..9999, so c in -19998..19998 and the change in
+// -39996..39996. The contract rules out a term of the wrong sign, one that is cut, and one whose limit is off.
 pub fn proportional(t: Tuning, change: i64) -> i64
     requires { ⌜ TuningRange t × (natAbs change ≤ 39996) ⌝ }
     ensures { λ r. ⌜ r ≡ storedTerm (proportionalTerm t change) ⌝ }
@@ -110,8 +113,9 @@ pub fn integral(t: Tuning, c: i64) -> i64
     stored_term(integers::negative(c), numerator, denominator)
 }
 
-// The derivative term of D, which is PV - 2 × previous PV + the one before and so lies in -39996..39996. Its sign is turned unless S2.4 is ON.
-// The contract rules out that sign kept, seconds for minutes, and what that of `proportional` does.
+// The derivative term of D, which is PV - 2 × previous PV + the one before and so lies in
+// -39996..39996. Its sign is turned unless S2.4 is ON. The contract rules out that sign kept, seconds
+// for minutes, and what that of `proportional` does.
 pub fn derivative(t: Tuning, d: i64) -> i64
     requires { ⌜ TuningRange t × (natAbs d ≤ 39996) ⌝ }
     ensures { λ r. ⌜ r ≡ storedTerm (derivativeTerm t d) ⌝ }

@@ -43,7 +43,8 @@ array-read-encode-field c = search needs
 encode-field-requires : tie.Need-encode-field-requires Inv-loop μ-loop
 encode-field-requires c κs = let l = c .before .before .before .before .loop in
     let start = c .before .before .before .before .before .before in
-    room-for (l .buffer) (l .start) (l .place) (c .before .before .length-of .result) (omega (arith, l .inv .same, start .pre)) (l .inv .begins)
+    room-for (l .buffer) (l .start) (l .place) (c .before .before .length-of .result) (omega (arith, l .inv .same, start .pre))
+    (l .inv .begins)
     (c .before .before .before .loop-test .taken) (c .before .before .length-of .ensures)
 
 add-start : tie.Need-add-start Inv-loop μ-loop
@@ -65,8 +66,10 @@ loop-again : tie.Need-loop-again Inv-loop μ-loop
 loop-again c = let l = c .before .before .before .before .before .before .before .loop in
     let start = c .before .before .before .before .before .before .before .before .before in
     encoded-next (start .args .t1) (start .args .buffer .now) (l .buffer) (c .before .before .encode-field .last .0) (l .start) (l .place)
-    (c .before .before .before .tag-of .result) (c .before .before .before .before .before .length-of .result) (start .good .0 .1 .0 .1) (start .pre) (l .inv) (c .before .before .before .before .before .before .loop-test .taken)
-    (c .before .before .before .tag-of .ensures) (c .before .before .before .before .before .length-of .ensures) (c .before .buffer .given .1) (c .before .before .encode-field .ensures)
+    (c .before .before .before .tag-of .result) (c .before .before .before .before .before .length-of .result) (start .good .0 .1 .0 .1)
+    (start .pre) (l .inv) (c .before .before .before .before .before .before .loop-test .taken)
+    (c .before .before .before .tag-of .ensures) (c .before .before .before .before .before .length-of .ensures)
+    (c .before .buffer .given .1) (c .before .before .encode-field .ensures)
 
 same-length : tie.Need-same-length Inv-loop μ-loop
 same-length c = c .before .loop .inv .same
@@ -74,7 +77,8 @@ same-length c = c .before .loop .inv .same
 returns : tie.Need-returns Inv-loop μ-loop
 returns c = let start = c .before .before .before in
     let l = c .before .loop in
-    encoded-whole (start .args .t1) (start .args .buffer .now) (l .buffer) (l .start) (l .place) (start .good .0 .1 .0 .1) (l .inv) (c .loop-test .left)
+    encoded-whole (start .args .t1) (start .args .buffer .now) (l .buffer) (l .start) (l .place) (start .good .0 .1 .0 .1) (l .inv)
+    (c .loop-test .left)
 
 pub encode-spec : {M : Type 1} → statement M
 encode-spec =

@@ -18,7 +18,10 @@ same-length c = search needs
 
 returns-2 : tie.Need-returns-2
 unfolding refusedBy saveTests savedIn
-returns-2 c = (simp (le-ltb _ _ (c .before .before .before .before .if1 .left)), simp (le-leb _ _ (c .before .before .before .before .if1 .left)) (c .before .before .encode .ensures))
+returns-2 c = (
+  simp (le-ltb _ _ (c .before .before .before .before .if1 .left)),
+  simp (le-leb _ _ (c .before .before .before .before .if1 .left)) (c .before .before .encode .ensures),
+)
 
 pub save-spec : {M : Type 1} → statement M
 save-spec = tie.close (tie.spec returns encode-requires same-length returns-2)

@@ -28,20 +28,25 @@ deviation-requires-2 : tie.Need-deviation-requires-2
 deviation-requires-2 c κs =
     let start = c .before .before .before .before .before in
     let past = start .pre .1 in
-    simp (earlier-is (c .before), reading-back (past .pv-read))
-    (reading-small _ (earlier-reading (start .args .s) (start .args .mode) (start .args .r) (start .args .past) (start .pre .0) past), reading-small _ (past .pv-read))
+    simp (earlier-is (c .before), reading-back (past .pv-read)) (
+      reading-small _ (earlier-reading (start .args .s) (start .args .mode) (start .args .r) (start .args .past) (start .pre .0) past),
+      reading-small _ (past .pv-read),
+    )
 
 now-is : (c : tie.After-deviation) → let a = c .before .before .before .args in
     toZ w64 (ofZ w64 (c .deviation .result)) ≡ deviation (a .s .inverseoutput) (a .r .sp) (a .r .pv)
 now-is c =
     let read = c .before .before .before .pre .0 in
-    back w64 (c .deviation .result) (c .deviation .ok) ∙ c .deviation .ensures ∙ simp (reading-back (read .sp-read), reading-back (read .pv-read))
+    back w64 (c .deviation .result) (c .deviation .ok) ∙ c .deviation .ensures ∙
+    simp (reading-back (read .sp-read), reading-back (read .pv-read))
 
 then-is : (c : tie.After-deviation2) → let a = c .before .before .before .before .before .before .args in
-    toZ w64 (ofZ w64 (c .deviation2 .result)) ≡ deviation (a .s .inverseoutput) (earlierSetpoint (a .s) (a .mode) (a .r) (a .past)) (a .past .pv)
+    toZ w64 (ofZ w64 (c .deviation2 .result))
+    ≡ deviation (a .s .inverseoutput) (earlierSetpoint (a .s) (a .mode) (a .r) (a .past)) (a .past .pv)
 then-is c =
     let past = c .before .before .before .before .before .before .pre .1 in
-    back w64 (c .deviation2 .result) (c .deviation2 .ok) ∙ c .deviation2 .ensures ∙ simp (earlier-is (c .before .before), reading-back (past .pv-read))
+    back w64 (c .deviation2 .result) (c .deviation2 .ok) ∙ c .deviation2 .ensures ∙
+    simp (earlier-is (c .before .before), reading-back (past .pv-read))
 
 minus-requires : tie.Need-minus-requires
 minus-requires c κs =
@@ -51,12 +56,14 @@ minus-requires c κs =
     let past = start .pre .1 in
     simp (now-is (c .before .before .before), then-is c) (
       small-of (deviation-size (a .s .inverseoutput) (read .sp-read) (read .pv-read)) (omega arith),
-      small-of (deviation-size (a .s .inverseoutput) (earlier-reading (a .s) (a .mode) (a .r) (a .past) read past) (past .pv-read)) (omega arith),
+      small-of (deviation-size (a .s .inverseoutput) (earlier-reading (a .s) (a .mode) (a .r) (a .past) read past) (past .pv-read))
+          (omega arith),
     )
 
 returns : tie.Need-returns
 unfolding changeOfDeviation
-returns c = back w64 (c .minus .result) (c .minus .ok) ∙ c .minus .ensures ∙ simp (now-is (c .before .before .before .before), then-is (c .before))
+returns c =
+    back w64 (c .minus .result) (c .minus .ok) ∙ c .minus .ensures ∙ simp (now-is (c .before .before .before .before), then-is (c .before))
 
 pub change-of-deviation-spec : {M : Type 1} → statement M
 change-of-deviation-spec =

@@ -1,7 +1,8 @@
 -- `setpoints::compute` meets its contract.
 use mir.Syntax.{w64}
 use borrow.Author.Needs.{needs}
-use Rattle.setpoints.specs.ComputationLaws.{reading-small, setpoint-read, ratio-read, setpoint-inside, ratio-inside, trim-reading, pv-reading, setpoint-limited}
+use Rattle.setpoints.specs.ComputationLaws.{reading-small, setpoint-read, ratio-read, setpoint-inside}
+use Rattle.setpoints.specs.ComputationLaws.{ratio-inside, trim-reading, pv-reading, setpoint-limited}
 use Rattle.setpoints.specs.Setpoints.{setpointOf}
 use Rattle.integers.specs.Machine.{back}
 use Rattle.setpoints.specs.Computation.{computed}
@@ -46,8 +47,10 @@ minus-requires c κs =
     let start = c .before .before .before .before .before .before in
     let p = start .args .p in
     let legal = start .pre .0 in
-    simp (back w64 (sp .result) (sp .ok), back w64 (pv .result) (pv .ok))
-    (rw (pv .ensures) (reading-small _ (pv-reading p legal _ (start .pre .1))), rw (sp .ensures) (reading-small _ (setpoint-read p legal (setpoint-limited p legal _))))
+    simp (back w64 (sp .result) (sp .ok), back w64 (pv .result) (pv .ok)) (
+      rw (pv .ensures) (reading-small _ (pv-reading p legal _ (start .pre .1))),
+      rw (sp .ensures) (reading-small _ (setpoint-read p legal (setpoint-limited p legal _))),
+    )
 
 measured-power-requires : tie.Need-measured-power-requires
 measured-power-requires c κs = search needs
@@ -89,16 +92,34 @@ returns c =
     let setpoint-after = b5 .before .setpoint-after in
     let b6 = b5 .before .before in
     let process-variable = b6 .process-variable in
-    simp (back w64 (measured-power .result) (measured-power .ok), back w64 (minus .result) (minus .ok), back w64 (limited-setpoint .result) (limited-setpoint .ok), back w64 (process-variable .result) (process-variable .ok))
+    simp (
+      back w64 (measured-power .result) (measured-power .ok),
+      back w64 (minus .result) (minus .ok),
+      back w64 (limited-setpoint .result) (limited-setpoint .ok),
+      back w64 (process-variable .result) (process-variable .ok),
+    )
     (simp (with2 .ensures, back w64 (ratio-after .result) (ratio-after .ok))
     (simp (with-call .ensures, back w64 (choose .result) (choose .ok))
-    (simp (choose .ensures, back w64 (limited-setpoint .result) (limited-setpoint .ok), back w64 (setpoint-after .result) (setpoint-after .ok))
+    (simp (
+      choose .ensures,
+      back w64 (limited-setpoint .result) (limited-setpoint .ok),
+      back w64 (setpoint-after .result) (setpoint-after .ok),
+    )
     (simp (is-ratio .ensures)
     (simp (is-remote .ensures)
     (simp (measured-power .ensures)
-    (simp (minus .ensures, back w64 (limited-setpoint .result) (limited-setpoint .ok), back w64 (process-variable .result) (process-variable .ok))
+    (simp (
+      minus .ensures,
+      back w64 (limited-setpoint .result) (limited-setpoint .ok),
+      back w64 (process-variable .result) (process-variable .ok),
+    )
     (simp (limited-setpoint .ensures, back w64 (setpoint-in .result) (setpoint-in .ok))
-    (simp (setpoint-in .ensures, back w64 (trim-of .result) (trim-of .ok), back w64 (ratio-after .result) (ratio-after .ok), back w64 (setpoint-after .result) (setpoint-after .ok))
+    (simp (
+      setpoint-in .ensures,
+      back w64 (trim-of .result) (trim-of .ok),
+      back w64 (ratio-after .result) (ratio-after .ok),
+      back w64 (setpoint-after .result) (setpoint-after .ok),
+    )
     (simp (trim-of .ensures)
     (simp (ratio-after .ensures)
     (simp (setpoint-after .ensures, back w64 (process-variable .result) (process-variable .ok))

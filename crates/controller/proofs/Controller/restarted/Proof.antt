@@ -25,10 +25,14 @@ restarted-request-requires : tie.Need-restarted-request-requires
 restarted-request-requires c κs = search needs
 
 start-core-requires : tie.Need-start-core-requires
-start-core-requires c κs = subst (λ (s : Settings). Legal (s .parameters)) (sym (c .before .before .before .before .restored-settings .ensures)) (c .before .before .before .before .before .before .before .pre)
+start-core-requires c κs =
+    subst (λ (s : Settings). Legal (s .parameters)) (sym (c .before .before .before .before .restored-settings .ensures))
+    (c .before .before .before .before .before .before .before .pre)
 
 output-restarted-requires : tie.Need-output-restarted-requires
-output-restarted-requires c κs = subst (λ (s : Settings). Legal (s .parameters)) (sym (c .before .before .before .before .before .before .restored-settings .ensures)) (c .before .before .before .before .before .before .before .before .before .pre)
+output-restarted-requires c κs =
+    subst (λ (s : Settings). Legal (s .parameters)) (sym (c .before .before .before .before .before .before .restored-settings .ensures))
+    (c .before .before .before .before .before .before .before .before .before .pre)
 
 returns : tie.Need-returns
 unfolding controllerRestarted controllerAfter restartAccepted executed changed limitedTo restartInstruction storedArithmetic
@@ -37,7 +41,10 @@ returns c =
     simp (back w64 (o .output-restarted .result) (o .output-restarted .ok))
     (simp (o .before .before .start-core .ensures, o .output-restarted .ensures)
     (simp (o .before .before .before .restarted-request .ensures, o .before .before .before .before .is-sum-right .ensures)
-    (simp (o .before .before .before .before .before .before .before .restored-settings .ensures, o .before .before .before .before .before .before .before .before .switches-of .ensures))))
+    (simp (
+      o .before .before .before .before .before .before .before .restored-settings .ensures,
+      o .before .before .before .before .before .before .before .before .switches-of .ensures,
+    ))))
 
 pub restarted-spec : {M : Type 1} → statement M
 restarted-spec =

@@ -28,9 +28,12 @@ stepped-requires c κs = (c .before .before .before .pre, sampled (c .before .be
 words-requires : tie.Need-words-requires
 words-requires c κs =
     let start = c .before .before .before .before in
-    rw (c .stepped .ensures) (stepped-valid (start .args .self) (start .args .input) (start .pre) (sampled (start .args .input) (none-refuses (c .before))) .stored)
+    rw (c .stepped .ensures)
+    (stepped-valid (start .args .self) (start .args .input) (start .pre)
+    (sampled (start .args .input) (none-refuses (c .before))) .stored)
 
-some-refuses : (c : tie.After-verdict) → refusedBy (scanTests (c .before .before .before .args .input)) ≡ some (numberOf (c .verdict .given .0 .0))
+some-refuses : (c : tie.After-verdict) →
+    refusedBy (scanTests (c .before .before .before .args .input)) ≡ some (numberOf (c .verdict .given .0 .0))
 some-refuses c = sym (c .before .before .scan-verdict .ensures) ∙ ap numberIn (c .verdict .given .1)
 
 returns : tie.Need-returns

@@ -17,7 +17,8 @@ context-requires : tie.Need-context-requires
 context-requires c κs = search needs
 
 context-is : (c : tie.After-context) → let start = c .before .before .before .before .before .before in
-    c .context .result ≡ contextOf (start .args .self .core) (conditionsAfter counted (start .args .self .core .conditions) (start .args .input)) (start .args .input)
+    c .context .result ≡ contextOf (start .args .self .core)
+    (conditionsAfter counted (start .args .self .core .conditions) (start .args .input)) (start .args .input)
 context-is c = simp (c .context .ensures) (simp (c .before .after .ensures))
 
 compute-requires : tie.Need-compute-requires

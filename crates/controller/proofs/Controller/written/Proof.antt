@@ -19,7 +19,8 @@ written-requires c κs = search needs
 
 output-written-requires : tie.Need-output-written-requires
 output-written-requires c κs = let start = c .before .before .before .before .before in
-    rw (c .before .written .ensures, toZ-ofZ (start .fits .v)) (core-legal (start .args .self .core) (start .args .number) (start .args .v) (start .pre .0 .legal) (start .pre .1))
+    rw (c .before .written .ensures, toZ-ofZ (start .fits .v))
+    (core-legal (start .args .self .core) (start .args .number) (start .args .v) (start .pre .0 .legal) (start .pre .1))
 
 returns : tie.Need-returns
 unfolding controllerWritten controllerAfter writeAccepted executed changed

@@ -23,7 +23,9 @@ returns c = simp (c .setpoint-verdict .ensures, c .before .match .keys1)
 
 returns-2 : tie.Need-returns-2
 unfolding stateTests
-returns-2 c = simp (c .md-verdict .ensures, c .before .match .keys2) (simp (c .before .before .word-of .ensures, toZ-ofZ (c .before .before .before .before .fits .v)))
+returns-2 c =
+    simp (c .md-verdict .ensures, c .before .match .keys2)
+    (simp (c .before .before .word-of .ensures, toZ-ofZ (c .before .before .before .before .fits .v)))
 
 returns-3 : tie.Need-returns-3
 unfolding stateTests refusedBy

@@ -21,7 +21,8 @@ is-unknown-requires c κs = search needs
 unknown-is : (c : tie.After-is-unknown) → isUnknown (ruleOf (c .before .before .before .args .number)) ≡ c .is-unknown .result
 unknown-is c = simp (c .is-unknown .ensures) (simp (c .before .rule .ensures))
 
-read-only-is : (c : tie.After-is-read-only) → isReadOnly (ruleOf (c .before .before .before .before .before .args .number)) ≡ c .is-read-only .result
+read-only-is : (c : tie.After-is-read-only) →
+    isReadOnly (ruleOf (c .before .before .before .before .before .args .number)) ≡ c .is-read-only .result
 read-only-is c = simp (c .is-read-only .ensures) (simp (c .before .before .before .rule .ensures))
 
 in-range-is : (c : tie.After-in-range) → let start = c .before .before .before .before .before .before .before in
@@ -31,10 +32,12 @@ in-range-is c =
     simp (c .in-range .ensures, toZ-ofZ (start .fits .v)) (simp (c .before .before .before .before .before .rule .ensures))
 
 pair-is : (c : tie.After-pair-in-order) → let start = c .before .before .before .before .before .before .before .before .before in
-    pairInOrder (ruleOf (start .args .number)) (value (start .args .self .parameters)) (start .args .number) (start .args .v) ≡ c .pair-in-order .result
+    pairInOrder (ruleOf (start .args .number)) (value (start .args .self .parameters)) (start .args .number) (start .args .v)
+    ≡ c .pair-in-order .result
 pair-is c =
     let start = c .before .before .before .before .before .before .before .before .before in
-    simp (c .pair-in-order .ensures, toZ-ofZ (start .fits .v)) (simp (c .before .before .before .before .before .before .before .rule .ensures))
+    simp (c .pair-in-order .ensures, toZ-ofZ (start .fits .v))
+    (simp (c .before .before .before .before .before .before .before .rule .ensures))
 
 returns : tie.Need-returns
 unfolding refusedBy writeTests
@@ -52,10 +55,17 @@ in-range-requires c κs = search needs
 
 returns-3 : tie.Need-returns-3
 unfolding refusedBy writeTests
-returns-3 c = simp (unknown-is (c .before .before .before .before .before) ∙ c .before .before .before .before .if1 .left, read-only-is (c .before .before .before) ∙ c .before .before .if2 .left, ap not (in-range-is (c .before)) ∙ c .if3 .taken)
+returns-3 c =
+    simp (
+      unknown-is (c .before .before .before .before .before) ∙ c .before .before .before .before .if1 .left,
+      read-only-is (c .before .before .before) ∙ c .before .before .if2 .left,
+      ap not (in-range-is (c .before)) ∙ c .if3 .taken,
+    )
 
 pair-in-order-requires : tie.Need-pair-in-order-requires
-pair-in-order-requires c κs = known (c .before .before .before .before .before .before .before .before .args .number) (unknown-is (c .before .before .before .before .before) ∙ c .before .before .before .before .if1 .left)
+pair-in-order-requires c κs =
+    known (c .before .before .before .before .before .before .before .before .args .number)
+    (unknown-is (c .before .before .before .before .before) ∙ c .before .before .before .before .if1 .left)
 
 returns-4 : tie.Need-returns-4
 unfolding refusedBy writeTests
@@ -74,7 +84,8 @@ returns-5 : tie.Need-returns-5
 unfolding refusedBy writeTests
 returns-5 c =
     simp (
-      unknown-is (c .before .before .before .before .before .before .before .before) ∙ c .before .before .before .before .before .before .before .if1 .left,
+      unknown-is (c .before .before .before .before .before .before .before .before) ∙
+          c .before .before .before .before .before .before .before .if1 .left,
       read-only-is (c .before .before .before .before .before .before) ∙ c .before .before .before .before .before .if2 .left,
       ap not (in-range-is (c .before .before .before .before)) ∙ c .before .before .before .if3 .left,
       ap not (pair-is (c .before .before)) ∙ c .before .if4 .left,

@@ -33,15 +33,24 @@ in-range-requires : tie.Need-in-range-requires Inv-loop μ-loop
 in-range-requires c κs = search needs
 
 pair-in-order-requires : tie.Need-pair-in-order-requires Inv-loop μ-loop
-pair-in-order-requires c κs = let i = c .before .before .before .before .loop .inv in (i .0, omega (arith, c .before .before .before .loop-test .taken))
+pair-in-order-requires c κs =
+    let i = c .before .before .before .before .loop .inv in (i .0, omega (arith, c .before .before .before .loop-test .taken))
+
+-- the number n keeps its row just where the code's two tests say so
+kept : (c : tie.After-pair-in-order Inv-loop μ-loop) → let l = c .before .before .before .before .before in
+    c .before .in-range .result && c .pair-in-order .result
+    ≡ keeps (ruleOf (l .loop .number)) (value (l .before .args .p)) (l .loop .number)
+kept c =
+    let get = c .before .before .before .get in
+    simp (c .before .in-range .ensures, c .pair-in-order .ensures, back w64 (get .result) (get .ok))
+    (simp (c .before .before .rule .ensures, get .ensures))
 
 returns : tie.Need-returns Inv-loop μ-loop
-returns c = let p = c .before .before .before .before .before .before .before .args .p in
-    let n = c .before .before .before .before .before .before .loop .number in
-    let kept : c .before .before .in-range .result && c .before .pair-in-order .result ≡ keeps (ruleOf n) (value p) n =
-    simp (c .before .before .in-range .ensures, c .before .pair-in-order .ensures, back w64 (c .before .before .before .before .get .result) (c .before .before .before .before .get .ok)) (simp (c .before .before .before .rule .ensures, c .before .before .before .before .get .ensures)) in
-    let test : ℕ → Bool = λ m. keeps (ruleOf m) (value p) m in
-    sym (c .before .before .before .before .before .before .loop .inv .2 ∙ every-not test n 24 (c .before .before .before .before .before .loop-test .taken) (sym kept ∙ not-true _ (c .if1 .taken)))
+returns c =
+    let test : ℕ → Bool = λ m. keeps (ruleOf m) (value (c .before .before .before .before .before .before .before .args .p)) m in
+    let l = c .before .before .before .before .before in
+    sym (l .before .loop .inv .2
+    ∙ every-not test (l .before .loop .number) 24 (l .loop-test .taken) (sym (kept (c .before)) ∙ not-true _ (c .if1 .taken)))
 
 add-number : tie.Need-add-number Inv-loop μ-loop
 add-number c = search needs
@@ -50,15 +59,18 @@ loop-less : tie.Need-loop-less Inv-loop μ-loop
 loop-less c = search needs
 
 loop-again : tie.Need-loop-again Inv-loop μ-loop
-loop-again c = let p = c .before .before .before .before .before .before .before .args .p in
-    let n = c .before .before .before .before .before .before .loop .number in
-    let kept : c .before .before .in-range .result && c .before .pair-in-order .result ≡ keeps (ruleOf n) (value p) n =
-    simp (c .before .before .in-range .ensures, c .before .pair-in-order .ensures, back w64 (c .before .before .before .before .get .result) (c .before .before .before .before .get .ok)) (simp (c .before .before .before .rule .ensures, c .before .before .before .before .get .ensures)) in
-    let test : ℕ → Bool = λ m. keeps (ruleOf m) (value p) m in
-    (omega arith, omega (arith, c .before .before .before .before .before .loop-test .taken), c .before .before .before .before .before .before .loop .inv .2 ∙ every-next test n 24 (c .before .before .before .before .before .loop-test .taken) (sym kept ∙ not-false _ (c .if1 .left)))
+loop-again c =
+    let test : ℕ → Bool = λ m. keeps (ruleOf m) (value (c .before .before .before .before .before .before .before .args .p)) m in
+    let l = c .before .before .before .before .before in
+    let next =
+    l .before .loop .inv .2
+    ∙ every-next test (l .before .loop .number) 24 (l .loop-test .taken) (sym (kept (c .before)) ∙ not-false _ (c .if1 .left)) in
+    (omega arith, omega (arith, l .loop-test .taken), next)
 
 returns-2 : tie.Need-returns-2 Inv-loop μ-loop
-returns-2 c = sym (c .before .loop .inv .2 ∙ every-done (λ m. keeps (ruleOf m) (value (c .before .before .args .p)) m) (c .before .loop .number) 24 (c .loop-test .left))
+returns-2 c =
+    sym (c .before .loop .inv .2 ∙
+    every-done (λ m. keeps (ruleOf m) (value (c .before .before .args .p)) m) (c .before .loop .number) 24 (c .loop-test .left))
 
 pub are-legal-spec : {M : Type 1} → statement M
 are-legal-spec =

@@ -38,13 +38,15 @@ loop-less c = search needs
 
 loop-again : tie.Need-loop-again Inv-loop μ-loop
 loop-again c = let l = c .before .before .loop in
-    filled-next (rangedValue (c .before .before .before .args .p)) 24 24 (l .values) (l .number) _ (omega arith) (l .inv) (c .before .loop-test .taken)
+    filled-next (rangedValue (c .before .before .before .args .p)) 24 24 (l .values) (l .number) _ (omega arith) (l .inv)
+    (c .before .loop-test .taken)
     (back w64 (c .ranged-value .result) (c .ranged-value .ok) ∙ c .ranged-value .ensures)
 
 returns : tie.Need-returns Inv-loop μ-loop
 unfolding byRange
 returns c = let l = c .before .loop in
-    ap (λ (values : List ℤ). record { values = values }) (filled-all (rangedValue (c .before .before .args .p)) 24 (l .values) (l .number) (l .inv) (c .loop-test .left))
+    ap (λ (values : List ℤ). record { values = values })
+    (filled-all (rangedValue (c .before .before .args .p)) 24 (l .values) (l .number) (l .inv) (c .loop-test .left))
 
 pub by-range-spec : {M : Type 1} → statement M
 by-range-spec =

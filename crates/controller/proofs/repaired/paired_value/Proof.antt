@@ -17,7 +17,9 @@ get-requires c κs = search needs
 returns : tie.Need-returns
 unfolding pairedValue ruleOf
 returns c = let v = c .before .get .result in
-    simp (back w64 v (c .before .get .ok)) (subst (λ (n : ℕ). v ≡ pairedValue (c .before .before .args .p) n) (sym (c .if1 .taken)) (simp (c .if1 .taken) at (c .before .get .ensures)))
+    simp (back w64 v (c .before .get .ok))
+    (subst (λ (n : ℕ). v ≡ pairedValue (c .before .before .args .p) n) (sym (c .if1 .taken))
+    (simp (c .if1 .taken) at (c .before .get .ensures)))
 
 default-requires : tie.Need-default-requires
 default-requires c κs = search needs
@@ -34,8 +36,17 @@ choose-requires c κs = search needs
 returns-2 : tie.Need-returns-2
 unfolding pairedValue
 returns-2 c = simp (back w64 (c .choose .result) (c .choose .ok))
-    (simp (c .choose .ensures, c .before .pair-in-order .ensures, back w64 (c .before .before .before .before .before .get .result) (c .before .before .before .before .before .get .ok), back w64 (c .before .before .before .default .result) (c .before .before .before .default .ok))
-    (simp (c .before .before .rule .ensures, c .before .before .before .before .before .get .ensures, c .before .before .before .default .ensures)))
+    (simp (
+      c .choose .ensures,
+      c .before .pair-in-order .ensures,
+      back w64 (c .before .before .before .before .before .get .result) (c .before .before .before .before .before .get .ok),
+      back w64 (c .before .before .before .default .result) (c .before .before .before .default .ok),
+    )
+    (simp (
+      c .before .before .rule .ensures,
+      c .before .before .before .before .before .get .ensures,
+      c .before .before .before .default .ensures,
+    )))
 
 pub paired-value-spec : {M : Type 1} → statement M
 paired-value-spec =

@@ -24,7 +24,12 @@ choose-requires c κs = search needs
 returns : tie.Need-returns
 unfolding rangedValue
 returns c = simp (back w64 (c .choose .result) (c .choose .ok))
-    (simp (c .choose .ensures, c .before .in-range .ensures, back w64 (c .before .before .before .before .get .result) (c .before .before .before .before .get .ok), back w64 (c .before .before .before .default .result) (c .before .before .before .default .ok))
+    (simp (
+      c .choose .ensures,
+      c .before .in-range .ensures,
+      back w64 (c .before .before .before .before .get .result) (c .before .before .before .before .get .ok),
+      back w64 (c .before .before .before .default .result) (c .before .before .before .default .ok),
+    )
     (simp (c .before .before .rule .ensures, c .before .before .before .before .get .ensures, c .before .before .before .default .ensures)))
 
 pub ranged-value-spec : {M : Type 1} → statement M

@@ -24,7 +24,10 @@ limited-anew-requires-2 c κs = search needs
 
 returns : tie.Need-returns
 unfolding repaired setpointAndRatioLimited widestOutput
-returns c = simp (c .limited-anew2 .ensures) (simp (c .before .limited-anew .ensures) (simp (c .before .before .by-pairs .ensures) (simp (c .before .before .before .by-range .ensures)
+returns c =
+    simp (c .limited-anew2 .ensures)
+    (simp (c .before .limited-anew .ensures)
+    (simp (c .before .before .by-pairs .ensures) (simp (c .before .before .before .by-range .ensures)
     (simp (c .before .before .before .before .with2 .ensures) (simp (c .before .before .before .before .before .with .ensures))))))
 
 pub repaired-spec : {M : Type 1} → statement M

@@ -37,12 +37,16 @@ tag-of-requires c κs = search needs
 
 is-headed-requires : tie.Need-is-headed-requires Inv-loop μ-loop
 is-headed-requires c κs = let l = c .before .before .before .before .loop in
-    let r = room-for (c .before .before .before .before .before .before .args .image .now) (l .start) (l .place) (c .before .before .length-of .result) (omega (arith, c .before .before .before .before .before .before .pre)) (l .inv .begun .begins) (c .before .before .before .loop-test .taken) (c .before .before .length-of .ensures) in
+    let r = room-for (c .before .before .before .before .before .before .args .image .now) (l .start) (l .place)
+    (c .before .before .length-of .result) (omega (arith, c .before .before .before .before .before .before .pre))
+    (l .inv .begun .begins) (c .before .before .before .loop-test .taken) (c .before .before .length-of .ensures) in
     omega (arith, r .0)
 
 returns : tie.Need-returns Inv-loop μ-loop
 returns c = let l = c .before .before .before .before .before .before .loop in
-    sym (formed-wrong (c .before .before .before .before .before .before .before .before .args .image .now) (l .start) (l .place) (c .before .before .tag-of .result) (c .before .before .before .before .length-of .result) (l .inv) (c .before .before .before .before .before .loop-test .taken) (c .before .before .tag-of .ensures)
+    sym (formed-wrong (c .before .before .before .before .before .before .before .before .args .image .now) (l .start) (l .place)
+    (c .before .before .tag-of .result) (c .before .before .before .before .length-of .result) (l .inv)
+    (c .before .before .before .before .before .loop-test .taken) (c .before .before .tag-of .ensures)
     (c .before .before .before .before .length-of .ensures) (sym (c .before .is-headed .ensures) ∙ not-true _ (c .if1 .taken)))
 
 add-start : tie.Need-add-start Inv-loop μ-loop
@@ -62,11 +66,14 @@ loop-less c = search needs
 
 loop-again : tie.Need-loop-again Inv-loop μ-loop
 loop-again c = let l = c .before .before .before .before .before .before .loop in
-    formed-next (c .before .before .before .before .before .before .before .before .args .image .now) (l .start) (l .place) (c .before .before .tag-of .result) (c .before .before .before .before .length-of .result) (l .inv) (c .before .before .before .before .before .loop-test .taken) (c .before .before .tag-of .ensures)
+    formed-next (c .before .before .before .before .before .before .before .before .args .image .now) (l .start) (l .place)
+    (c .before .before .tag-of .result) (c .before .before .before .before .length-of .result) (l .inv)
+    (c .before .before .before .before .before .loop-test .taken) (c .before .before .tag-of .ensures)
     (c .before .before .before .before .length-of .ensures) (sym (c .before .is-headed .ensures) ∙ not-false _ (c .if1 .left))
 
 returns-2 : tie.Need-returns-2 Inv-loop μ-loop
-returns-2 c = let l = c .before .loop in formed-all (c .before .before .before .args .image .now) (l .start) (l .place) (l .inv) (c .loop-test .left)
+returns-2 c =
+    let l = c .before .loop in formed-all (c .before .before .before .args .image .now) (l .start) (l .place) (l .inv) (c .loop-test .left)
 
 pub is-formed-spec : {M : Type 1} → statement M
 is-formed-spec =

@@ -33,7 +33,9 @@ part-value-in-end c = search needs
 
 value-in-requires : tie.Need-value-in-requires Inv-loop μ-loop
 value-in-requires c κs = let l = c .before .before .before .loop in
-    room-for (c .before .before .before .before .before .args .image .now) (l .start) (l .place) (c .before .length-of .result) (omega (arith, c .before .before .before .before .before .pre)) (l .inv .begun .begins) (c .before .before .loop-test .taken) (c .before .length-of .ensures)
+    room-for (c .before .before .before .before .before .args .image .now) (l .start) (l .place) (c .before .length-of .result)
+    (omega (arith, c .before .before .before .before .before .pre)) (l .inv .begun .begins) (c .before .before .loop-test .taken)
+    (c .before .length-of .ensures)
 
 mul-values : tie.Need-mul-values Inv-loop μ-loop
 mul-values c = search needs
@@ -58,11 +60,14 @@ loop-less c = search needs
 
 loop-again : tie.Need-loop-again Inv-loop μ-loop
 loop-again c = let l = c .before .before .before .before .loop in
-    decoded-next (c .before .before .before .before .before .before .args .image .now) (l .values) (l .start) (l .place) (c .before .before .length-of .result) (c .value-in .result) (l .inv) (c .before .before .before .loop-test .taken)
+    decoded-next (c .before .before .before .before .before .before .args .image .now) (l .values) (l .start) (l .place)
+    (c .before .before .length-of .result) (c .value-in .result) (l .inv) (c .before .before .before .loop-test .taken)
     (c .before .before .length-of .ensures) (c .value-in .ensures)
 
 returns : tie.Need-returns Inv-loop μ-loop
-returns c = let l = c .before .loop in decoded-all (c .before .before .before .args .image .now) (l .values) (l .start) (l .place) (l .inv) (c .loop-test .left)
+returns c =
+    let l = c .before .loop in
+    decoded-all (c .before .before .before .args .image .now) (l .values) (l .start) (l .place) (l .inv) (c .loop-test .left)
 
 pub values-of-spec : {M : Type 1} → statement M
 values-of-spec =

@@ -38,13 +38,15 @@ loop-less c = search needs
 
 loop-again : tie.Need-loop-again Inv-loop μ-loop
 loop-again c = let l = c .before .before .loop in
-    filled-next (parameterIn (c .before .before .before .args .values)) 24 24 (l .decoded) (l .number) _ (omega arith) (l .inv) (c .before .loop-test .taken)
+    filled-next (parameterIn (c .before .before .before .args .values)) 24 24 (l .decoded) (l .number) _ (omega arith) (l .inv)
+    (c .before .loop-test .taken)
     (back w64 (c .parameter-in .result) (c .parameter-in .ok) ∙ c .parameter-in .ensures)
 
 returns : tie.Need-returns Inv-loop μ-loop
 unfolding parametersIn
 returns c = let l = c .before .loop in
-    ap (λ (values : List ℤ). record { values = values }) (filled-all (parameterIn (c .before .before .args .values)) 24 (l .decoded) (l .number) (l .inv) (c .loop-test .left))
+    ap (λ (values : List ℤ). record { values = values })
+    (filled-all (parameterIn (c .before .before .args .values)) 24 (l .decoded) (l .number) (l .inv) (c .loop-test .left))
 
 pub parameters-in-spec : {M : Type 1} → statement M
 parameters-in-spec =
