@@ -1,6 +1,6 @@
 """Plays a session through the console and shows what came of it.
 
-Usage: python3 demo/play.py SESSION CONSOLE
+Usage: python3 -B -m demo.play SESSION CONSOLE
 
 A session is a file of calls; text behind a # is a comment and heads the calls that follow. Shown of each part are its first and its last scan, and
 those at which the mode or one of the notes below changed.
@@ -36,7 +36,7 @@ def standing(md, ds):
 
 
 def row(number, call, answer):
-    """One scan: its number, what the probe said, the mode, the output and a bar of it."""
+    """One scan: its number, what the probe read, the mode, the output and a bar of it."""
     _, md, ds, op, _ = answer.split()
     mode, notes = standing(int(md), int(ds))
     probe = "open" if int(call.split()[6]) & 1 else f"{int(call.split()[2]) / 100:.2f} %"
@@ -44,7 +44,7 @@ def row(number, call, answer):
     return f"  {number:5}  {probe:>8}  {mode:<13}  {int(op) / 100:6.2f} %  {bar:<20}  {notes}".rstrip()
 
 
-def shown(part):
+def rows(part):
     """The scans of one part that are worth a line."""
     before = None
     for place, (number, call, answer) in enumerate(part):
@@ -78,7 +78,7 @@ def main():
     print(f"\n{session}: {len(calls)} calls\n\n   scan     probe  mode              OP")
     for title, part in parts(calls, answers):
         print(f"\n{title}")
-        print("\n".join(shown(part)))
+        print("\n".join(rows(part)))
 
 
 if __name__ == "__main__":

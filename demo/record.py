@@ -1,23 +1,21 @@
 """Records two sessions: a leading dryer, and a following one whose channel 2 is fed with the leading dryer's PV.
 
-Usage: python3 demo/record.py [--check]
+Usage: python3 -B -m demo.record [--check]
 
-The dryers are simple drums, not measured ones; the answers that move them are the reckoner's of tests/. With --check nothing is written, and the
+The dryers are simple drums, not measured ones; the answers that move them are the model's of tests/. With --check nothing is written, and the
 test fails if the two files aren't what is recorded here; its last line is then 'N passed, M failed'.
 """
 
 import pathlib
 import sys
 
-sys.dont_write_bytecode = True  # leave no compiled files beside the sources
-HERE = pathlib.Path(__file__).resolve().parent
-sys.path.insert(0, str(HERE.parent / "tests"))
-import loop
-import tally
-from console_lines import line_of
-from state import Stored
-from table import NUMBER
+from tests.gate import tally
+from tests.model import loop
+from tests.model.lines import line_of
+from tests.model.state import Stored
+from tests.model.table import NUMBER
 
+HERE = pathlib.Path(__file__).resolve().parent
 LEADING, FOLLOWING = HERE / "leading.txt", HERE / "following.txt"
 HEADS = {
     LEADING: """# The leading dryer, call by call: what the console is given. Text behind a # is a comment. Made with a simple drum, not measured. PV is in
@@ -28,7 +26,7 @@ HEADS = {
 # of each scan is the sample that gives the PV of the leading dryer, leading.txt, in the same scan. Pins: 128 Hold at 15 V, 64 Track, 32 Remote, 2 unit
 # address; buttons: 64 Raise, 8 SP, 4 R. Parameters: 1 1H, 3 2H, 7 HR, 8 LR, 9 HS, 17 XP, 18 TI, 20 SL, 21 RS, 22 RB, 29 SP, 30 PV.
 """}
-SCANS, SHOWN_EVERY = 120, 6
+SCANS, DISPLAY_EVERY = 120, 6
 RANGE = 1200            # 0 to 120.0 degrees on channels 1 and 2
 TRACK, REMOTE, NO_REMOTE = 0xC0, 0xA2, 0x82
 A_BUTTON, R_BUTTON, SP_AND_RAISE = 0x02, 0x04, 0x48
@@ -60,7 +58,7 @@ class Dryer:
 
     def show(self, number, others):
         """SP and SL are read where the player is to show a line: every few scans and at the numbers given."""
-        if number % SHOWN_EVERY == 0 or number in others:
+        if number % DISPLAY_EVERY == 0 or number in others:
             for name in ("SP", "SL"):
                 self.read(name)
 
@@ -74,7 +72,7 @@ PARTS = {1: (0x0000, "Remote: S2.1 is OFF; the setpoint is the leading dryer's P
          85: (0xA000, "Inverse ratio: started fresh with S2.3 ON too; the setpoint is PV x RS / 100 + RB", {"SL": 560, "RS": 80, "RB": 30})}
 WITHOUT_REMOTE = {**dict.fromkeys(range(22, 31), "Remote"), **dict.fromkeys(range(72, 79), "Ratio"), **dict.fromkeys(range(106, 113), "Ratio")}
 RAISED, RS_WRITTEN, SL_REFUSED, SL_WRITTEN = (56, 57), 64, 60, 74
-SHOWN = {1, 3, 4, 5, 21, 22, 30, 31, 45, 46, 47, 55, 56, 57, 60, 64, 71, 72, 74, 78, 79, 85, 86, 87, 105, 106, 112, 113}
+DISPLAYED = {1, 3, 4, 5, 21, 22, 30, 31, 45, 46, 47, 55, 56, 57, 60, 64, 71, 72, 74, 78, 79, 85, 86, 87, 105, 106, 112, 113}
 
 
 def lead(dryer, number):
@@ -93,7 +91,7 @@ def lead(dryer, number):
     else:
         dryer.scan(0x81, buttons=A_BUTTON if number == 4 else 0, note="A is pressed: Auto" if number == 4 else "")
     PV = dryer.read("PV")
-    dryer.show(number, SHOWN)
+    dryer.show(number, DISPLAYED)
     return PV
 
 
@@ -127,7 +125,7 @@ def follow(dryer, number, sample):
         raised = "SP and Raise are held: RS goes up by 12 a scan" if number == RAISED[0] else ""
         dryer.scan(REMOTE, sample, buttons=SP_AND_RAISE if number in RAISED else 0, note=f"The Remote pin is at 15 V again: {back}" if back else raised)
     dryer.read("PV")
-    dryer.show(number, SHOWN)
+    dryer.show(number, DISPLAYED)
 
 
 def recorded():
