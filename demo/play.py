@@ -2,15 +2,17 @@
 
 Usage: python3 -B -m demo.play SESSION CONSOLE
 
-A session is a file of calls; text behind a # is a comment and heads the calls that follow. Shown of each part are its first and its last scan, and
-those at which the mode or one of the notes below changed.
+A session is a file of calls; text behind a # is a comment and heads the calls that follow. Shown of each part are its
+first and its last scan, and those at which the mode or one of the notes below changed.
 """
 
 import subprocess
 import sys
 
-MODES = ((15, "Hold"), (14, "Track"), (13, "Manual"), (12, "Auto"), (11, "Remote"))  # by the bits of MD, which show Fall-back as Auto and Ratio as Remote
-NOTES = (("MD", 9, 1, "probe open too long"), ("MD", 8, 1, "memory fault"), ("DS", 3, 0, "battery low"), ("DS", 1, 0, "low alarm"), ("DS", 0, 0, "high alarm"))
+# By the bits of MD, which show Fall-back as Auto and Ratio as Remote
+MODES = ((15, "Hold"), (14, "Track"), (13, "Manual"), (12, "Auto"), (11, "Remote"))
+NOTES = (("MD", 9, 1, "probe open too long"), ("MD", 8, 1, "memory fault"), ("DS", 3, 0, "battery low"), ("DS", 1, 0, "low alarm"),
+         ("DS", 0, 0, "high alarm"))
 BAR = 40
 
 

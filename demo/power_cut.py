@@ -2,9 +2,10 @@
 
 Usage: python3 -B -m demo.power_cut CONSOLE
 
-A dryer runs and saves an image of its settings, runs on and saves a newer one; then the console is ended, as a power cut would end it, and started anew. It
-is given the newer image, the same with the power-fail switch ON, and every mixture of the two that a cut in the midst of saving would leave. Ends with
-status 1 if a setting doesn't come back or a mixture gives settings that are neither image's.
+A dryer runs and saves an image of its settings, runs on and saves a newer one; then the console is ended, as a power
+cut would end it, and started anew. It is given the newer image, the same with the power-fail switch ON, and every
+mixture of the two that a cut in the midst of saving would leave. Ends with status 1 if a setting doesn't come back or a
+mixture gives settings that are neither image's.
 """
 
 import collections
@@ -85,7 +86,10 @@ def after_the_cut(program, switches, image):
 
 
 def mixed(program, older, newer):
-    """What becomes of each mixture, the first bytes of the newer image over the older one; a state is told by the image that it saves to."""
+    """What becomes of each mixture, the first bytes of the newer image over the older one.
+
+    a state is told by the image that it saves to.
+    """
     console, counts, faulty = Console(program, 0), collections.Counter(), None
     states = {}
     for name, image in (("the older image's settings", older), ("the newer image's settings", newer)):

@@ -170,7 +170,8 @@ def compare_lists(program, generator, results):
 # The rest -------------------------------------------------------------------
 
 def check_figures(program, results):
-    """What was worked by hand, and the manual's figures: each answer of the program is compared with the figure itself."""
+    """What was worked by hand, and the manual's figures: each answer of the program is compared with the figure itself.
+    """
     def answers_of_program(lines):
         written, trouble = run_lines(program, lines, SHORT_SECONDS)
         results.check(not trouble, trouble)

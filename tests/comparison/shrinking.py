@@ -1,4 +1,6 @@
-"""From a call list that a program answers wrongly to a short one: calls are removed, then numbers made simpler, as long as it stays wrong."""
+"""From a call list that a program answers wrongly to a short one: calls are removed, then numbers made simpler, as long
+as it stays wrong.
+"""
 
 import collections
 import time
@@ -13,7 +15,10 @@ MANY_LINES = 300  # more than this are first made fewer
 
 
 class Shrinking:
-    """wrong_at(lines) runs the program over the lines and gives the place of the first wrong answer, or None; it is run so often at most."""
+    """wrong_at(lines) runs the program over the lines and gives the place of the first wrong answer, or None.
+
+    It is run so often at most.
+    """
 
     def __init__(self, wrong_at, most_runs, most_seconds):
         self.wrong_at, self.remaining_runs = wrong_at, most_runs
@@ -57,11 +62,15 @@ class Shrinking:
         return lines
 
     def with_simple_columns(self, lines):
-        """Plain lines for all other forms at once; then in all calls, or all but the last, something simpler at one place."""
+        """Plain lines for all other forms at once.
+
+        Then in all calls, or all but the last, something simpler at one place.
+        """
         lines = self.still_wrong([line_of(call_of(line) or (line,)) for line in lines]) or lines
         for place in range(1, 1 + max(map(len, RANGES.values()))):
             for simpler in simpler_columns([call_of(line)[place] for line in lines if has_number(line, place)]):
-                changed = [with_number(call_of(line), place, simpler(call_of(line)[place])) if has_number(line, place) else line for line in lines]
+                changed = [with_number(call_of(line), place, simpler(call_of(line)[place])) if has_number(line, place) else line
+                           for line in lines]
                 for candidate in (changed, changed[:-1] + lines[-1:]):
                     lines = lines if candidate == lines else self.still_wrong(candidate) or lines
                 if self.is_over():
@@ -92,7 +101,9 @@ def has_number(line, place):
 
 
 def simpler_columns(numbers):
-    """What all numbers at one place may become: 0, 80h or the commonest; and if they are bytes, each without one of its bits."""
+    """What all numbers at one place may become: 0, 80h or the commonest; and if they are bytes, each without one of its
+    bits.
+    """
     for same in (0, 0x80, *(number for number, _ in collections.Counter(numbers).most_common(2))):
         yield lambda number, same=same: same
     for bit in range(8) if max(numbers, default=0) < 256 else ():
@@ -104,7 +115,10 @@ def simpler_than(given):
 
 
 def simpler_images(image):
-    """The image with one more field as in a fresh image, the sumcheck right again if it was right; no bytes for one of another length."""
+    """The image with one more field as in a fresh image, the sumcheck right again if it was right.
+
+    No bytes for one of another length.
+    """
     if len(image) != IMAGE_BYTES:
         return [b""] if image else []
     fresh = LAYOUT.unpack(loop.save(loop.fresh(0, Stored), IMAGE_BYTES, Stored)[1][1])

@@ -2,8 +2,8 @@
 
 Usage: python3 -B -m tests.comparison.speed PROGRAM
 
-Three runs of 400,000 scans each, in several modes; the fastest counts, since other work on the machine only slows a run down.
-The last line printed is 'N passed, M failed'.
+Three runs of 400,000 scans each, in several modes; the fastest counts, since other work on the machine only slows a run
+down. The last line printed is 'N passed, M failed'.
 """
 
 import random
@@ -20,7 +20,8 @@ SEED = 6360
 def session():
     """A fresh start and scans with random pins, samples and buttons."""
     generator = random.Random(SEED)
-    scans = (f"scan {generator.choice((128, 145, 160, 192))} {generator.randrange(10001)} {generator.randrange(10001)} {generator.randrange(10001)} "
+    scans = (f"scan {generator.choice((128, 145, 160, 192))} "
+             f"{generator.randrange(10001)} {generator.randrange(10001)} {generator.randrange(10001)} "
              f"{generator.choice((0, 2, 4, 64, 72))} {generator.choice((0, 0, 0, 1))}" for _ in range(LINES))
     return "\n".join(["fresh 2048", *scans, ""]).encode()
 

@@ -17,15 +17,17 @@ SETPOINTS = ("SL", "RS")
 AT_RESTART = [f"{position}, {sum_}" for position in ("S2.5 ON, S2.2 ON", "S2.5 ON, S2.2 OFF", "S2.5 OFF, S2.2 ON", "S2.5 OFF, S2.2 OFF")
               for sum_ in ("right sumcheck", "wrong sumcheck")]
 # What is illegal along with a value, of necessity: its pair, and with limits the setpoint that they limit
-WITH = {name: {name, " ".join(pair)} | {"HS": {"SL"}, "HR": {"RS"}}.get(pair[0], set()) for pair in PAIRS for name in (*pair, " ".join(pair))}
+WITH = {name: {name, " ".join(pair)} | {"HS": {"SL"}, "HR": {"RS"}}.get(pair[0], set()) for pair in PAIRS
+        for name in (*pair, " ".join(pair))}
 SMALL = ("OP", "request", "fault", "fault with a request", "user_bits")
 PAIR_NAMES = [" ".join(pair) for pair in PAIRS]
 
 
 def least_counts():
     """The least count of each thing, by name."""
-    least = {"calls": 140000, "restart": 36000, "save": 25000, "read": 50000, "scan": 20000, "write": 3000, "accepted, right sumcheck": 5000,
-             "accepted, wrong sumcheck": 9000, "refused 12": 1800, "refused 13": 6000, "refused 14": 8000, "refused 15": 400, "refusals 13 14": 300}
+    least = {"calls": 140000, "restart": 36000, "save": 25000, "read": 50000, "scan": 20000, "write": 3000,
+             "accepted, right sumcheck": 5000, "accepted, wrong sumcheck": 9000, "refused 12": 1800, "refused 13": 6000, "refused 14": 8000,
+             "refused 15": 400, "refusals 13 14": 300}
     least.update({f"{word} of {length} bytes": 2 for word in ("save", "restart") for length in range(MOST_BYTES + 1)})
     least.update({f"byte {place} changed, sumcheck {how}": 12 for place in range(IMAGE_BYTES - 2) for how in ("as it was", "right")})
     least.update({f"byte {place} changed, sumcheck as it was": 12 for place in (IMAGE_BYTES - 2, IMAGE_BYTES - 1)})
@@ -34,7 +36,8 @@ def least_counts():
     least.update({f"refused in {mode}": 5 if mode == "Forced Manual" else 10 for mode in MODES})
     least.update({f"saved in {mode}": 20 for mode in MODES})
     least.update({f"{switches}": 500 for switches in AT_RESTART})
-    least.update({f"OP moved, {switches}": 30 for switches in AT_RESTART if not switches.startswith("S2.5 OFF") or switches.endswith("right sumcheck")})
+    least.update({f"OP moved, {switches}": 30 for switches in AT_RESTART if not switches.startswith("S2.5 OFF")
+                  or switches.endswith("right sumcheck")})
     least.update({f"{name} read behind a restart": 50 for name in NAMES})
     least.update({f"{mode} in the scan behind a restart": 10 if mode in ("Ratio", "Remote") else 30 for mode in MODES})
     least.update({f"{count} open scans, then a restart": 2 for count in (83, 84, 85)})
@@ -42,18 +45,20 @@ def least_counts():
     least.update({f"{count} remembered, a restart, an automatic scan": 20 for count in range(3)})
     least.update({f"{count} remembered, a refused restart, an automatic scan": 5 for count in range(3)})
     least.update({f"fault {what}": 20 for what in (
-        "brought by 1", "brought by a wrong sumcheck", "brought anew", "ended by a restart", "ended by a fresh start", "cleared by MD", "kept by MD",
-        "kept by a refused restart", "kept by a scan", "saved")})
+        "brought by 1", "brought by a wrong sumcheck", "brought anew", "ended by a restart", "ended by a fresh start", "cleared by MD",
+        "kept by MD", "kept by a refused restart", "kept by a scan", "saved")})
     least.update({f"MD refused {number} with the fault": 5 for number in (9, 10, 11)})
     least.update({f"a saved image restarted from {how}": 50 for how in ("at once", "later", "under another SW")})
     least.update({"saved again the same": 1000, "saved with a fraction": 100})
-    least.update({f"44h of {user_bits} {what}": 10 for user_bits in range(8) for what in ("saved", "restored, right sumcheck", "restored, wrong sumcheck")})
+    least.update({f"44h of {user_bits} {what}": 10 for user_bits in range(8)
+                  for what in ("saved", "restored, right sumcheck", "restored, wrong sumcheck")})
     least.update({f"line: {kind} of {word}": 20 for word in ("save", "restart") for kind in (*line_errors_of(word), *other_forms_of(word))})
     return least
 
 
 def least_counts_of_fields():
-    """By field: what is legal at the ends of each range, what is illegal alone, and what a wrong sumcheck makes of it."""
+    """By field: what is legal at the ends of each range, what is illegal alone, and what a wrong sumcheck makes of it.
+    """
     names = [row.name for row in ROWS]
     yield from ((f"{name} {place}, wrong sumcheck", 8) for name in names for place in PLACES[:6])
     yield from ((f"{name} {place}, sound", 3) for name in names for place in PLACES[1:3] if f"{name} {place}" not in CHANNEL_ENDS)
@@ -73,7 +78,9 @@ class ImageCoverage(Coverage):
     title, least_counts = "images", staticmethod(least_counts)
 
     def __init__(self):
-        """What is known so far: the image that changes start from, the images saved, the last restart until a scan comes, and the open scans behind it."""
+        """What is known so far: the image that changes start from, the images saved, the last restart until a scan
+        comes, and the open scans behind it.
+        """
         super().__init__()
         self.base, self.saved, self.calls = None, {}, 0
         self.restarted, self.remembered, self.open_since = None, None, 0
@@ -81,7 +88,8 @@ class ImageCoverage(Coverage):
     def call(self, call, before, after, answer, automatic_scans):
         self.calls += 1
         self.counts.update(("calls", call[0]))
-        {"fresh": self.fresh, "save": self.save, "restart": self.restart, "scan": self.scanned, "write": self.written, "read": self.read}[call[0]](
+        {"fresh": self.fresh, "save": self.save, "restart": self.restart, "scan": self.scanned, "write": self.written,
+         "read": self.read}[call[0]](
             call, before[0], after[0], answer)
 
     def fresh(self, call, before, after, answer):
@@ -94,7 +102,8 @@ class ImageCoverage(Coverage):
 
     def written(self, call, before, after, answer):
         if before.memory_fault and call[1] == 24:
-            self.counts[f"fault {'kept' if after.memory_fault else 'cleared'} by MD" if answer == ("ok",) else f"MD refused {answer[1]} with the fault"] += 1
+            self.counts[f"fault {'kept' if after.memory_fault else 'cleared'} by MD" if answer == ("ok",)
+                        else f"MD refused {answer[1]} with the fault"] += 1
 
     def save(self, call, before, after, answer):
         self.counts[f"save of {call[1]} bytes"] += 1
@@ -145,12 +154,14 @@ class ImageCoverage(Coverage):
         names += [f"OP moved, {switches}, {sum_}"] if after.output // 65536 != decoded.OP else []
         names += [f"{before.open_count} open scans, then a restart"]
         if brings_fault(image):
-            names += [f"fault brought by {'a wrong sumcheck' if sum_.startswith('wrong') else '1'}", *(["fault brought anew"] if before.memory_fault else [])]
+            names += [f"fault brought by {'a wrong sumcheck' if sum_.startswith('wrong') else '1'}",
+                      *(["fault brought anew"] if before.memory_fault else [])]
         elif before.memory_fault:
             names.append("fault ended by a restart")
         if image in self.saved:
             when, SW = self.saved[image]
-            names.append("a saved image restarted from " + ("under another SW" if SW != before.SW else "at once" if when == self.calls - 1 else "later"))
+            names.append("a saved image restarted from " + ("under another SW" if SW != before.SW else "at once" if when == self.calls - 1
+                                                            else "later"))
         self.counts.update(names)
         self.counts.update(met_by_repair(decoded, after.parameters) if sum_.startswith("wrong") else ())
         self.restarted, self.open_since = image, 0
@@ -167,7 +178,8 @@ def changed_byte(base, image):
         if has_right_sumcheck(decode(image)):
             yield f"byte {different[0]} changed, sumcheck right"
     elif not different:
-        yield from (f"byte {place} changed, sumcheck as it was" for place in (IMAGE_BYTES - 2, IMAGE_BYTES - 1) if base[place] != image[place])
+        yield from (f"byte {place} changed, sumcheck as it was"
+                    for place in (IMAGE_BYTES - 2, IMAGE_BYTES - 1) if base[place] != image[place])
 
 
 @lru_cache(maxsize=1 << 12)

@@ -9,7 +9,8 @@ from tests.model.state import Stored
 
 def least_counts():
     """The least count of each thing, by name."""
-    least = {"pairs": 97, "mixtures": 13000, "as the older": 200, "as the newer": 97, "refused": 20, "memory fault": 200, "unseen by the sum": 10}
+    least = {"pairs": 97, "mixtures": 13000, "as the older": 200, "as the newer": 97, "refused": 20, "memory fault": 200,
+             "unseen by the sum": 10}
     least.update({"bytes of the older": 97, "bytes of the newer": 97})
     return {**least, **{f"cut at {cut}": 80 for cut in range(IMAGE_BYTES + 1)}}
 
@@ -44,5 +45,6 @@ class PowerCutCoverage(Coverage):
         elif after.memory_fault:
             yield "memory fault"
         else:
-            assert image not in self.pair and not list(refusals(image)) and with_right_sum(image) == image and values_in(image)["fault"] == 0
+            assert image not in self.pair and not list(refusals(image))
+            assert with_right_sum(image) == image and values_in(image)["fault"] == 0
             yield "unseen by the sum"

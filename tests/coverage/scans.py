@@ -9,8 +9,8 @@ from tests.model.words import AUTOMATIC, MODES, mode_of
 BUTTONS = {"Lower": 7, "Raise": 6, "SP": 3, "R": 2, "A": 1, "M": 0}
 # One SW has either Remote or Ratio; every other mode may follow every mode.
 TRANSITIONS = [(before, after) for before in MODES for after in MODES if {before, after} != {"Remote", "Ratio"}]
-AT_THE_85TH = ("minimum, S2.2 ON", "minimum, S2.2 OFF", "automatic before, S2.5 OFF", "S2.5 ON, Manual before", "S2.5 ON, Hold or Track before",
-               "S2.5 ON, automatic before, Hold or Track now")
+AT_THE_85TH = ("minimum, S2.2 ON", "minimum, S2.2 OFF", "automatic before, S2.5 OFF", "S2.5 ON, Manual before",
+               "S2.5 ON, Hold or Track before", "S2.5 ON, automatic before, Hold or Track now")
 
 
 def least_counts():

@@ -8,11 +8,12 @@ from tests.model.words import AUTOMATIC, MODES, mode_of
 from tests.model.writes import refusals
 
 WRITABLE = NAMES[:READ_ONLY[0] - 1]
-PLACES = ("just below", "at the least", "just above the least", "just below the greatest", "at the greatest", "just above", "far below", "far above",
-          "right in 16 bits")
+PLACES = ("just below", "at the least", "just above the least", "just below the greatest", "at the greatest", "just above", "far below",
+          "far above", "right in 16 bits")
 LIMITED_BY = {"HS": "SL", "LS": "SL", "HR": "RS", "LR": "RS"}
 TOGETHER = ("6 7", "6 8", "6 9", "6 10", "6 11", "9 10", "9 11", "10 11", "9 10 11")  # refusals that apply at once
-BETWEEN_SCANS = ("channel_1H", "channel_1L", "channel_2H", "channel_2L", "channel_3H", "channel_3L", "IC", "XP", "TI", "TD", "SL", "RS", "RB")
+BETWEEN_SCANS = ("channel_1H", "channel_1L", "channel_2H", "channel_2L", "channel_3H", "channel_3L", "IC", "XP", "TI", "TD", "SL", "RS",
+                 "RB")
 NON_AUTOMATIC = [mode for mode in MODES if mode not in AUTOMATIC]
 
 
@@ -25,18 +26,22 @@ def least_counts():
     least.update({f"{name} {place}": 10 for name in WRITABLE for place in PLACES})
     least.update({f"IC {place}": 10 for place in ("right in 8 bits",)})
     least.update({f"{name} refused 5": 25 for name in NAMES[READ_ONLY[0] - 1:]})
-    least.update({f"{name} {how} its partner": 12 for name in PAIR_OF for how in ("just in order with", "equal to", "just out of order with")})
+    least.update({f"{name} {how} its partner": 12 for name in PAIR_OF
+                  for how in ("just in order with", "equal to", "just out of order with")})
     least.update({f"{name} refused 7": 40 for name in PAIR_OF})
-    least.update({f"{word} of a number {kind}": 20 for word in ("write", "read") for kind in ("0", "33", "below zero", "right in 8 bits", "beyond 32 bits")})
+    least.update({f"{word} of a number {kind}": 20 for word in ("write", "read")
+                  for kind in ("0", "33", "below zero", "right in 8 bits", "beyond 32 bits")})
     least.update({f"{limited} limited by {name}": 100 for name, limited in LIMITED_BY.items()})
     least.update({f"SL limited by {name} in {mode}": 4 for name in ("HS", "LS") for mode in MODES})
-    least.update({f"output {'left outside' if mode in ('Hold', 'Track') else 'limited by'} {name} in {mode}": 4 for name in ("HO", "LO") for mode in MODES})
+    least.update({f"output {'left outside' if mode in ('Hold', 'Track') else 'limited by'} {name} in {mode}": 4 for name in ("HO", "LO")
+                  for mode in MODES})
     least.update(least_counts_of_SL_and_MD())
     least.update({f"write with {number} open scans before, {outcome}": 2 for number in (83, 84, 85) for outcome in ("accepted", "refused")})
     least.update({f"MD before the 85th, {what}": 3 for what in ("minimum", "no minimum", "Hold or Track now")})
     least.update({f"bit 4 {bit}, then a scan in {mode}": 5 if mode == "Forced Manual" else 25 for bit in (0, 1) for mode in MODES})
     least.update({f"user bits {bits}, then a scan": 50 for bits in range(4)})
-    least.update({f"{mode} written in {waiting}, then in force": 2 for mode in ("Manual", "Auto", "Remote", "Ratio") for waiting in ("Hold", "Track")})
+    least.update({f"{mode} written in {waiting}, then in force": 2 for mode in ("Manual", "Auto", "Remote", "Ratio")
+                  for waiting in ("Hold", "Track")})
     least.update({f"{name} changed between automatic scans": 20 for name in BETWEEN_SCANS})
     least.update({f"read {name}": 600 for name in NAMES})
     least.update({f"read {name} in {mode}": 100 for name in ("MD", "DS", "OP", "SL") for mode in MODES})
@@ -146,7 +151,8 @@ class WriteCoverage(Coverage):
         mode, was = mode_of(after), mode_of(before)
         if self.MD_written_at_84 and after.open_count == 85:
             minimum = was in AUTOMATIC and on(after.SW, SWITCHES["S2.5"])
-            self.counts["MD before the 85th, " + ("Hold or Track now" if mode != "Forced Manual" else "minimum" if minimum else "no minimum")] += 1
+            self.counts["MD before the 85th, " + ("Hold or Track now" if mode != "Forced Manual" else "minimum" if minimum
+                                                  else "no minimum")] += 1
         if self.bit_4_written:
             self.counts[f"bit 4 {int(after.measured_power)}, then a scan in {mode}"] += 1
         if self.waits_in and not after.buttons & 0x07 and mode not in ("Hold", "Track", "Forced Manual"):

@@ -11,8 +11,8 @@ from tests.model.state import Exact, Parameters, Stored
 from tests.model.table import NUMBER
 
 CASES = (*scan_figures.CASES, *write_figures.CASES, *image_figures.CASES)
-# "requests Manual with output 0, user bits and MD bit 4 zero, no memory fault, and no earlier PV or SP remembered"; "pins 80h, no buttons, open
-# count 0, PV = 1L, SP = SL, ER = PV - SP, MP 0, battery good, no alarms"; 1L and SL are 0.
+# "requests Manual with output 0, user bits and MD bit 4 zero, no memory fault, and no earlier PV or SP remembered";
+# "pins 80h, no buttons, open count 0, PV = 1L, SP = SL, ER = PV - SP, MP 0, battery good, no alarms"; 1L and SL are 0.
 FRESH = {"SW": 0x1234, "request": "M", "output": 0, "user_bits": 0, "measured_power": False, "memory_fault": False, "previous_PV": None,
          "PV_before_previous": None, "previous_SP": None, "pins": 0x80, "buttons": 0, "open_count": 0, "PV": 0, "SP": 0, "ER": 0, "MP": 0,
          "battery_low": False, "low_alarm": False, "high_alarm": False}
@@ -20,7 +20,10 @@ SCAN_WORDS = ("MD", "DS", "OP", "electrical")
 
 
 def calls_of(case):
-    """A fresh start, the writes of what is set before, and the case's calls; the memory fault, set alone, comes by a restart."""
+    """A fresh start, the writes of what is set before, and the case's calls.
+
+    The memory fault, set alone, comes by a restart.
+    """
     given = dict(case.set_before)
     if given == {"memory_fault": True}:
         return [("fresh", case.SW), image_figures.FAULT, *case.calls]
@@ -65,7 +68,10 @@ def wrong_in_the_model():
 # Lines for a program ----------------------------------------------------------
 
 def lines_of(case):
-    """A case as lines, each with the answer expected or, for a scan, with the words expected; then reads of all that is expected and can be read."""
+    """A case as lines, each with the answer expected or, for a scan, with the words expected.
+
+    Then reads of all that is expected and can be read.
+    """
     calls, expected = calls_of(case), case.expected
     for place, call in enumerate(calls):
         is_last, is_written = place == len(calls) - 1, place < len(calls) - len(case.calls)
@@ -89,7 +95,10 @@ def is_answer(answer, expected):
 
 
 def all_lines():
-    """The name, the line and what is expected of it, for each line of each case and figure; each begins with a fresh start."""
+    """The name, the line and what is expected of it, for each line of each case and figure.
+
+    Each begins with a fresh start.
+    """
     for case in CASES:
         yield from ((case.name, *line) for line in lines_of(case))
     for name, steps in FIGURES:
@@ -97,11 +106,14 @@ def all_lines():
 
 
 def wrong_in(answers_of):
-    """The lines that are answered otherwise than worked by hand or told by the manual, and how many answers were looked at."""
+    """The lines that are answered otherwise than worked by hand or told by the manual, and how many answers were looked
+    at.
+    """
     lines = list(all_lines())
     answers = answers_of([line for _, line, _ in lines])
     answers += ["no answer"] * (len(lines) - len(answers))
-    wrong = [f"{name}: {line!r} is answered {answer!r}, expected {expected!r}" for (name, line, expected), answer in zip(lines, answers) if not is_answer(answer, expected)]
+    wrong = [f"{name}: {line!r} is answered {answer!r}, expected {expected!r}"
+             for (name, line, expected), answer in zip(lines, answers) if not is_answer(answer, expected)]
     return wrong, sum(expected is not None for _, _, expected in lines)
 
 

@@ -1,7 +1,7 @@
 """Scans worked by hand: document 01's own figures, and others for each rule.
 
-A case gives the switch word, the parameters and other items written after a fresh start, the calls, and what the last call must leave in the
-controller or answer.  Outputs are in steps of 1/65,536 units.
+A case gives the switch word, the parameters and other items written after a fresh start, the calls, and what the last
+call must leave in the controller or answer.  Outputs are in steps of 1/65,536 units.
 """
 
 from typing import NamedTuple
@@ -33,7 +33,10 @@ def terms(name, SW, set_before, calls, steps):
 
 
 def manual(name, set_before, sample, DS):
-    """One scan in Manual, for the alarms; "3 is 0 for battery low, 2 for a cause, 1 for low alarm .., 0 for high .."."""
+    """One scan in Manual, for the alarms.
+
+    "3 is 0 for battery low, 2 for a cause, 1 for low alarm .., 0 for high ..".
+    """
     return Case("alarm: " + name, 0, set_before, [scan(first=sample)], {"MD": 0x2000, "DS": DS})
 
 
@@ -90,7 +93,8 @@ CASES = (
     Case("84 open scans", 0, {}, [*[scan(sensors=1)] * 83, scan(sensors=1, buttons=A)], {"MD": 0x1002, "DS": 0x803F, "request": "A"}),
     Case("85 open scans", 0, {}, [*[scan(sensors=1)] * 84, scan(sensors=1, buttons=A)], {"MD": 0x2202, "DS": 0x801B, "request": "M"}),
     Case("A after 85 open scans", 0, {}, [*[scan(sensors=1)] * 85, scan(buttons=A)], {"MD": 0x1002, "DS": 0x803F}),
-    Case("a cause in Hold", 0, {"request": "A"}, [*[scan(sensors=1)] * 84, scan(0, sensors=1)], {"MD": 0x8200, "DS": 0x001B, "request": "M"}),
+    Case("a cause in Hold", 0, {"request": "A"}, [*[scan(sensors=1)] * 84, scan(0, sensors=1)],
+         {"MD": 0x8200, "DS": 0x001B, "request": "M"}),
     Case("the memory fault", 0, {"memory_fault": True}, [scan(buttons=A)], {"MD": 0x2102, "DS": 0x801B, "request": "M"}),
     # Output: minimum, limits
     Case("minimum", S2_5, LIMITS, [*OPEN_IN_AUTO, scan(sensors=1, buttons=RAISE)], {"OP": 2000, "electrical": 2000}),

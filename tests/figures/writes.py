@@ -38,7 +38,8 @@ CASES = (
     accepted("1L below 1H", 0, {}, [write("channel_1L", 999)], channel_1L=999),
     refused(7, "3H at 3L", 0, {}, [write("channel_3H", 0)], channel_3H=1), refused(7, "LS above HS", 0, {}, [write("LS", 1001)], LS=0),
     accepted("LS at HS", 0, {}, [write("LS", 1000)], LS=1000, SL=1000, SP=0, ER=0),
-    refused(7, "HO below LO", 0, {"LO": 2000}, [write("HO", 1999)], HO=9999), accepted("HO at LO", 0, {"LO": 2000}, [write("HO", 2000)], HO=2000),
+    refused(7, "HO below LO", 0, {"LO": 2000}, [write("HO", 1999)], HO=9999),
+    accepted("HO at LO", 0, {"LO": 2000}, [write("HO", 2000)], HO=2000),
     refused(6, "out of range goes before the pair", 0, {"HA": 500}, [write("LA", 10000)], LA=-9999),
     # What a write limits
     accepted("HS limits SL", 0, {"SL": 800}, [write("HS", 500)], SL=500, SP=0),
@@ -57,7 +58,8 @@ CASES = (
     Case("a fraction below HO stays", 0, {"SL": 1, "TI": 10}, [track(0), scan(), write("HO", 1), write("HO", 9), scan(), scan()],
          {"output": 3 * 23593, "OP": 1}),
     # SL by mode
-    refused(8, "SL in Remote", 0, {}, [REMOTE, write("SL", 60)], SL=50), refused(8, "SL in Ratio", S2_1, {}, [REMOTE, write("SL", 60)], SL=50),
+    refused(8, "SL in Remote", 0, {}, [REMOTE, write("SL", 60)], SL=50),
+    refused(8, "SL in Ratio", S2_1, {}, [REMOTE, write("SL", 60)], SL=50),
     refused(8, "SL in Manual, S2.6 ON", S2_6, {}, [write("SL", 5)], SL=0),
     refused(8, "SL in Hold, S2.6 ON", S2_6, {}, [scan(0), write("SL", 5)], SL=0),
     refused(8, "SL in Track, S2.6 ON", S2_6, {}, [track(0), write("SL", 5)]),
@@ -84,9 +86,12 @@ CASES = (
     accepted("bit 4 zero again", 0, {"measured_power": True}, [write("MD", 0x2000)], MD=0x2000),
     accepted("buttons stay", 0, {}, [scan(buttons=SP), write("MD", 0x1000)], MD=0x1008),
     accepted("bit 4 waits for MP", 0, {"channel_3H": 100}, [scan(third=5000), write("MD", 0x2010)], MD=0x2010, MP=0, SP=50),
-    Case("bit 4 shows in the next scan", 0, {"channel_3H": 100}, [scan(third=5000), write("MD", 0x2010), scan(third=5000)], {"MD": 0x2010, "MP": 50, "SP": 0}),
-    Case("Auto written before the 85th", S2_5, LIMITS, [track(2500, 0, M), *OPEN_84, write("MD", 0x1000), OPEN], {"OP": 2000, "MD": 0x2200}),
-    Case("Manual written before the 85th", S2_5, LIMITS, [track(2500), *OPEN_84, write("MD", 0x2000), scan(sensors=1, buttons=RAISE)], {"OP": 2512}),
+    Case("bit 4 shows in the next scan", 0, {"channel_3H": 100}, [scan(third=5000), write("MD", 0x2010), scan(third=5000)],
+         {"MD": 0x2010, "MP": 50, "SP": 0}),
+    Case("Auto written before the 85th", S2_5, LIMITS, [track(2500, 0, M), *OPEN_84, write("MD", 0x1000), OPEN],
+         {"OP": 2000, "MD": 0x2200}),
+    Case("Manual written before the 85th", S2_5, LIMITS, [track(2500), *OPEN_84, write("MD", 0x2000), scan(sensors=1, buttons=RAISE)],
+         {"OP": 2512}),
     # The memory fault
     accepted("clears the fault, bit 12", 0, FAULT, [write("MD", 0x1010)], MD=0x2010, DS=0x801F, memory_fault=False, request="M"),
     accepted("clears the fault, bit 11", 0, FAULT, [scan(0xA0), write("MD", 0x0800)], MD=0x2400, memory_fault=False, request="M"),
@@ -97,12 +102,14 @@ CASES = (
     refused(11, "the fault and a cause, bit 12", 0, FAULT, [*OPEN_85, write("MD", 0x1000)], MD=0x2300),
     refused(9, "the fault, no request", 0, FAULT, [write("MD", 0)], MD=0x2100),
     # DS, and what terms and alarms take from a write
-    accepted("user bit 1", 0, {}, [write("DS", 0x40)], DS=0x805F), accepted("user bit 2", 0, {"user_bits": 1}, [write("DS", 0x80)], DS=0x809F),
+    accepted("user bit 1", 0, {}, [write("DS", 0x40)], DS=0x805F),
+    accepted("user bit 2", 0, {"user_bits": 1}, [write("DS", 0x80)], DS=0x809F),
     accepted("user bits zero", 0, {"user_bits": 3}, [write("DS", 0xFF3F)], DS=0x801F),
     accepted("alarms wait for a scan", 0, {}, [scan(first=5000), write("HA", 100)], DS=0x801F),
     Case("alarm in the next scan", 0, {}, [scan(first=5000), write("HA", 100), scan(first=5000)], {"DS": 0x801E}),
     accepted("a range waits for a scan", 0, {}, [scan(first=5000), write("channel_1H", 2000)], PV=500, ER=500),
-    Case("what is remembered isn't scaled anew", 0, {}, [track(0, 1000), write("channel_1H", 500), scan(first=1000)], {"PV": 50, "OP": 1000}),  # 50 x 20 units
+    Case("what is remembered isn't scaled anew", 0, {}, [track(0, 1000), write("channel_1H", 500), scan(first=1000)],
+         {"PV": 50, "OP": 1000}),  # 50 x 20 units
     Case("XP between scans", 0, {}, [track(5000, 20), write("XP", 500), scan(first=10)], {"OP": 5020}),
     Case("SL in the next scan", 0, {"TI": 10}, [track(0), write("SL", 1), scan(buttons=LOWER | A)], {"SP": 1, "output": 23593}),
 )

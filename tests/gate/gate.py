@@ -2,8 +2,9 @@
 
 Usage: python3 -B -m tests.gate.gate
 
-The steps are `rt ci` (every listed crate proved from nothing, must-fail edits refused, programs run; a crate that is not listed fails it) and
-the tests. The last line printed is 'N passed, M failed' over all steps; the exit status is 0 only if M is 0.
+The steps are `rt ci` (every listed crate proved from nothing, must-fail edits refused, programs run; a crate that is
+not listed fails it) and the tests. The last line printed is 'N passed, M failed' over all steps; the exit status is 0
+only if M is 0.
 """
 
 import concurrent.futures
@@ -73,7 +74,10 @@ def counts_of(last, status):
 
 
 def gate(steps, folder, at_once=1):
-    """All steps, the later ones too when one fails; the sums of what passed and failed. A step alone is shown as it goes, others when they have ended."""
+    """All steps, the later ones too when one fails.
+
+    The sums of what passed and failed. A step alone is shown as it goes, others when they have ended.
+    """
     passed = failed = 0
     show = (lambda line: print(line, end="", flush=True)) if at_once == 1 else (lambda line: None)
     with concurrent.futures.ThreadPoolExecutor(at_once) as pool:

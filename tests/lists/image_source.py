@@ -4,7 +4,7 @@ The images are those of the controller as it stands, and others with other value
 """
 
 from tests.lists.parameters import draw_parameters
-from tests.lists.writes import Writer
+from tests.lists.write_source import Writer
 from tests.model.images import IMAGE_BYTES, LAYOUT, LENGTHS, image_of, sumcheck
 from tests.model.lines import MOST_BYTES
 from tests.model.loop import save
@@ -15,8 +15,8 @@ FIELDS = (*Parameters._fields, "OP", "request", "fault", "user_bits", "sumcheck"
 SIZE = dict(zip(FIELDS, LENGTHS, strict=True))
 FIELD_AT = {name: sum(3 + size for size in LENGTHS[:field]) for field, name in enumerate(FIELDS)}
 OTHER_READS = ("MD", "DS", "OP", "SP", "PV", "ER", "MP", "SW")  # with a saved image they are all that can be read
-WIDE = {"channel_1H": 9999, "channel_1L": -9999, "channel_2H": 9999, "channel_2L": -9999, "channel_3H": 9999, "channel_3L": -9999, "HR": 9999, "LR": 1,
-        "HS": 9999, "LS": -9999, "HA": 9999, "LA": -9999, "HO": 9999, "LO": 0}  # every pair as far apart as it can be
+WIDE = {"channel_1H": 9999, "channel_1L": -9999, "channel_2H": 9999, "channel_2L": -9999, "channel_3H": 9999, "channel_3L": -9999,
+        "HR": 9999, "LR": 1, "HS": 9999, "LS": -9999, "HA": 9999, "LA": -9999, "HO": 9999, "LO": 0}  # every pair as far apart as it can be
 
 
 def values_in(image):
@@ -58,15 +58,20 @@ class ImageSource(Writer):
         return with_right_sum(with_values(image, **values)) if values else image
 
     def wide(self):
-        """A sound image whose pairs are as far apart as can be, so that a value is legal or not by its range alone; SL and RS have limits of their own."""
+        """A sound image whose pairs are as far apart as can be, so that a value is legal or not by its range alone; SL
+        and RS have limits of their own.
+        """
         generator = self.generator
-        limits = {"HS": generator.randint(1, 5000), "LS": -generator.randint(0, 5000), "HR": generator.randint(5000, 9998), "LR": generator.randint(2, 4000)}
+        limits = {"HS": generator.randint(1, 5000), "LS": -generator.randint(0, 5000), "HR": generator.randint(5000, 9998),
+                  "LR": generator.randint(2, 4000)}
         limits = generator.choice(({}, limits))
         drawn = self.drawn(**WIDE, **{"SL": 0, "RS": 4500, "OP": generator.randint(0, 9999)})
         return with_right_sum(with_values(drawn, **limits))
 
     def based(self):
-        """A drawn state, and the image of it: saved into 300 bytes, so that it is known for the one that changes start from."""
+        """A drawn state, and the image of it: saved into 300 bytes, so that it is known for the one that changes start
+        from.
+        """
         yield "restart", self.drawn()
         yield "save", MOST_BYTES
 
@@ -76,7 +81,9 @@ class ImageSource(Writer):
         return with_values(image, sumcheck=right + self.generator.choice((1, -1, 256, 32768, self.generator.randint(1, 65535))))
 
     def restarts(self, image, share=0.8):
-        """The image with its sumcheck right and with a wrong one, in any order, each followed by reads in such a share of cases."""
+        """The image with its sumcheck right and with a wrong one, in any order, each followed by reads in such a share
+        of cases.
+        """
         for each in self.generator.sample((with_right_sum(image), self.with_wrong_sum(image)), 2):
             yield from self.restart(each, share)
 

@@ -1,16 +1,15 @@
-"""Call lists with restarts from images that were changed, drawn from a seed: every byte, every field, every pair, every tag and length, wrong sumchecks,
-every number of bytes.  The lists are in the form of tests/lists/scans.py.
+"""Call lists with restarts from images that were changed, drawn from a seed: every byte, every field, every pair, every
+tag and length, wrong sumchecks, every number of bytes.  The lists are in the form of tests/lists/entries.py.
 """
 
 import functools
 import itertools
 import operator
 
-from tests.lists import scans as scan_lists
+from tests.lists.entries import INVERSION, POWER_FAIL, Entry, entries, switch_word
 from tests.lists.image_source import (FIELDS, FIELD_AT, SIZE, ImageSource, values_in, with_byte, with_right_sum,
                                       with_values)
 from tests.lists.line_forms import NO_BYTES, with_wrong_text
-from tests.lists.scans import Entry
 from tests.model.images import IMAGE_BYTES, LENGTHS, TAGS
 from tests.model.lines import MOST_BYTES, line_of, text_of
 from tests.model.state import Parameters
@@ -18,9 +17,11 @@ from tests.model.table import NUMBER, PAIRS, range_of
 
 DEFAULTS = Parameters._field_defaults
 SUMCHECK_AT = FIELD_AT["sumcheck"] + 3
-FAR = (0, 1, -1, 2, 0x7FFF, -0x8000, -0x7FFF, 0x7FFE, 255, 256, -256, 128, -128, 10000, -10000, 10001)  # among them right ones if read otherwise
+# Far from the ends, among them right ones if read otherwise
+FAR = (0, 1, -1, 2, 0x7FFF, -0x8000, -0x7FFF, 0x7FFE, 255, 256, -256, 128, -128, 10000, -10000, 10001)
 LIMITED = {"HS": "SL", "HR": "RS"}
-OF_ONE_BYTE = {"request": (0, 1, 2, 3, 4, 127, 128, 254, 255), "fault": (0, 1, 2, 3, 128, 255), "user_bits": (*range(10), 15, 16, 32, 64, 128, 247, 248, 255)}
+OF_ONE_BYTE = {"request": (0, 1, 2, 3, 4, 127, 128, 254, 255), "fault": (0, 1, 2, 3, 128, 255),
+               "user_bits": (*range(10), 15, 16, 32, 64, 128, 247, 248, 255)}
 
 
 # Kinds of list: the calls that follow a fresh start ---------------------------
@@ -38,7 +39,10 @@ def bytes_changed(source):
 
 
 def byte_changed(source, base, place):
-    """One bit changed (another in each list), all bits changed, and the byte drawn anew; the sumcheck as it was, and right."""
+    """One bit changed (another in each list), all bits changed, and the byte drawn anew.
+
+    The sumcheck as it was, and right.
+    """
     for change in (1 << source.number % 8, 255, source.generator.randint(1, 255)):
         changed = with_byte(base, place, base[place] ^ change)
         yield from source.restart(changed, 0.5)
@@ -82,15 +86,19 @@ def small_fields(source):
 
 
 def pair_values(pair, generator):
-    """The higher end and the lower: in order, equal and out of order, each end out of its range, the other about the default that stands for it."""
+    """The higher end and the lower: in order, equal and out of order, each end out of its range, the other about the
+    default that stands for it.
+    """
     high, low = pair
     least, greatest = range_of(Parameters(), NUMBER[high])
     level, other = generator.randint(least + 2, greatest - 2), generator.randint(least, greatest)
-    within = [(level, level + distance) for distance in (-1, 0, 1, 2)] + [(least, greatest), (greatest, least), (least, least), (greatest, greatest)]
+    within = [(level, level + distance) for distance in (-1, 0, 1, 2)] + [(least, greatest), (greatest, least), (least, least),
+                                                                          (greatest, greatest)]
     within += [(level, other), (other, level), (least, least + 1), (greatest - 1, greatest), (DEFAULTS[low], DEFAULTS[high])]
     beyond = (greatest + 1, least - 1, generator.choice(FAR[4:8]))
     return (*within, *((far, DEFAULTS[high] + distance) for far in beyond for distance in (-1, 0, 1)), *((far, other) for far in beyond),
-            *((DEFAULTS[low] + distance, far) for far in beyond for distance in (-1, 0, 1)), *((other, far) for far in beyond), (beyond[0], beyond[1]))
+            *((DEFAULTS[low] + distance, far) for far in beyond for distance in (-1, 0, 1)), *((other, far) for far in beyond),
+            (beyond[0], beyond[1]))
 
 
 def pairs_changed(source):
@@ -100,7 +108,10 @@ def pairs_changed(source):
 
 
 def pair_changed(source, base, pair):
-    """A pair in order, equal and out of order, and with ends out of their range; the sumcheck right and wrong; SL or RS at the ends in half of the cases."""
+    """A pair in order, equal and out of order, and with ends out of their range.
+
+    The sumcheck right and wrong; SL or RS at the ends in half of the cases.
+    """
     generator = source.generator
     for high, low in pair_values(pair, generator):
         changed = with_values(base, **dict(zip(pair, (high, low), strict=True)))
@@ -119,7 +130,9 @@ def several_pairs(source):
 
 
 def setpoints_changed(source):
-    """SL and RS about the image's own limits, which stand as drawn, or are in order, equal, out of order or out of range."""
+    """SL and RS about the image's own limits, which stand as drawn, or are in order, equal, out of order or out of
+    range.
+    """
     generator = source.generator
     for limited, pair in (("SL", ("HS", "LS")), ("RS", ("HR", "LR"))) * 3:
         base = source.drawn()
@@ -128,7 +141,10 @@ def setpoints_changed(source):
 
 
 def setpoint_changed(source, base, limited, pair):
-    """SL or RS about its limits as the image has them and about their defaults, and far away; the sumcheck right and wrong."""
+    """SL or RS about its limits as the image has them and about their defaults, and far away.
+
+    The sumcheck right and wrong.
+    """
     generator, decoded = source.generator, values_in(base)
     ends = (decoded[pair[0]], decoded[pair[1]], DEFAULTS[pair[0]], DEFAULTS[pair[1]])
     about = sorted({end + distance for end in ends for distance in (-1, 0, 1)})
@@ -142,9 +158,12 @@ def wrong_sums(image):
     right, heads = sum(values), (sum(TAGS[:-1]), sum(LENGTHS[:-1]))
     by_bytes = sum(byte for name in FIELDS[:-1] for byte in image[FIELD_AT[name] + 3:FIELD_AT[name] + 3 + SIZE[name]])
     swapped = right % 256 * 256 + right // 256 % 256
-    return (right + heads[0], right + heads[1], right + sum(heads), sum(image[:-5]), sum(image[:-2]), by_bytes, functools.reduce(operator.xor, values),
-            -right, ~right, swapped, right % 65535, right + right // 65536, right - values[-1], right - values[0], sum(values[:23]), sum(values[:24]),
-            right + TAGS[-1], right + TAGS[-1] + 2, 0, 0xFFFF, right - 2 * sum(value for value in values if value > 32767), sum(value % 256 for value in values),
+    return (right + heads[0], right + heads[1], right + sum(heads), sum(image[:-5]), sum(image[:-2]), by_bytes,
+            functools.reduce(operator.xor, values),
+            -right, ~right, swapped, right % 65535, right + right // 65536, right - values[-1], right - values[0], sum(values[:23]),
+            sum(values[:24]),
+            right + TAGS[-1], right + TAGS[-1] + 2, 0, 0xFFFF, right - 2 * sum(value for value in values if value > 32767),
+            sum(value % 256 for value in values),
             2 * right, right ^ 0x8000, right ^ 1, right ^ 0x80)
 
 
@@ -162,7 +181,8 @@ def wrong_heads(base, field, generator):
     at, tag, length = FIELD_AT[FIELDS[field]], TAGS[field], LENGTHS[field]
     tags = {0, tag ^ 1, tag + 1, tag - 1, tag | 0x80, tag ^ 0x40, 0xFF, TAGS[field - 1], generator.randrange(256)} - {tag}
     lengths = {(0, 0), (0, 3 - length), (0, 3), (1, length), (length, 0), (0x80, length), (255, 255), (0, length + 128)}
-    return [with_byte(base, at, other) for other in sorted(tags)] + [with_byte(with_byte(base, at + 1, high), at + 2, low) for high, low in sorted(lengths)]
+    return [with_byte(base, at, other) for other in sorted(tags)] + [with_byte(with_byte(base, at + 1, high), at + 2, low)
+                                                                     for high, low in sorted(lengths)]
 
 
 def exchanged(base, name, other):
@@ -172,7 +192,8 @@ def exchanged(base, name, other):
 
 
 def heads_changed(source):
-    """Every tag and every length wrong, with a right sumcheck, a wrong one and an illegal value; and fields exchanged."""
+    """Every tag and every length wrong, with a right sumcheck, a wrong one and an illegal value; and fields exchanged.
+    """
     generator = source.generator
     for field in generator.sample(range(len(FIELDS)), len(FIELDS)):
         base, name = source.drawn(), FIELDS[field]
@@ -185,7 +206,9 @@ def heads_changed(source):
 
 
 def lengths_changed(source):
-    """Every number of bytes from 0 to 300: parts of an image, more than an image, and drawn bytes; and every length of a buffer for saving."""
+    """Every number of bytes from 0 to 300: parts of an image, more than an image, and drawn bytes; and every length of
+    a buffer for saving.
+    """
     generator = source.generator
     image, other = source.drawn(), source.drawn()
     yield from source.restart(source.drawn(), 1)
@@ -214,17 +237,19 @@ def any_image(source):
             yield from source.restart(bytes(generator.getrandbits(8) for _ in range(IMAGE_BYTES)), 1)
 
 
-KINDS = ((bytes_changed, 8), (fields_changed, 6), (small_fields, 8), (pairs_changed, 8), (several_pairs, 8), (setpoints_changed, 8), (sums_changed, 8),
-         (heads_changed, 6), (lengths_changed, 3), (any_image, 16))  # each with its number of lists
+# Each with its number of lists
+KINDS = ((bytes_changed, 8), (fields_changed, 6), (small_fields, 8), (pairs_changed, 8), (several_pairs, 8), (setpoints_changed, 8),
+         (sums_changed, 8),
+         (heads_changed, 6), (lengths_changed, 3), (any_image, 16))
 
 
 def call_list(generator, kind, number):
     """One list; S2.5 and S2.2 stand each way in turn."""
-    SW = scan_lists.switch_word(generator) & ~(scan_lists.POWER_FAIL | scan_lists.INVERSION)
-    SW |= (scan_lists.POWER_FAIL if number // 2 % 2 else 0) | (scan_lists.INVERSION if number // 2 % 4 in (1, 2) else 0)
+    SW = switch_word(generator) & ~(POWER_FAIL | INVERSION)
+    SW |= (POWER_FAIL if number // 2 % 2 else 0) | (INVERSION if number // 2 % 4 in (1, 2) else 0)
     source = ImageSource(generator, number)
     calls = source.following(itertools.chain([("fresh", SW)], kind(source)))
-    return list(scan_lists.entries(source, calls))
+    return list(entries(source, calls))
 
 
 def no_image(generator):

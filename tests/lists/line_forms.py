@@ -51,10 +51,10 @@ OTHER_FORMS = {"leading zeros": with_leading_zeros, "eighteen digits": with_eigh
 # Lines that are no call ----------------------------------------------------
 
 NO_NUMBERS = ("+5", "--5", "-", "5-", "1-2", "12x", "x12", "1.0", "1e3", "0x5", "80h", "1_0", "1,0", "\u00b2", "\xff")
-NO_BYTES = ("--", "-0", "-00", "0-", "00-", "+00", "0x00", "00h", "0h", "g0", "0G", "ag", "/0", ":0", "@0", "`0", "0/", "0:", "0@", "0`", "0_0", "0,0",
-            "\u00b2\u00b3", "\xff\xff", "0", "123")
-NO_WORDS = ("scam", "sca", "scann", "scan,", "scans", "freshen", "fres", "writ", "writes", "rewrite", "rea", "reads", "ok", "value", "refused", "error", "x",
-            "-", "128", "scan128", "read5", "sav", "saves", "restar", "restarts", "start", "image", "save137")
+NO_BYTES = ("--", "-0", "-00", "0-", "00-", "+00", "0x00", "00h", "0h", "g0", "0G", "ag", "/0", ":0", "@0", "`0", "0/", "0:", "0@", "0`",
+            "0_0", "0,0", "\u00b2\u00b3", "\xff\xff", "0", "123")
+NO_WORDS = ("scam", "sca", "scann", "scan,", "scans", "freshen", "fres", "writ", "writes", "rewrite", "rea", "reads", "ok", "value",
+            "refused", "error", "x", "-", "128", "scan128", "read5", "sav", "saves", "restar", "restarts", "start", "image", "save137")
 OTHER_BLANKS = ("\t", "\v", "\f", "\r", "\0", "\xa0", ",")
 
 
@@ -79,7 +79,9 @@ def number_too_many(generator, call):
 
 
 def number_beyond_its_type(generator, call):
-    """One beyond an end, or far beyond: among them numbers that come out right in 8, 16, 32 bits if only the low bits are kept."""
+    """One beyond an end, or far beyond: among them numbers that come out right in 8, 16, 32 bits if only the low bits
+    are kept.
+    """
     place = generator.choice([place for place, ends in enumerate(RANGES[call[0]], 1) if ends != ANY])
     least, greatest = RANGES[call[0]][place - 1]
     beyond = [greatest + 1, greatest + 1 + call[place], (1 << 16) + call[place], (1 << 32) + call[place], 10 ** 18 - 1]
@@ -140,7 +142,10 @@ def two_calls(generator, call):
 
 
 def overlong_line(generator, call):
-    """A call filled up with blanks to more than 700 bytes; of the longest the first or the last 700 bytes would be a call."""
+    """A call filled up with blanks to more than 700 bytes.
+
+    Of the longest the first or the last 700 bytes would be a call.
+    """
     line = line_of(call)
     missing = " " * (generator.choice([701, 702, 768, 1024, 1400, 4096, 5000]) - len(line))
     return generator.choice([missing + line, line + missing, line.replace(" ", " " + missing, 1)])
@@ -174,7 +179,8 @@ LINE_ERRORS = {"number missing": number_missing, "number too many": number_too_m
                "unknown word": unknown_word, "word in capitals": word_in_capitals, "no word": no_word, "word twice": word_twice,
                "empty line": empty_line, "blanks only": blanks_only, "other blank": other_blank, "two calls": two_calls,
                "overlong line": overlong_line, "no bytes": no_bytes, "odd digits": odd_digits, "blank in bytes": blank_in_bytes}
-# Only a restart has bytes, and it has no numbers; some lines with a number that is wrong elsewhere are calls all the same.
+# Only a restart has bytes, and it has no numbers; some lines with a number that is wrong elsewhere are calls all the
+# same.
 OF_BYTES = ("small letters", "both cases", "no bytes", "odd digits", "blank in bytes")
 OF_NUMBERS = ("leading zeros", "eighteen digits", "minus zero", "number beyond its type", "nineteen digits", "no number")
 NOT_OF = {"write": ("number below zero",), "read": ("number below zero", "number beyond its type")}

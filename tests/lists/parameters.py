@@ -1,4 +1,5 @@
-"""Call lists for controllers with other parameters than the defaults, drawn from a seed and written right after a fresh start.
+"""Call lists for controllers with other parameters than the defaults, drawn from a seed and written right after a fresh
+start.
 
 With such parameters the terms are really rounded, and the claim's bound has something to bound.
 """
@@ -7,6 +8,8 @@ import itertools
 import random
 
 from tests.lists import scans as scan_lists
+from tests.lists.entries import POWER_FAIL, entries, switch_word
+from tests.lists.scan_source import HELD, MODES_ASKED, Operator
 from tests.model.formulas import limit
 from tests.model.state import Parameters
 from tests.model.table import NUMBER, assert_legal, in_an_accepted_order
@@ -50,7 +53,8 @@ def draw_parameters(generator):
 
 
 def writes_of(parameters, request, user_bits, measured_power, order=0):
-    """Writes right after a fresh start, each accepted, that leave these parameters, request (M or A), user bits and MD bit 4.
+    """Writes right after a fresh start, each accepted, that leave these parameters, request (M or A), user bits and MD
+    bit 4.
 
     They come in an order drawn from the number given; SL is written in Auto, where S2.6 doesn't forbid it.
     """
@@ -69,8 +73,9 @@ def small_steps(operator):
     while True:
         samples = [generator.randint(2000, 8000) for _ in range(3)]
         step, asked = generator.choice((1, 3, 10, 40)), generator.choice(("Auto", "Remote", "Fall-back"))
-        held = generator.choice(scan_lists.HELD)
-        scans = [*[operator.enter("Track", held=0)] * 2, operator.enter(asked, held=0), *[operator.scan(operator.pins(asked), held, 0)] * 25]
+        held = generator.choice(HELD)
+        scans = [*[operator.enter("Track", held=0)] * 2, operator.enter(asked, held=0),
+                 *[operator.scan(operator.pins(asked), held, 0)] * 25]
         for word, pins, _, _, _, buttons, sensors in scans:
             samples = [limit(0, 10000, sample + generator.randint(-step, step)) for sample in samples]
             yield (word, pins, *samples, buttons, sensors)
@@ -78,7 +83,7 @@ def small_steps(operator):
 
 def quick_and_long(operator):
     while True:
-        yield from operator.stretch(operator.generator.choice(scan_lists.MODES_ASKED), operator.generator.choice((1, 2, 3, 5, 30)))
+        yield from operator.stretch(operator.generator.choice(MODES_ASKED), operator.generator.choice((1, 2, 3, 5, 30)))
 
 
 def open_runs(operator):
@@ -97,11 +102,11 @@ def with_refused_scans(operator, scans):
 
 def parameter_list(generator, number):
     """The calls: a fresh start, writes, then scans; S2.5 is ON in most open runs."""
-    operator = scan_lists.Operator(generator, number)
+    operator = Operator(generator, number)
     kind, length = ((small_steps, 170), (quick_and_long, 170), (small_steps, 170), (open_runs, 400))[number % 4]
-    SW = scan_lists.switch_word(generator)
+    SW = switch_word(generator)
     if kind is open_runs and generator.random() < 0.6:
-        SW |= scan_lists.POWER_FAIL
+        SW |= POWER_FAIL
     scans = list(itertools.islice(with_refused_scans(operator, kind(operator)), length))
     writes = writes_of(draw_parameters(generator), "M", generator.getrandbits(2), generator.random() < 0.2, number)
     return [("fresh", SW), *writes, *scans]
@@ -113,5 +118,5 @@ def all_calls(generator):
 
 
 def all_lists(generator):
-    """Pairs of a list's kind and the list, in the form of tests/lists/scans.py."""
-    return [("drawn parameters", list(scan_lists.entries(scan_lists.Operator(generator), calls))) for calls in all_calls(generator)]
+    """Pairs of a list's kind and the list, in the form of tests/lists/entries.py."""
+    return [("drawn parameters", list(entries(Operator(generator), calls))) for calls in all_calls(generator)]

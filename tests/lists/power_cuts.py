@@ -1,14 +1,16 @@
-"""Power cuts while an image is saved over an older one: the newer bytes stand before the cut, the older ones behind it, for a cut at every byte.
+"""Power cuts while an image is saved over an older one: the newer bytes stand before the cut, the older ones behind it,
+for a cut at every byte.
 
-A restart from such a mixture is refused, or brings the memory fault, or gives what the older or the newer image gives, unless the values before the cut
-have moved by amounts that add up to a multiple of 65,536: then the sumcheck, which is all that document 01 has against it, is right.  Such cases are counted.  The
-lists are in the form of tests/lists/scans.py.  In them the older and the newer image are those saved into 137 bytes, in turn.
+A restart from such a mixture is refused, or brings the memory fault, or gives what the older or the newer image gives,
+unless the values before the cut have moved by amounts that add up to a multiple of 65,536: then the sumcheck, which is
+all that document 01 has against it, is right.  Such cases are counted.  The lists are in the form of
+tests/lists/entries.py.  In them the older and the newer image are those saved into 137 bytes, in turn.
 """
 
-from tests.lists import scans as scan_lists
+from tests.lists.entries import entries, switch_word
 from tests.lists.image_source import values_in, with_right_sum, with_values
 from tests.lists.restarts import RestartSource
-from tests.lists.scans import HELD, MODES_ASKED, SP, A, M
+from tests.lists.scan_source import HELD, MODES_ASKED, SP, A, M
 from tests.model.images import IMAGE_BYTES
 from tests.model.table import NUMBER
 
@@ -58,7 +60,9 @@ def amounts_that_add_up_to_nothing(source):
 
 
 def limit_below_the_setpoint(source):
-    """HS moved down and XP up by the same amount: before SL, which follows HS, is written down, SL is out of the image's own limits."""
+    """HS moved down and XP up by the same amount: before SL, which follows HS, is written down, SL is out of the
+    image's own limits.
+    """
     generator, parameters = source.generator, source.controller.parameters
     amount = min(generator.randint(1, 300), parameters.HS - parameters.LS, 9999 - parameters.XP)
     yield from (("write", NUMBER[name], value) for name, value in (("HS", parameters.HS - amount), ("XP", parameters.XP + amount)))
@@ -83,16 +87,21 @@ def cuts(source, between):
 
 
 def drawn_cuts(source):
-    """A drawn state, and one way of coming from the older image to the newer; S2.6, which would move SL or keep it from being written, is OFF in some."""
+    """A drawn state, and one way of coming from the older image to the newer.
+
+    S2.6, which would move SL or keep it from being written, is OFF in some.
+    """
     between = BETWEEN[source.number % len(BETWEEN)]
-    yield "fresh", scan_lists.switch_word(source.generator) & ~(0x0400 if between in BETWEEN[3:] else 0)
+    yield "fresh", switch_word(source.generator) & ~(0x0400 if between in BETWEEN[3:] else 0)
     image = with_values(source.drawn(), fault=int(source.number % 7 == 6), request=0)
     yield "restart", with_right_sum(with_values(image, SL=values_in(image)["HS" if between is limit_below_the_setpoint else "SL"]))
     yield from cuts(source, between(source))
 
 
 def exact_example(source):
-    """SL goes up by 10 and RS down by 10, then the output goes up: cut behind RS, the image is sound, and neither the older nor the newer."""
+    """SL goes up by 10 and RS down by 10, then the output goes up: cut behind RS, the image is sound, and neither the
+    older nor the newer.
+    """
     yield "fresh", 0
     yield from (("write", NUMBER[name], value) for name, value in OLDER.items())
     changes = [("write", NUMBER[name], value) for name, value in NEWER.items()]
@@ -104,7 +113,7 @@ KINDS = ((drawn_cuts, 96), (exact_example, 1))
 
 def call_list(generator, kind, number):
     source = RestartSource(generator, number)
-    return list(scan_lists.entries(source, source.following(kind(source))))
+    return list(entries(source, source.following(kind(source))))
 
 
 def all_lists(generator):

@@ -1,15 +1,17 @@
-"""Call lists with saves and restarts in every mode and state, drawn from a seed: at once and later, under other switch words, with the memory fault, in
-open runs and between automatic scans.  The lists are in the form of tests/lists/scans.py.
+"""Call lists with saves and restarts in every mode and state, drawn from a seed: at once and later, under other switch
+words, with the memory fault, in open runs and between automatic scans.  The lists are in the form of
+tests/lists/entries.py.
 """
 
 import itertools
 
 from tests.lists import scans as scan_lists
+from tests.lists.entries import INVERSION, POWER_FAIL, entries, switch_word
 from tests.lists.image_source import ImageSource, values_in, with_right_sum, with_values
 from tests.lists.images import any_image, lengths_changed
 from tests.lists.parameters import draw_parameters, writes_of
-from tests.lists.scans import HELD, INVERSION, LOWER, MODES_ASKED, POWER_FAIL, RAISE
-from tests.lists.writes import WRITABLE
+from tests.lists.scan_source import HELD, LOWER, MODES_ASKED, RAISE
+from tests.lists.write_source import WRITABLE
 from tests.model.formulas import scale
 from tests.model.table import NUMBER
 
@@ -46,7 +48,8 @@ class RestartSource(ImageSource):
         """Bytes that a restart refuses."""
         generator, image = self.generator, self.image()
         illegal = with_values(image, **generator.choice(({"request": 3}, {"fault": 1, "request": 2}, {"XP": 0}, {"OP": 10000})))
-        return generator.choice((image[:-1], image + b"\0", b"", b"\0" + image[1:], image[:2] + b"\1" + image[3:], *[with_right_sum(illegal)] * 4))
+        return generator.choice((image[:-1], image + b"\0", b"", b"\0" + image[1:], image[:2] + b"\1" + image[3:],
+                                 *[with_right_sum(illegal)] * 4))
 
     def faulty(self):
         """An image that brings the memory fault: a fault of 1, or a wrong sumcheck."""
@@ -81,7 +84,8 @@ def under_other_switches(source):
         yield from source.stays(asked)
         yield "save", 137
         image = source.image()
-        SW = scan_lists.switch_word(generator) & ~(POWER_FAIL | INVERSION) | (POWER_FAIL if place & 1 else 0) | (INVERSION if place & 2 else 0)
+        SW = switch_word(generator) & ~(POWER_FAIL | INVERSION) | (POWER_FAIL if place & 1 else 0) | (INVERSION if place & 2
+                                                                                                                 else 0)
         yield "fresh", SW
         yield from source.stays(generator.choice(MODES_ASKED))
         yield "restart", image
@@ -124,7 +128,10 @@ def open_scans(source, asked, number):
 
 
 def fault_and_open_runs(source):
-    """The open cause and the memory fault together and one after the other; restarts before the 84th, 85th and 86th open scan begin the count anew."""
+    """The open cause and the memory fault together and one after the other.
+
+    Restarts before the 84th, 85th and 86th open scan begin the count anew.
+    """
     generator, asked = source.generator, MODES_ASKED[source.number % 6]
     yield "restart", source.drawn(fault=0, request=generator.randrange(3))
     yield source.enter(asked, held=0)
@@ -139,14 +146,19 @@ def fault_and_open_runs(source):
 
 
 def between_automatic_scans(source):
-    """Restarts between automatic scans: what was remembered is forgotten, the output is OP; a refused restart forgets nothing."""
+    """Restarts between automatic scans: what was remembered is forgotten, the output is OP.
+
+    a refused restart forgets nothing.
+    """
     generator = source.generator
-    terms = {"XP": generator.randint(200, 3000), "TI": generator.choice((0, generator.randint(1, 300))), "TD": generator.choice((0, generator.randint(1, 40)))}
+    terms = {"XP": generator.randint(200, 3000), "TI": generator.choice((0, generator.randint(1, 300))),
+             "TD": generator.choice((0, generator.randint(1, 40)))}
     yield "restart", source.drawn(HO=9999, LO=0, OP=5000, **terms)
     for _ in range(16):
         asked = generator.choice(("Auto", "Remote", "Fall-back"))
         yield source.enter(asked, held=0)
-        yield from (source.scan(source.pins(asked), generator.choice(HELD), generator.random() < 0.05) for _ in range(generator.choice((0, 1, 2, 5))))
+        yield from (source.scan(source.pins(asked), generator.choice(HELD), generator.random() < 0.05)
+                    for _ in range(generator.choice((0, 1, 2, 5))))
         yield from source.saves(0.7)
         yield from (source.scan(source.pins(asked), 0, False) for _ in range(generator.choice((0, 1))))
         yield "save", generator.choice((137, 200))
@@ -159,7 +171,8 @@ def between_automatic_scans(source):
 
 
 def single_steps(source):
-    """The output that a restart leaves, to the step: an integral term of one step of 1/65,536, up or down, is all that the next scan adds.
+    """The output that a restart leaves, to the step: an integral term of one step of 1/65,536, up or down, is all that
+    the next scan adds.
 
     3,600,000 / (9999 x 19998 x TI) units are one step with TI 1180, in minutes 60,000 / (9999 x 19998 x TI) with TI 20.
     """
@@ -170,7 +183,8 @@ def single_steps(source):
         slow = {"XP": 9999, "channel_1H": 9999, "channel_1L": -9999, "TI": 20 if source.controller.SW & MINUTES else 1180, "TD": 0, "IC": 0}
         limits = {"HS": 9999, "LS": -9999, "HO": 9999, "LO": 0, "SL": SL, "OP": generator.randint(0, 9999)}
         yield "restart", source.drawn(**slow, **limits, request=generator.choice((1, 2)), fault=0, user_bits=4)
-        yield from [("scan", 0x80, sample, generator.randint(0, 10000), generator.randint(0, 10000), 0, 0), ("read", NUMBER["OP"])] * generator.choice((1, 1, 2))
+        yield from [("scan", 0x80, sample, generator.randint(0, 10000), generator.randint(0, 10000), 0, 0),
+                    ("read", NUMBER["OP"])] * generator.choice((1, 1, 2))
         if generator.random() < 0.3:
             yield "restart", source.unacceptable()
             yield "scan", 0x80, sample, 0, 0, 0, 0
@@ -200,24 +214,31 @@ def mixed(source):
     for _ in range(150):
         kept = [source.image(), *kept][:4] if generator.random() < 0.2 else kept
         yield from generator.choice((
-            lambda: [next(others[0])], lambda: [next(others[1])], lambda: [next(others[2])], lambda: [source.enter(generator.choice(MODES_ASKED))], source.reads,
+            lambda: [next(others[0])], lambda: [next(others[1])], lambda: [next(others[2])],
+            lambda: [source.enter(generator.choice(MODES_ASKED))], source.reads,
             source.writes, lambda: [("restart", generator.choice(kept))], source.reads_of_all,
             lambda: [("restart", source.faulty())], lambda: source.write("MD", generator.choice(MD_WORDS))))()
 
 
-KINDS = ((saved_in_modes, 24), (under_other_switches, 24), (with_the_fault, 24), (fault_and_open_runs, 72), (between_automatic_scans, 30), (single_steps, 12),
-         (after_writes, 12), (mixed, 30))  # each with its number of lists
+# Each with its number of lists
+KINDS = ((saved_in_modes, 24), (under_other_switches, 24), (with_the_fault, 24), (fault_and_open_runs, 72), (between_automatic_scans, 30),
+         (single_steps, 12),
+         (after_writes, 12), (mixed, 30))
 
 
 def call_list(generator, kind, number):
-    """One list; S2.5 is ON in every second list, or in every third between automatic scans, where it would end them all; S2.2 in turn."""
-    SW = scan_lists.switch_word(generator) & ~(POWER_FAIL | INVERSION)
+    """One list.
+
+    S2.5 is ON in every second list, or in every third between automatic scans, where it would end them all; S2.2 in
+    turn.
+    """
+    SW = switch_word(generator) & ~(POWER_FAIL | INVERSION)
     is_power_fail = number % 3 == 2 if kind in (between_automatic_scans, single_steps) else number % 2
     source = RestartSource(generator, number)
     start = [("fresh", SW | (POWER_FAIL if is_power_fail else 0) | (INVERSION if number // 2 % 2 else 0))]
     if generator.random() < 0.6:
         start.append(("restart", source.drawn()))
-    return list(scan_lists.entries(source, source.following(itertools.chain(start, kind(source)))))
+    return list(entries(source, source.following(itertools.chain(start, kind(source)))))
 
 
 def all_lists(generator):

@@ -1,105 +1,7 @@
-"""Call lists for the console, drawn from a seed: every mode, switch, button, pin, refusal, open run, and lines that are no call.
+"""Lists of scans, drawn from a seed: every mode, switch, button, pin, refusal, open run, and lines that are no call."""
 
-A list is a sequence of entries; an entry is a line, its kind and the word of its call: the kind is "call" for a call's plainest line, else the name
-of the other form or of the line error made of the call.  Each list begins with a fresh start, except those that are to stand at the beginning of an input.
-"""
-
-from typing import NamedTuple
-
-from tests.lists.line_forms import LINE_ERRORS, OTHER_FORMS, line_errors_of, other_forms_of
-from tests.model.formulas import limit
-from tests.model.lines import line_of
-
-LOWER, RAISE, SP, R, A, M = 0x80, 0x40, 0x08, 0x04, 0x02, 0x01
-HELD = (0, 0, RAISE, LOWER, SP, SP | RAISE, SP | LOWER, RAISE | LOWER, SP | RAISE | LOWER)
-USED_SWITCHES = (0x8000, 0x4000, 0x2000, 0x1000, 0x0800, 0x0400, 0x0100, 0x0080)  # S2.1 to S2.6, S2.8, S1.1
-USED, RATIO, INVERSION, POWER_FAIL = sum(USED_SWITCHES), 0x8000, 0x4000, 0x0800
-
-# Step 3: the pins that bring a mode, those that may stand beside them, its request button, and those that are overruled by it or wait.
-ASKED = {"Hold": (0x00, 0x7F, 0, M | A | R), "Track": (0xC0, 0x3F, 0, M | A | R), "Manual": (0x80, 0x3F, M, A | R),
-         "Auto": (0x80, 0x3F, A, R), "Remote": (0xA0, 0x1F, R, 0), "Fall-back": (0x80, 0x1F, R, 0)}  # Remote is Ratio with S2.1 ON
-MODES_ASKED = tuple(ASKED)
-
-ENDS = (0, 1, 4, 5, 6, 4994, 4995, 4999, 5000, 5001, 9994, 9995, 9998, 9999, 10000)
-TOO_GREAT = (10001, 10002, 16384, 32767, 32768, 65535)
-
-
-class Entry(NamedTuple):
-    line: str
-    kind: str
-    word: str
-
-
-def channel(generator):
-    """One channel's samples without end: steady, wandering, jumping, at the ends of the range and about halves."""
-    sample = generator.randint(0, 10000)
-    while True:
-        manner = generator.choice(("steady", "wandering", "wandering", "wandering", "jumping", "ends"))
-        step = 1 << generator.randint(2, 11)
-        for _ in range(generator.randint(1, 50)):
-            if manner == "wandering":
-                sample = limit(0, 10000, sample + generator.randint(-step, step))
-            elif manner == "jumping":
-                sample = generator.randint(0, 10000)
-            elif manner == "ends":
-                sample = generator.choice(ENDS)
-            yield sample
-
-
-class Operator:
-    """Draws scans: the samples, the pins and buttons that bring or keep a mode, now and then a low battery."""
-
-    def __init__(self, generator, number=0):
-        self.generator, self.number = generator, number  # the number of the list among those of its kind
-        self.channels = [channel(generator) for _ in range(3)]
-
-    def scan(self, pins, buttons, is_open):
-        battery_low = 2 if self.generator.random() < 0.05 else 0
-        return ("scan", pins, *map(next, self.channels), buttons, battery_low | is_open)
-
-    def pins(self, asked):
-        needed, allowed, _, _ = ASKED[asked]
-        return needed | allowed & self.generator.getrandbits(8)
-
-    def enter(self, asked, is_open=False, held=None):
-        """A scan with the mode's own request button; "the first pressed of M, A, R" may have others beside it."""
-        _, _, needed, allowed = ASKED[asked]
-        buttons = needed | allowed & self.generator.choice((0, self.generator.getrandbits(3)))
-        return self.scan(self.pins(asked), buttons | (self.generator.choice(HELD) if held is None else held), is_open)
-
-    def stay(self, asked, held, is_open=False):
-        """A scan in the mode already entered: in Hold and Track the request may change all the same."""
-        if self.generator.random() < 0.2:
-            return self.enter(asked, is_open, held)
-        return self.scan(self.pins(asked), held, is_open)
-
-    def stretch(self, asked, length):
-        """A run in one mode with one hand on the buttons; in some, single open scans."""
-        held, open_share = self.generator.choice(HELD), self.generator.choice((0, 0, 0, 0.15))
-        yield self.enter(asked)
-        for _ in range(length - 1):
-            yield self.stay(asked, held, self.generator.random() < open_share)
-
-    def released(self, asked):
-        """In some cases a scan without any request button, so that a request made earlier shows; then Remote, which shows SL."""
-        if self.generator.random() < 0.4:
-            yield self.scan(self.pins(asked), self.generator.choice(HELD), False)
-            yield self.enter("Remote")
-
-    def refused_scan(self):
-        """A scan to be refused, for one cause or several, whatever else it brings."""
-        generator = self.generator
-        _, pins, *samples, buttons, sensors = self.scan(generator.getrandbits(8), generator.getrandbits(8) & 0xCF, generator.getrandbits(1))
-        causes = generator.choice(((1,), (1,), (2,), (2,), (3,), (3,), (1, 2), (1, 3), (2, 3), (1, 2, 3)))
-        if 1 in causes:
-            for place in generator.sample(range(3), generator.choice((1, 1, 1, 2, 3))):
-                samples[place] = generator.choice((*TOO_GREAT, generator.randint(10001, 65535)))
-        if 2 in causes:
-            buttons |= generator.choice((0x10, 0x20, 0x30))
-        if 3 in causes:
-            sensors |= generator.choice((1 << generator.randint(2, 7), generator.randint(4, 255)))
-        return ("scan", pins, *samples, buttons, sensors)
-
+from tests.lists.entries import INVERSION, POWER_FAIL, RATIO, entries, switch_word
+from tests.lists.scan_source import HELD, LOWER, MODES_ASKED, RAISE, SP, A, M, Operator, R
 
 # Kinds of list: the scans that follow a fresh start -------------------------
 
@@ -116,7 +18,10 @@ def quick_changes(operator):
 
 
 def open_run(operator):
-    """80 to 90 consecutive open scans from any mode; refused scans among them, a change of mode, Hold or Track about the 85th."""
+    """80 to 90 consecutive open scans from any mode.
+
+    Refused scans among them, a change of mode, Hold or Track about the 85th.
+    """
     generator = operator.generator
     asked, last = (*MODES_ASKED, "Manual", "Remote")[operator.number % 8], generator.choice((*MODES_ASKED, "Remote", "Remote"))
     yield from operator.stretch("Track", generator.randint(1, 2))
@@ -140,7 +45,10 @@ def open_run(operator):
 
 
 def setpoints_in_use(operator):
-    """SL moved in any mode, open or not; then an automatic mode takes it for SP, and Remote shows it by the change of SP."""
+    """SL moved in any mode, open or not.
+
+    Then an automatic mode takes it for SP, and Remote shows it by the change of SP.
+    """
     generator = operator.generator
     for _ in range(20):
         yield operator.enter("Track")
@@ -153,7 +61,9 @@ def setpoints_in_use(operator):
 
 
 def ratios(operator):
-    """Ratio with small samples of channel 2 while RS is moved to and fro, so that the quotients are small and many are halves."""
+    """Ratio with small samples of channel 2 while RS is moved to and fro, so that the quotients are small and many are
+    halves.
+    """
     generator = operator.generator
     for _ in range(6):
         yield operator.enter("Track", held=0)
@@ -234,34 +144,20 @@ def anything(operator):
         yield operator.scan(pins, buttons, generator.random() < 0.1)
 
 
-KINDS = ((mode_runs, 58), (quick_changes, 90), (open_run, 320), (setpoints_in_use, 40), (ratios, 16), (broken_open_run, 20), (long_open_run, 4),
-         (every_button, 6), (every_pin, 8), (refusals, 24), (to_the_ends, 4), (anything, 60))  # each with its number of lists
+# Each with its number of lists
+KINDS = ((mode_runs, 58), (quick_changes, 90), (open_run, 320), (setpoints_in_use, 40), (ratios, 16), (broken_open_run, 20),
+         (long_open_run, 4),
+         (every_button, 6), (every_pin, 8), (refusals, 24), (to_the_ends, 4), (anything, 60))
 
 
 # Whole lists ----------------------------------------------------------------
 
-def switch_word(generator):
-    """Any word; or one used switch alone ON, or alone OFF; the bits that aren't used are drawn always."""
-    switch = generator.choice(USED_SWITCHES)
-    used = generator.choice((0, switch, USED - switch, USED, generator.getrandbits(16), generator.getrandbits(16), generator.getrandbits(16)))
-    return used & USED | generator.getrandbits(16) & ~USED
-
-
-def entries(operator, calls):
-    """The calls as lines, some in other forms; some refused scans and lines that are no call among them."""
-    generator = operator.generator
-    for call in calls:
-        if generator.random() < 0.02:
-            yield Entry(line_of(operator.refused_scan()), "call", "scan")
-        if generator.random() < 0.03:
-            kind = generator.choice(line_errors_of(call[0]))
-            yield Entry(LINE_ERRORS[kind](generator, call), kind, call[0])
-        kind = generator.choice(other_forms_of(call[0])) if generator.random() < 0.03 else "call"
-        yield Entry(line_of(call) if kind == "call" else OTHER_FORMS[kind](generator, call), kind, call[0])
-
-
 def call_list(generator, kind, number):
-    """One list; open runs take S2.5 and S2.2 each way, with each of the modes they are entered from; RS is moved to its ends in Ratio."""
+    """One list.
+
+    Open runs take S2.5 and S2.2 each way, with each of the modes they are entered from; RS is moved to its ends in
+    Ratio.
+    """
     SW = switch_word(generator)
     if kind is open_run:
         SW = SW & ~(POWER_FAIL | INVERSION) | (POWER_FAIL if number & 8 else 0) | (INVERSION if number & 16 else 0)

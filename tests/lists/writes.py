@@ -1,87 +1,23 @@
-"""Call lists with writes and reads, drawn from a seed: every parameter at its ends, every pair, every refusal, every effect of a write, every MD word.
+"""Call lists with writes and reads, drawn from a seed: every parameter at its ends, every pair, every refusal, every
+effect of a write, every MD word.
 
-The lists are in the form of tests/lists/scans.py.
+The lists are in the form of tests/lists/entries.py.
 """
 
 import random
 
 from tests.lists import scans as scan_lists
+from tests.lists.entries import POWER_FAIL, RATIO, entries, switch_word
 from tests.lists.parameters import draw_parameters, near_or_far, writes_of
-from tests.lists.scans import HELD, MODES_ASKED
-from tests.model import loop
+from tests.lists.scan_source import HELD, MODES_ASKED
+from tests.lists.write_source import INT32_ENDS, WRITABLE, Writer
 from tests.model.formulas import limit
 from tests.model.state import Stored
-from tests.model.table import NAMES, NUMBER, PAIRS, READ_ONLY, in_an_accepted_order, partner_of, range_of
+from tests.model.table import NUMBER, PAIRS, READ_ONLY, partner_of, range_of
 
-WRITABLE = NAMES[:READ_ONLY[0] - 1]
 SETPOINT_TRACKS = 0x0400  # S2.6
-# What a write may change besides, or shows besides
-BESIDE = {"HS": ("SL", "SP"), "LS": ("SL", "SP"), "HR": ("RS",), "LR": ("RS",), "HO": ("OP",), "LO": ("OP",), "MD": ("DS",), "DS": ("MD",),
-          "channel_1H": ("PV",), "channel_1L": ("PV",), "SL": ("SP",)}
-INT32_ENDS = (-1 << 31, (-1 << 31) + 1, (1 << 31) - 2, (1 << 31) - 1)
-OUTSIDE = (0, 33, 34, 35, 64, 127, 128, 255, 256, 10 ** 17, 1 << 31, 1 << 32, 1 << 53, (1 << 53) + 1, 1 << 59, 10 ** 18 - 1, -1, -32, -(1 << 31), 1 - 10 ** 18)
-WRAPS = (1 << 5, 1 << 6, 1 << 8, 1 << 16, 1 << 31, 1 << 32, -1 << 8, -1 << 16, -1 << 32, 1 << 58)
 MD_WORDS = random.Random(6360).sample(range(65536), 65536)
 MD_LISTS = 48
-
-
-class Writer(scan_lists.Operator):
-    """Draws writes and reads too; follows the controller's state in the model, so as to draw values about the ends that stand."""
-
-    controller = None
-
-    def following(self, calls):
-        """The calls, each made in the model before the next is drawn."""
-        for call in calls:
-            self.controller, _ = loop.make(self.controller, call, Stored)
-            yield call
-
-    def reads(self, *names):
-        """Reads of these, of some drawn others, now and then of all 32 and of a number outside."""
-        generator = self.generator
-        chosen = generator.sample(NAMES, 32) if generator.random() < 0.01 else (*names, *generator.sample(NAMES, generator.choice((0, 0, 1, 2))))
-        yield from (("read", NUMBER[name]) for name in chosen)
-        if generator.random() < 0.02:
-            yield "read", self.outside()
-
-    def outside(self):
-        """A number outside 1..32, many of them such that only low bits make a number of them."""
-        generator = self.generator
-        return generator.choice((0, 33, generator.choice(OUTSIDE), generator.choice(OUTSIDE), generator.choice(WRAPS) + generator.randint(1, 32),
-                                 -generator.randint(1, 32)))
-
-    def write(self, name, value):
-        yield "write", NUMBER[name], value
-        yield from self.reads(name, *BESIDE.get(name, ()))
-
-    def ends(self, name):
-        """The ends of the range that stands, and a value within."""
-        least, greatest = range_of(self.controller.parameters, NUMBER[name])
-        return least, greatest, self.generator.randint(least, greatest)
-
-    def values(self, name):
-        """At each end of the range, just inside and just beyond, far beyond, and right if only the low 8 or 16 bits are kept."""
-        least, greatest, inside = self.ends(name)
-        wrapped = [inside + 65536, inside - 65536, inside + 256 * self.generator.choice((-1, 1, 40, 79)), inside + (1 << 24), inside - (1 << 30)]
-        return [least - 1, least, least + 1, greatest - 1, greatest, greatest + 1, inside, self.generator.choice(INT32_ENDS), *wrapped]
-
-    def value(self, name):
-        """One of these, or a value within the range."""
-        if self.generator.random() < 0.7:
-            return self.ends(name)[2]
-        return self.generator.choice(self.values(name))
-
-    def new_parameters(self):
-        """Other parameters, in an order in which each write is accepted, but perhaps that of SL."""
-        parameters = draw_parameters(self.generator)
-        names = self.generator.sample(parameters._fields, len(parameters))
-        for number, value in in_an_accepted_order(self.controller.parameters, parameters._asdict(), names):
-            yield "write", number, value
-        yield from self.reads(*names[:3])
-
-    def opened(self, asked):
-        """85 open scans: the open cause stands as long as no scan comes that isn't open."""
-        yield from (self.stay(asked, 0, True) for _ in range(85))
 
 
 # Kinds of list: the calls that follow a fresh start and the writes of drawn parameters ---------
@@ -95,7 +31,8 @@ def range_ends(writer):
 
 
 def pairs(writer):
-    """Both ends of every pair about the stored partner, in order, equal and out of order, the partner moved in between."""
+    """Both ends of every pair about the stored partner, in order, equal and out of order, the partner moved in between.
+    """
     generator = writer.generator
     for pair in generator.sample(PAIRS * 2, 2 * len(PAIRS)):
         yield from writer.new_parameters()
@@ -129,7 +66,10 @@ def limits_moved(writer):
 
 
 def output_limits(writer):
-    """HO and LO about the output in every mode, the output first set by Track, then often with a fraction; the open cause in every fourth list."""
+    """HO and LO about the output in every mode, the output first set by Track, then often with a fraction.
+
+    The open cause in every fourth list.
+    """
     generator, is_open = writer.generator, writer.number % 4 == 3
     if is_open:
         yield from writer.opened("Auto")
@@ -159,7 +99,9 @@ def setpoint_by_mode(writer):
 
 
 def words_of_MD(writer):
-    """A share of all 65,536 words, each followed by reads of MD and DS: in every mode, with and without the open cause, Remote pin 0 and 1."""
+    """A share of all 65,536 words, each followed by reads of MD and DS: in every mode, with and without the open cause,
+    Remote pin 0 and 1.
+    """
     asked, is_open = MODES_ASKED[writer.number % 6], writer.number // 6 % 2 == 1
     if is_open:
         yield from writer.opened(asked)
@@ -173,7 +115,10 @@ def words_of_MD(writer):
 
 
 def words_of_DS(writer):
-    """User bits alone and together, all other bits beside them, in every mode; MD words beyond 16 bits too, in every third list with the open cause."""
+    """User bits alone and together, all other bits beside them, in every mode.
+
+    MD words beyond 16 bits too, in every third list with the open cause.
+    """
     generator, is_open = writer.generator, writer.number % 3 == 2
     if is_open:
         yield from writer.opened("Auto")
@@ -193,13 +138,17 @@ def read_only(writer):
         if generator.random() < 0.3:
             yield writer.enter(generator.choice(MODES_ASKED))
         number = generator.choice((generator.choice(READ_ONLY), writer.outside()))
-        yield "write", number, generator.choice((0, 1, -1, 0x2000, 50, 65536, 0x3608, *INT32_ENDS, generator.randint(-9999, 9999), generator.getrandbits(16)))
+        yield "write", number, generator.choice((0, 1, -1, 0x2000, 50, 65536, 0x3608, *INT32_ENDS, generator.randint(-9999, 9999),
+                                                 generator.getrandbits(16)))
         yield "read", number
         yield from writer.reads("SP", "PV")
 
 
 def open_writes(writer):
-    """Open runs with writes, accepted and refused, before the 84th, 85th and 86th open scan; MD most often before the 85th."""
+    """Open runs with writes, accepted and refused, before the 84th, 85th and 86th open scan.
+
+    MD most often before the 85th.
+    """
     generator = writer.generator
     asked = MODES_ASKED[writer.number % 6]
     yield writer.enter("Track")
@@ -208,15 +157,20 @@ def open_writes(writer):
         share = {84: 0.4, 85: 0.9, 86: 0.6}.get(place, 0.03)
         while generator.random() < share:
             name = generator.choice(("MD", "MD", generator.choice(WRITABLE)))
-            yield from writer.write(name, generator.choice((0x1000, 0x1000, 0x1010, 0x2000, 0x2010, 0x0800, 0x1800)) if name == "MD" else writer.value(name))
+            yield from writer.write(name, generator.choice((0x1000, 0x1000, 0x1010, 0x2000, 0x2010, 0x0800, 0x1800)) if name == "MD"
+                                    else writer.value(name))
             share /= 2
-        yield writer.scan(writer.pins(asked) if generator.random() < 0.97 else generator.getrandbits(8), generator.choice((0, 0x40, 0x80)), True)
+        yield writer.scan(writer.pins(asked) if generator.random() < 0.97 else generator.getrandbits(8), generator.choice((0, 0x40, 0x80)),
+                          True)
     yield from writer.reads("MD", "OP")
     yield from writer.stretch(generator.choice(MODES_ASKED), 3)
 
 
 def between_automatic_scans(writer):
-    """Ranges, IC, XP, TI, TD, limits, SL, RS and RB written between automatic scans; what is remembered isn't scaled anew."""
+    """Ranges, IC, XP, TI, TD, limits, SL, RS and RB written between automatic scans.
+
+    What is remembered isn't scaled anew.
+    """
     generator = writer.generator
     names = ("channel_1H", "channel_1L", "channel_2H", "channel_2L", "channel_3H", "channel_3L", "IC", "XP", "TI", "TD", "SL", "RS", "RB",
              "HS", "LS", "HR", "LR", "HA", "LA", "HD", "LD")
@@ -252,28 +206,35 @@ def mixed(writer):
     generator = writer.generator
     for _ in range(150):
         for _ in range(generator.choice((0, 1, 1, 2, 3))):
-            yield from generator.choice((lambda: [next(scan_lists.anything(writer))], lambda: [writer.enter(generator.choice(MODES_ASKED))], writer.reads))()
+            yield from generator.choice((lambda: [next(scan_lists.anything(writer))], lambda: [writer.enter(generator.choice(MODES_ASKED))],
+                                         writer.reads))()
         name = generator.choice(WRITABLE)
         yield from writer.write(name, writer.value(name))
 
 
-KINDS = ((range_ends, 16), (pairs, 16), (limits_moved, 40), (output_limits, 36), (setpoint_by_mode, 24), (words_of_MD, MD_LISTS), (words_of_DS, 12),
-         (read_only, 16), (open_writes, 96), (between_automatic_scans, 30), (power_and_trim, 24), (mixed, 40))  # each with its number of lists
+# Each with its number of lists
+KINDS = ((range_ends, 16), (pairs, 16), (limits_moved, 40), (output_limits, 36), (setpoint_by_mode, 24), (words_of_MD, MD_LISTS),
+         (words_of_DS, 12),
+         (read_only, 16), (open_writes, 96), (between_automatic_scans, 30), (power_and_trim, 24), (mixed, 40))
 
 
 def call_list(generator, kind, number):
-    """One list: a fresh start, in most cases writes of drawn parameters, and the kind's calls; S2.1, S2.5 and S2.6 each way where they matter."""
-    SW = scan_lists.switch_word(generator)
+    """One list: a fresh start, in most cases writes of drawn parameters, and the kind's calls.
+
+    S2.1, S2.5 and S2.6 each way where they matter.
+    """
+    SW = switch_word(generator)
     if kind is words_of_MD:
-        SW = SW & ~scan_lists.RATIO | (scan_lists.RATIO if number // 12 % 2 else 0)
+        SW = SW & ~RATIO | (RATIO if number // 12 % 2 else 0)
     if kind is setpoint_by_mode:
         SW = SW & ~SETPOINT_TRACKS | (SETPOINT_TRACKS if number & 1 else 0)
     if kind is open_writes:
-        SW = SW & ~scan_lists.POWER_FAIL | (scan_lists.POWER_FAIL if number % 4 else 0)
+        SW = SW & ~POWER_FAIL | (POWER_FAIL if number % 4 else 0)
     writer = Writer(generator, number)
-    drawn = [] if generator.random() < 0.2 else writes_of(draw_parameters(generator), "M", generator.getrandbits(2), generator.random() < 0.3, number)
+    drawn = [] if generator.random() < 0.2 else writes_of(draw_parameters(generator), "M", generator.getrandbits(2),
+                                                          generator.random() < 0.3, number)
     calls = writer.following(call for part in ([("fresh", SW)], drawn, kind(writer)) for call in part)
-    return list(scan_lists.entries(writer, calls))
+    return list(entries(writer, calls))
 
 
 def all_lists(generator):

@@ -1,7 +1,9 @@
-"""The claim over every list of calls (document 01, "The exact controller", demand 3), checked after every call, and what each call may change.
+"""The claim over every list of calls (document 01, "The exact controller", demand 3), checked after every call, and
+what each call may change.
 
-It is written apart from the rules: the conditions of the modes, the causes, the accepted automatic scans and the outright settings are
-written out here again from the paper's words, and are read from the exact controller.  Nothing of the rules is called.
+It is written apart from the rules: the conditions of the modes, the causes, the accepted automatic scans and the
+outright settings are written out here again from the paper's words, and are read from the exact controller.  Nothing of
+the rules is called.
 """
 
 STEPS_IN_A_UNIT = 65536
@@ -9,7 +11,8 @@ AUTOMATIC_MODES = {"Auto", "Remote", "Ratio", "Fall-back"}
 # Words: "15 Hold, 14 Track, 13 Manual or Forced, 12 Auto or Fall-back, 11 Remote or Ratio"
 MODES_BY_MD_BIT = {15: {"Hold"}, 14: {"Track"}, 13: {"Manual", "Forced Manual"}, 12: {"Auto", "Fall-back"}, 11: {"Remote", "Ratio"}}
 MD, OP = 24, 28
-# Where an image has its values, counted from its first byte: parameters 1 to 23 and OP two bytes each, request, fault and 44h one, the sumcheck two
+# Where an image has its values, counted from its first byte: parameters 1 to 23 and OP two bytes each, request, fault
+# and 44h one, the sumcheck two
 TWO_BYTES, OP_AT, ONE_BYTE, FAULT_AT, SUMCHECK_AT = range(3, 120, 5), 118, (123, 127, 131), 127, 135
 # "A fresh start and an accepted restart leave"; and no earlier PV or SP is remembered
 AFTER_START = {"pins": 0x80, "buttons": 0, "open_count": 0, "MP": 0, "battery_low": False, "low_alarm": False, "high_alarm": False,
@@ -33,7 +36,9 @@ def sum_of(image):
 
 
 def brings_fault(image):
-    """Of an accepted restart: "A fault of 1 or a wrong sumcheck brings the memory fault, any other accepted restart ends it"."""
+    """Of an accepted restart: "A fault of 1 or a wrong sumcheck brings the memory fault, any other accepted restart
+    ends it".
+    """
     return image[FAULT_AT] == 1 or word_at(image, SUMCHECK_AT) != sum_of(image)
 
 
@@ -55,13 +60,17 @@ def first_mode_present(exact):
 
 
 def is_minimum(exact_before, exact, mode):
-    """Step 6: "on the 85th open scan, if the mode just before this scan was automatic and S2.5 is ON, it goes to minimum"."""
+    """Step 6: "on the 85th open scan, if the mode just before this scan was automatic and S2.5 is ON, it goes to
+    minimum".
+    """
     return (exact.open_count == 85 and mode in ("Manual", "Forced Manual") and bit(exact.SW, 11) == 1
             and first_mode_present(exact_before) in AUTOMATIC_MODES)
 
 
 class Claim:
-    """Follows one pair of controllers; n is the number of accepted automatic scans since the output was last set outright."""
+    """Follows one pair of controllers; n is the number of accepted automatic scans since the output was last set
+    outright.
+    """
 
     def __init__(self):
         self.automatic_scans = 0
@@ -71,8 +80,8 @@ class Claim:
     def broken(self, call, before, after, answers, mode_of):
         """The parts of the claim that this call has broken.
 
-        Before and after are pairs of controllers, answers is the pair of answers, ours first and the exact one's second; mode_of tells
-        the mode that a controller of ours is in.
+        Before and after are pairs of controllers, answers is the pair of answers, ours first and the exact one's
+        second; mode_of tells the mode that a controller of ours is in.
         """
         stored, exact = after
         is_to_leave = call[0] in ("read", "save") or answers[0][0] == "refused"
@@ -86,7 +95,9 @@ class Claim:
                 *([] if indicated == mode else [f"the mode is {indicated}, the first condition present is that of {mode}"])]
 
     def follow(self, call, exact_before, exact, exact_answer, mode):
-        """The outright settings, "Track, minimum, start fresh and accepted restart", the accepted automatic scans: automatic mode, not open; and the fault."""
+        """The outright settings, "Track, minimum, start fresh and accepted restart", the accepted automatic scans:
+        automatic mode, not open; and the fault.
+        """
         if call[0] == "fresh":
             self.automatic_scans, self.restart_brought_fault, self.cleared_since = 0, False, False
         elif call[0] == "restart" and exact_answer == ("ok",):
@@ -100,7 +111,9 @@ class Claim:
             self.cleared_since = True
 
     def broken_states(self, after):
-        """Compared: "all items but the output equal, open counts above 85 taken as 85"; and when "the memory fault stands"."""
+        """Compared: "all items but the output equal, open counts above 85 taken as 85"; and when "the memory fault
+        stands".
+        """
         stored, exact = after
         if exact._replace(output=stored.output, open_count=stored.open_count) != stored:
             for item, ours, others in zip(stored._fields, stored, exact, strict=True):
@@ -112,7 +125,10 @@ class Claim:
             yield f"the memory fault is {stored.memory_fault}"
 
     def broken_output(self, stored, exact, mode):
-        """Compared: "outputs within the bound", 3/2 x n x 1/65,536 units; outside Hold and Track ours is within its limits."""
+        """Compared: "outputs within the bound", 3/2 x n x 1/65,536 units.
+
+        Outside Hold and Track ours is within its limits.
+        """
         if mode not in ("Hold", "Track"):
             lowest, highest = stored.parameters.LO * STEPS_IN_A_UNIT, stored.parameters.HO * STEPS_IN_A_UNIT
             if not lowest <= stored.output <= highest:
@@ -125,7 +141,10 @@ class Claim:
 
 
 def broken_leaving(call, before, after, answers):
-    """A refused call, a read and a save leave the controller; a write leaves all that only scans and restarts change; and what starts leave."""
+    """A refused call, a read and a save leave the controller.
+
+    a write leaves all that only scans and restarts change; and what starts leave.
+    """
     if (answers[0][0] == "refused" or call[0] in ("read", "save")) and after != before:
         yield f"a refused call, a read or a save has changed a controller: {call}"
     if call[0] in ("fresh", "restart") and answers[0] == ("ok",):
@@ -137,16 +156,22 @@ def broken_leaving(call, before, after, answers):
 
 
 def broken_start(SW, after):
-    """"A fresh start and an accepted restart leave pins 80h, .., PV = 1L, SP = SL, ER = PV - SP"; "Restart keeps SW"; outputs are whole units."""
+    """"A fresh start and an accepted restart leave pins 80h, .., PV = 1L, SP = SL, ER = PV - SP".
+
+    "Restart keeps SW"; outputs are whole units.
+    """
     for each in after:
-        expected = {**AFTER_START, "SW": SW, "PV": each.parameters.channel_1L, "SP": each.parameters.SL, "ER": each.parameters.channel_1L - each.parameters.SL}
+        expected = {**AFTER_START, "SW": SW, "PV": each.parameters.channel_1L, "SP": each.parameters.SL,
+                    "ER": each.parameters.channel_1L - each.parameters.SL}
         yield from (f"{item} is {getattr(each, item)} after a start" for item, value in expected.items() if getattr(each, item) != value)
     if after[0].output % STEPS_IN_A_UNIT or after[0].output != STEPS_IN_A_UNIT * after[1].output:
         yield f"the outputs are {after[0].output} and {after[1].output} after a start"
 
 
 def broken_image(stored, answers):
-    """Images are answers, and equal but for OP, which is that of our own stored output, and the sumcheck, which follows from it."""
+    """Images are answers, and equal but for OP, which is that of our own stored output, and the sumcheck, which follows
+    from it.
+    """
     ours, others = (answer[1] for answer in answers)
     if ours[:OP_AT] + ours[OP_AT + 2:SUMCHECK_AT] != others[:OP_AT] + others[OP_AT + 2:SUMCHECK_AT] or len(ours) != len(others):
         yield f"the image is {ours.hex()}, the exact controller's {others.hex()}"

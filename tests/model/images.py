@@ -15,7 +15,8 @@ from tests.model.words import S2_5, minimum
 
 # The same images come again and again, in both arithmetics: what was computed once is kept, to save time.
 
-# "Tags 1..23 as above (two bytes, two's complement), 41h OP (two), 42h request (one ..), 43h fault (one ..), 44h (one ..), 7Fh sumcheck (two)"
+# "Tags 1..23 as above (two bytes, two's complement), 41h OP (two), 42h request (one ..), 43h fault (one ..), 44h (one
+# ..), 7Fh sumcheck (two)"
 TAGS = (*range(1, 24), 0x41, 0x42, 0x43, 0x44, 0x7F)
 LENGTHS = (*[2] * 24, 1, 1, 1, 2)
 # "fields: tag byte, two-byte length, value, high byte first"; what has a sign is written h, what has none H and B
@@ -42,7 +43,8 @@ def save(controller, length, arithmetic):
     if length < IMAGE_BYTES:
         return controller, ("refused", 15)
     user_bits = controller.user_bits | controller.measured_power << 2
-    return controller, ("image", image_of((*controller.parameters, arithmetic.whole_units(controller.output), REQUESTS.index(controller.request),
+    return controller, ("image", image_of((*controller.parameters, arithmetic.whole_units(controller.output),
+                                           REQUESTS.index(controller.request),
                                            int(controller.memory_fault), user_bits)))
 
 
@@ -66,7 +68,8 @@ def restart(controller, image, arithmetic):
     SW, decoded = controller.SW, decode(image)
     parameters, request, memory_fault, OP = (sound if has_right_sumcheck(decoded) else repaired)(SW, decoded)
     user_bits = decoded.user_bits if decoded.user_bits <= 7 else 0  # "an illegal 44h is 0"
-    return started(SW, parameters, request, memory_fault, user_bits=user_bits & 3, measured_power=bool(user_bits & 4), output=arithmetic.of_units(OP)), ("ok",)
+    return started(SW, parameters, request, memory_fault, user_bits=user_bits & 3, measured_power=bool(user_bits & 4),
+                   output=arithmetic.of_units(OP)), ("ok",)
 
 
 @lru_cache(maxsize=1 << 12)
@@ -76,7 +79,9 @@ def refusal_of(image):
 
 
 def refusals(image):
-    """Every refusal that applies, the lowest first: "12 length not 137; 13 a wrong tag or length; 14 right sumcheck, illegal value"."""
+    """Every refusal that applies, the lowest first: "12 length not 137; 13 a wrong tag or length; 14 right sumcheck,
+    illegal value".
+    """
     if len(image) != IMAGE_BYTES:
         yield 12
         return
@@ -102,9 +107,14 @@ def has_right_sumcheck(decoded):
 
 @lru_cache(maxsize=1 << 12)
 def is_legal(decoded):
-    """"Legal: ranges and pairs above, OP 0..9999, request 0..2, fault 0 or 1 and 1 only with request 0, 44h 0..7"; SL and RS by the image's own limits."""
-    return (all(is_in_range(decoded.parameters, number) for number in range(1, 24)) and all(is_in_order(decoded.parameters, high) for high, _ in PAIRS)
-            and decoded.OP <= 9999 and decoded.request <= 2 and decoded.fault <= 1 and not (decoded.fault == 1 and decoded.request != 0) and decoded.user_bits <= 7)
+    """"Legal: ranges and pairs above, OP 0..9999, request 0..2, fault 0 or 1 and 1 only with request 0, 44h 0..7".
+
+    SL and RS by the image's own limits.
+    """
+    return (all(is_in_range(decoded.parameters, number) for number in range(1, 24))
+            and all(is_in_order(decoded.parameters, high) for high, _ in PAIRS)
+            and decoded.OP <= 9999 and decoded.request <= 2 and decoded.fault <= 1 and not (decoded.fault == 1 and decoded.request != 0)
+            and decoded.user_bits <= 7)
 
 
 def is_in_range(parameters, number):
@@ -113,7 +123,9 @@ def is_in_range(parameters, number):
 
 
 def sound(SW, decoded):
-    """Parameters, request, memory fault and OP by a sound image: "OP limited to LO..HO; S2.5 ON makes the request Manual and OP minimum"."""
+    """Parameters, request, memory fault and OP by a sound image: "OP limited to LO..HO; S2.5 ON makes the request
+    Manual and OP minimum".
+    """
     parameters = decoded.parameters
     if SW & S2_5:
         return parameters, "M", decoded.fault == 1, minimum(SW, parameters)
@@ -122,7 +134,9 @@ def sound(SW, decoded):
 
 @lru_cache(maxsize=1 << 12)
 def repaired(SW, decoded):
-    """The same by a wrong sumcheck, which brings the memory fault and "also sets request Manual, HO 9999, LO 0, OP minimum"."""
+    """The same by a wrong sumcheck, which brings the memory fault and "also sets request Manual, HO 9999, LO 0, OP
+    minimum".
+    """
     parameters = in_limits(in_order(in_range(decoded.parameters)))._replace(HO=9999, LO=0)
     return parameters, "M", True, minimum(SW, parameters)
 
@@ -141,4 +155,5 @@ def in_order(parameters):
 
 def in_limits(parameters):
     """Third: "then SL and RS as carried are limited"."""
-    return parameters._replace(**{name: limit(*(getattr(parameters, end) for end in ends), getattr(parameters, name)) for name, ends in LIMITED.items()})
+    return parameters._replace(**{name: limit(*(getattr(parameters, end) for end in ends), getattr(parameters, name))
+                                  for name, ends in LIMITED.items()})

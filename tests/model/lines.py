@@ -20,7 +20,10 @@ MOST_BYTES = 300  # of an image in the lists; what the console makes of more isn
 
 
 def call_of(line):
-    """The call that a line makes, as its word and numbers, a restart's as its word and bytes; None for a line to be answered error."""
+    """The call that a line makes, as its word and numbers, a restart's as its word and bytes.
+
+    None for a line to be answered error.
+    """
     if len(line) > LONGEST_LINE:
         return None
     word, *texts = [part for part in line.split(" ") if part] or [""]

@@ -54,7 +54,10 @@ def make(controller, call, arithmetic):
 
 
 def refusal_of_scan(given):
-    """The refusal: "Plant: 1 a sample above 10000; 2 button bits 5 or 4 set; 3 sensor bits above 1 set"; "the lowest number wins"."""
+    """The refusal: "Plant: 1 a sample above 10000; 2 button bits 5 or 4 set; 3 sensor bits above 1 set".
+
+    "the lowest number wins".
+    """
     if max(given.sample_1, given.sample_2, given.sample_3) > 10000:
         return 1
     if given.buttons & 0x30:
@@ -76,7 +79,9 @@ def process_value(parameters, sample, is_open):
 
 
 def requested(now):
-    """Step 2: "With a cause the request becomes Manual in any mode.  Otherwise the first pressed of M, A, R sets the request"."""
+    """Step 2: "With a cause the request becomes Manual in any mode.  Otherwise the first pressed of M, A, R sets the
+    request".
+    """
     if has_cause(now):
         return "M"
     for button, request in ((M_BUTTON, "M"), (A_BUTTON, "A"), (R_BUTTON, "R")):

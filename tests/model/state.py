@@ -2,8 +2,9 @@
 
 Made from document 01 and never from the code, so that a comparison of the two is a comparison with the paper.
 
-The arithmetic given with a call decides what the output is.  Stored: a whole number of 1/65,536 units, to which rounded terms are added.
-Exact: a fraction, in units, to which the limited terms are added unrounded.  Everything else is the same for both.
+The arithmetic given with a call decides what the output is.  Stored: a whole number of 1/65,536 units, to which rounded
+terms are added. Exact: a fraction, in units, to which the limited terms are added unrounded.  Everything else is the
+same for both.
 """
 
 from collections import namedtuple
@@ -41,7 +42,8 @@ class Stored:
 
 
 class Exact:
-    """The exact controller: "its output is a fraction of two whole numbers and its limited terms are added unrounded"."""
+    """The exact controller: "its output is a fraction of two whole numbers and its limited terms are added unrounded".
+    """
 
     @staticmethod
     @lru_cache(maxsize=1 << 17)
@@ -91,12 +93,14 @@ class Controller(NamedTuple):
 
 
 def started(SW, parameters, request, memory_fault, user_bits, measured_power, output):
-    """"A fresh start and an accepted restart leave pins 80h, no buttons, open count 0, PV = 1L, SP = SL, ER = PV - SP, MP 0, battery good, no alarms".
+    """"A fresh start and an accepted restart leave pins 80h, no buttons, open count 0, PV = 1L, SP = SL, ER = PV - SP,
+    MP 0, battery good, no alarms".
 
     Of the one "no earlier PV or SP remembered", of the other "All earlier PV and SP are forgotten".
     """
     PV, SP = parameters.channel_1L, parameters.SL
-    return Controller(SW=SW, parameters=parameters, request=request, memory_fault=memory_fault, user_bits=user_bits, measured_power=measured_power,
+    return Controller(SW=SW, parameters=parameters, request=request, memory_fault=memory_fault, user_bits=user_bits,
+                      measured_power=measured_power,
                       open_count=0, output=output, pins=0x80, buttons=0, PV=PV, SP=SP, ER=PV - SP, MP=0,
                       battery_low=False, low_alarm=False, high_alarm=False, previous_PV=None, PV_before_previous=None, previous_SP=None)
 

@@ -1,4 +1,5 @@
-"""The controller of document 01: its switches, pins and buttons, its mode and causes, and its words, one text for both arithmetics.
+"""The controller of document 01: its switches, pins and buttons, its mode and causes, and its words, one text for both
+arithmetics.
 
 Made from document 01 and never from the code, so that a comparison of the two is a comparison with the paper.
 """
@@ -52,13 +53,17 @@ def mode_of(controller):
 
 
 def MD(controller):
-    """Words: "10 Remote pin, 9 open cause, 8 memory fault, 7 Lower, 6 Raise, 5 zero, 4 measured power, 3 SP, 2 R, 1 A, 0 M", and the mode's bit."""
+    """Words: "10 Remote pin, 9 open cause, 8 memory fault, 7 Lower, 6 Raise, 5 zero, 4 measured power, 3 SP, 2 R, 1 A,
+    0 M", and the mode's bit.
+    """
     return (1 << MD_BIT[mode_of(controller)] | bool(controller.pins & REMOTE_PIN) << 10 | has_open_cause(controller) << 9
             | controller.memory_fault << 8 | controller.buttons | controller.measured_power << 4)
 
 
 def DS(controller):
-    """Words: "DS: high byte the pin byte; 7, 6 user bits 2, 1; 5 is 0 in Hold, Manual, Forced; 4 is 0 in Remote, Ratio; 3 is 0 ..."."""
+    """Words: "DS: high byte the pin byte; 7, 6 user bits 2, 1; 5 is 0 in Hold, Manual, Forced; 4 is 0 in Remote, Ratio;
+    3 is 0 ...".
+    """
     mode = mode_of(controller)
     return (controller.pins << 8 | controller.user_bits << 6 | (mode not in ("Hold", "Manual", "Forced Manual")) << 5
             | (mode not in ("Remote", "Ratio")) << 4 | (not controller.battery_low) << 3 | (not has_cause(controller)) << 2

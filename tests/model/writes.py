@@ -26,7 +26,10 @@ def write(controller, number, value, arithmetic):
 
 
 def read(controller, number, arithmetic):
-    """Read: "4 number outside 1..32 (reads too)"; "Read a parameter and save an image change nothing"; "a read answers the value"."""
+    """Read: "4 number outside 1..32 (reads too)".
+
+    "Read a parameter and save an image change nothing"; "a read answers the value".
+    """
     if not 1 <= number <= 32:
         return controller, ("refused", 4)
     return controller, ("value", value_of(controller, NAMES[number - 1], arithmetic))
@@ -46,7 +49,9 @@ def value_of(controller, name, arithmetic):
 # Refusals -------------------------------------------------------------------
 
 def refusals(controller, number, value):
-    """Every refusal that applies, the lowest first: "Writer: 4 number outside 1..32 (reads too); 5 read only; 6 out of range; 7 pair out of order"."""
+    """Every refusal that applies, the lowest first: "Writer: 4 number outside 1..32 (reads too); 5 read only; 6 out of
+    range; 7 pair out of order".
+    """
     if not 1 <= number <= 32:
         yield 4
         return
@@ -72,7 +77,9 @@ def refusals_of_SL(controller):
 
 
 def refusals_of_MD(controller, word):
-    """"9 not exactly one of MD bits 13, 12, 11; 10 bit 11 with the Remote pin 0; 11 bit 12 or 11 when a cause would remain"."""
+    """"9 not exactly one of MD bits 13, 12, 11; 10 bit 11 with the Remote pin 0; 11 bit 12 or 11 when a cause would
+    remain".
+    """
     if sum(bool(word & bit) for bit in REQUESTS) != 1:
         yield 9
     if word & 0x0800 and not controller.pins & REMOTE_PIN:
@@ -85,7 +92,10 @@ def refusals_of_MD(controller, word):
 # What an accepted write does --------------------------------------------------
 
 def with_MD(controller, word):
-    """"Writing MD takes bits 13, 12, 11 as the request and bit 4"; "Bit 8 zero clears a standing memory fault, and the request is then Manual"."""
+    """"Writing MD takes bits 13, 12, 11 as the request and bit 4".
+
+    "Bit 8 zero clears a standing memory fault, and the request is then Manual".
+    """
     request = next(request for bit, request in REQUESTS.items() if word & bit)
     clears_fault = controller.memory_fault and not word & MEMORY_FAULT
     return controller._replace(request="M" if clears_fault else request, memory_fault=controller.memory_fault and not clears_fault,
@@ -93,7 +103,9 @@ def with_MD(controller, word):
 
 
 def with_parameter(controller, name, value, arithmetic):
-    """"An accepted write of HS or LS limits SL anew, HR or LR limits RS, and HO or LO limits the output unless the mode is Hold or Track"."""
+    """"An accepted write of HS or LS limits SL anew, HR or LR limits RS, and HO or LO limits the output unless the mode
+    is Hold or Track".
+    """
     parameters = controller.parameters._replace(**{name: value})
     if name in ("HS", "LS"):
         parameters = parameters._replace(SL=limit(parameters.LS, parameters.HS, parameters.SL))

@@ -1,5 +1,5 @@
-"""The documents name only what is there: every name in a document's inline code stands somewhere in the repository outside
-the documents, and every edit that the trace cites is one that the gate tries, and the other way round.
+"""The documents name only what is there: every name in a document's inline code stands somewhere in the repository
+outside the documents, and every edit that the trace cites is one that the gate tries, and the other way round.
 
 Usage: python3 -B -m tests.repository.docs
 

@@ -42,12 +42,15 @@ def docstrings(text):
     """Numbers of the lines of all docstrings."""
     kinds = ast.Module, ast.ClassDef, ast.FunctionDef
     first = (node.body[0] for node in ast.walk(ast.parse(text)) if isinstance(node, kinds) and node.body)
-    strings = (each for each in first if isinstance(each, ast.Expr) and isinstance(each.value, ast.Constant) and isinstance(each.value.value, str))
+    strings = (each for each in first if isinstance(each, ast.Expr) and isinstance(each.value, ast.Constant)
+               and isinstance(each.value.value, str))
     return {number for each in strings for number in range(each.lineno, each.end_lineno + 1)}
 
 
 def prose_of_document(lines):
-    """Numbers of the lines that are neither a table row nor in a code block: fenced, or indented by four behind an empty line."""
+    """Numbers of the lines that are neither a table row nor in a code block: fenced, or indented by four behind an
+    empty line.
+    """
     prose, is_fenced, is_code, was_empty = set(), False, False, True
     for number, line in enumerate(lines, 1):
         text = line.strip()

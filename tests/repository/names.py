@@ -3,8 +3,8 @@
 Usage: python3 -B -m tests.repository.names
 
 Looked at are the identifiers of crates (Rattle and antt, without comments and texts), tests and demo, and the name of
-every file and folder.  A name's parts are those of snake_case, camelCase and hyphenated names.  The last line printed is
-'N passed, M failed', one count for each name in each file and for each path.
+every file and folder.  A name's parts are those of snake_case, camelCase and hyphenated names.  The last line printed
+is 'N passed, M failed', one count for each name in each file and for each path.
 """
 
 import io

@@ -2,9 +2,10 @@
 
 Usage: python3 -B -m tests.statements.scans [--write]
 
-They show alarms, root, bias, power and all three terms within a scan, which the default parameters don't, and the memory fault. These scans
-are chosen until each thing of `things_met` is met by one, and crates/worked/specs/ModelScans.antt states of each that the rules give the model's whole
-next state and answer. Without --write the test fails if that file isn't what the model gives. The last line printed is 'N passed, M failed'.
+They show alarms, root, bias, power and all three terms within a scan, which the default parameters don't, and the
+memory fault. These scans are chosen until each thing of `things_met` is met by one, and
+crates/worked/specs/ModelScans.antt states of each that the rules give the model's whole next state and answer. Without
+--write the test fails if that file isn't what the model gives. The last line printed is 'N passed, M failed'.
 """
 
 import random
@@ -22,8 +23,8 @@ FILE = ROOT / "crates/worked/specs/ModelScans.antt"
 SEED = 6360
 REQUESTS = {"M": "Manual", "A": "Auto", "R": "Remote"}
 SWITCHES = {"S2.1": 15, "S2.2": 14, "S2.3": 13, "S2.4": 12, "S2.5": 11, "S2.6": 10, "S2.8": 8, "S1.1": 7}
-HEAD = '''-- Scans of a reference model that was made apart from the rules, with drawn parameters, stated of the rules; proofs/ModelScans.antt proves them. Made by
--- tests/statements/scans.py, which the gate compares with this file.
+HEAD = '''-- Scans of a reference model that was made apart from the rules, with drawn parameters, stated of the rules;
+-- proofs/ModelScans.antt proves them. Made by tests/statements/scans.py, which the gate compares with this file.
 use mathlib.Core.Bool.{Bool, true, false}
 use mathlib.Core.List.{List, [], _∷_}
 use mathlib.Core.Path.{_≡_}
@@ -45,7 +46,8 @@ values numbers = pos 0 ∷ numbers
 abbrev pub readings : ℤ → ℤ → ℤ → ℤ → Readings
 readings pv sp er mp = record { pv = pv; sp = sp; er = er; mp = mp }
 
--- SW, parameters, request, memory fault, user bits 1 and 2, MD bit 4, open count, pins, readings, buttons, battery low, low alarm, high alarm, history, output
+-- SW, parameters, request, memory fault, user bits 1 and 2, MD bit 4, open count, pins, readings, buttons, battery low,
+-- low alarm, high alarm, history, output
 abbrev pub state : ℕ → List ℤ → Request → Bool → Bool → Bool → Bool → ℕ → ℕ → Readings → ℕ → Bool → Bool → Bool → History → ℤ → Controller
 state sw numbers request fault user1 user2 power opencount pins latest buttons battery low high history output =
     record {
@@ -73,8 +75,9 @@ Scans before i after answer = scan before i ≡ record { next = after; answer = 
 
 def things_met(before, given, after, mode):
     """What a scan shows that no default parameters would."""
-    met = {f"{mode}, history {history_of(before).split()[0]}", f"root {before.parameters.IC}", f"user bits {after.user_bits}", f"power {after.measured_power}",
-           f"low alarm {after.low_alarm} by ER {after.ER < -after.parameters.LD}", f"high alarm {after.high_alarm} by ER {after.ER > after.parameters.HD}",
+    met = {f"{mode}, history {history_of(before).split()[0]}", f"root {before.parameters.IC}", f"user bits {after.user_bits}",
+           f"power {after.measured_power}", f"low alarm {after.low_alarm} by ER {after.ER < -after.parameters.LD}",
+           f"high alarm {after.high_alarm} by ER {after.ER > after.parameters.HD}",
            f"open {given.sensors & 1}, automatic {mode in ('Auto', 'Remote', 'Ratio', 'Fall-back')}", f"fault {after.memory_fault}"}
     met |= {f"{name} {after.SW >> bit & 1} in {mode}" for name, bit in SWITCHES.items()}
     if mode == "Ratio":
@@ -83,14 +86,18 @@ def things_met(before, given, after, mode):
         met |= {f"bias {limits.RB != 0}", f"RS + trim beyond its limits {(total > limits.HR) - (total < limits.LR)}",
                 f"RS moved by {abs(limits.RS - before.parameters.RS) % 12 > 0}"}
     if mode in ("Auto", "Remote", "Ratio", "Fall-back") and not given.sensors & 1:
-        met |= {f"TI {before.parameters.TI > 0}, S2.8 {after.SW >> 8 & 1}", f"TD {before.parameters.TD > 0}, S2.8 {after.SW >> 8 & 1}, S2.4 {after.SW >> 12 & 1}"}
+        met |= {f"TI {before.parameters.TI > 0}, S2.8 {after.SW >> 8 & 1}",
+                f"TD {before.parameters.TD > 0}, S2.8 {after.SW >> 8 & 1}, S2.4 {after.SW >> 12 & 1}"}
     if before.open_count == 84 and given.sensors & 1:
         met.add(f"85th open scan in {mode}, S2.2 {after.SW >> 14 & 1}, S2.5 {after.SW >> 11 & 1}")
     return met
 
 
 def scans_drawn():
-    """Scans of the drawn lists, and each once more with the memory fault standing before it; refused ones not among them."""
+    """Scans of the drawn lists, and each once more with the memory fault standing before it.
+
+    Refused ones not among them.
+    """
     generator = random.Random(SEED)
     for calls in parameter_lists.all_calls(generator):
         controller = None  # each list begins with a fresh start
@@ -136,18 +143,25 @@ def history_of(controller):
 
 def state_text(controller):
     numbers = " ∷ ".join([*map(number_of, controller.parameters), "[]"])
-    flags = [str(bool(flag)).lower() for flag in (controller.memory_fault, controller.user_bits & 1, controller.user_bits & 2, controller.measured_power)]
+    flags = [str(bool(flag)).lower() for flag in (controller.memory_fault, controller.user_bits & 1, controller.user_bits & 2,
+                                                  controller.measured_power)]
     readings = " ".join(map(argument, (controller.PV, controller.SP, controller.ER, controller.MP)))
     alarms = [str(bool(flag)).lower() for flag in (controller.battery_low, controller.low_alarm, controller.high_alarm)]
-    return (f"state {controller.SW} ({numbers}) {REQUESTS[controller.request]} {' '.join(flags)} {controller.open_count} {controller.pins} (readings {readings}) "
-            f"{controller.buttons} {' '.join(alarms)} ({history_of(controller)}) {argument(controller.output)}")
+    return (f"state {controller.SW} ({numbers}) {REQUESTS[controller.request]} {' '.join(flags)} {controller.open_count} "
+            f"{controller.pins} (readings {readings}) {controller.buttons} {' '.join(alarms)} "
+            f"({history_of(controller)}) {argument(controller.output)}")
+
+
+def numbers_text(numbers):
+    return " ".join(map(str, numbers))
 
 
 def text():
     """The whole file, and how many scans it has."""
-    statements = [f"    Scans ({state_text(before)})\n    ({'input ' + ' '.join(map(str, given))}) ({state_text(after)}) (words {' '.join(map(str, answer[1:]))})"
+    statements = [f"Scans ({state_text(before)})\n    (input {numbers_text(given)}) "
+                  f"({state_text(after)}) (words {numbers_text(answer[1:])})"
                   for before, given, after, answer in chosen()]
-    body = "\n    ∷ ".join(statement.strip() for statement in statements)
+    body = "\n    ∷ ".join(statements)
     return HEAD + f"\nunfoldable pub modelScans : List (Type 0)\nmodelScans =\n    {body}\n    ∷ []\n", len(statements)
 
 

@@ -2,10 +2,10 @@
 
 Usage: python3 -B -m tests.statements.writes [--write]
 
-Writes of every parameter with drawn values in drawn states, chosen until each answer to each parameter and each effect of a write was met by one;
-writes of MD with the memory fault standing; and reads of every number in one state.
-crates/worked/specs/ModelWrites.antt states of each that the rules give the model's whole next state and answer. Without --write the test
-fails if that file isn't what the model gives. The last line printed is 'N passed, M failed'.
+Writes of every parameter with drawn values in drawn states, chosen until each answer to each parameter and each effect
+of a write was met by one; writes of MD with the memory fault standing; and reads of every number in one state.
+crates/worked/specs/ModelWrites.antt states of each that the rules give the model's whole next state and answer. Without
+--write the test fails if that file isn't what the model gives. The last line printed is 'N passed, M failed'.
 """
 
 import itertools
@@ -25,9 +25,10 @@ from tests.statements.scans import argument, state_text
 FILE = ROOT / "crates/worked/specs/ModelWrites.antt"
 SEED, DRAWS = 6360, 20000
 PINS = (0x00, 0x20, 0x80, 0xA0, 0xA5, 0xC0, 0xE0)  # Hold, Track and neither, each with the Remote pin 0 and 1
-REQUEST_BITS, FAULT_BITS, OTHER_BITS = (0x2000, 0x1000, 0x0800), (0, 0x0100), (0, 0xC6FF)  # the last are all that 01 doesn't take, and bit 4
-HEAD = '''-- Writes and reads of a reference model that was made apart from the rules, stated of the rules; proofs/ModelWrites.antt proves them. Made by
--- tests/statements/writes.py, which the gate compares with this file.
+# The last of the other bits are all that document 01 doesn't take, and bit 4
+REQUEST_BITS, FAULT_BITS, OTHER_BITS = (0x2000, 0x1000, 0x0800), (0, 0x0100), (0, 0xC6FF)
+HEAD = '''-- Writes and reads of a reference model that was made apart from the rules, stated of the rules; proofs/ModelWrites.antt
+-- proves them. Made by tests/statements/writes.py, which the gate compares with this file.
 use mathlib.Core.Bool.{true, false}
 use mathlib.Core.List.{List, [], _∷_}
 use mathlib.Core.Path.{_≡_}
@@ -48,14 +49,19 @@ Writes before n v after answer = write before n v ≡ record { next = after; ans
 
 
 def drawn_state(generator):
-    """A controller with drawn parameters, pins, request, open count and output, as scans and writes may leave it; a cause leaves the request Manual."""
+    """A controller with drawn parameters, pins, request, open count and output, as scans and writes may leave it.
+
+    a cause leaves the request Manual.
+    """
     parameters, opens = parameter_lists.draw_parameters(generator), generator.choice((0, 0, 0, 84, OPEN_CAUSE))
     pv, sp = generator.randint(-9999, 9999), generator.randint(-9999, 9999)
     return loop.fresh(generator.getrandbits(16), Stored)._replace(
         parameters=parameters, request="M" if opens == OPEN_CAUSE else generator.choice("MAR"), user_bits=generator.getrandbits(2),
         measured_power=generator.random() < 0.5, open_count=opens, pins=generator.choice(PINS), buttons=generator.getrandbits(8) & 0xCF,
-        output=generator.randint(0, 9999 * 65536), PV=pv, SP=sp, ER=pv - sp, MP=generator.randint(-9999, 9999), battery_low=generator.random() < 0.5,
-        low_alarm=generator.random() < 0.5, high_alarm=generator.random() < 0.5, previous_PV=pv, previous_SP=sp, PV_before_previous=generator.choice((None, sp)))
+        output=generator.randint(0, 9999 * 65536), PV=pv, SP=sp, ER=pv - sp, MP=generator.randint(-9999, 9999),
+        battery_low=generator.random() < 0.5,
+        low_alarm=generator.random() < 0.5, high_alarm=generator.random() < 0.5, previous_PV=pv, previous_SP=sp,
+        PV_before_previous=generator.choice((None, sp)))
 
 
 def drawn_write(generator, before):
@@ -66,7 +72,8 @@ def drawn_write(generator, before):
     partner = partner_of(NAMES[number - 1])
     about = [*range_of(before.parameters, number), *([getattr(before.parameters, partner)] if partner else [])]
     bits = generator.choice(REQUEST_BITS) | generator.getrandbits(16) & 0xC7FF
-    return number, generator.choice([generator.choice(about) + generator.randint(-1, 1), bits if number == NUMBER["MD"] else generator.randint(0, 9999)])
+    return number, generator.choice([generator.choice(about) + generator.randint(-1, 1),
+                                     bits if number == NUMBER["MD"] else generator.randint(0, 9999)])
 
 
 def things_met(before, number, after, answer):
@@ -106,7 +113,8 @@ def fault_writes():
 
 
 def answer_text(answer):
-    words = {"ok": "acceptance", "refused": f"number {answer[-1]}", "value": f"reading {argument(answer[-1])}" if answer[0] == "value" else ""}
+    words = {"ok": "acceptance", "refused": f"number {answer[-1]}",
+             "value": f"reading {argument(answer[-1])}" if answer[0] == "value" else ""}
     return f"({words[answer[0]]})"
 
 
@@ -117,8 +125,9 @@ def text():
     present = drawn_state(random.Random(SEED))
     reads = [f"(read present {number} ≡ {answer_text(writes.read(present, number, Stored)[1])})" for number in range(0, 35)]
     body = "\n    ∷ ".join([*statements, *reads])
-    return (f"{HEAD}\n-- the state that is read\nabbrev pub present : Controller\npresent = {state_text(present)}\n\nunfoldable pub modelWrites : List (Type 0)\n"
-            f"modelWrites =\n    {body}\n    ∷ []\n"), len(statements) + len(reads)
+    state = f"-- the state that is read\nabbrev pub present : Controller\npresent = {state_text(present)}\n"
+    return (f"{HEAD}\n{state}\nunfoldable pub modelWrites : List (Type 0)\nmodelWrites =\n    {body}\n    ∷ []\n",
+            len(statements) + len(reads))
 
 
 def main():
