@@ -3,21 +3,21 @@
 Usage: python3 -B -m tests.gate.gate
 
 The steps are `rt ci` (every listed crate proved from nothing, must-fail edits refused, programs run; a crate that is
-not listed fails it) and the tests. The last line printed is 'N passed, M failed' over all steps; the exit status is 0
-only if M is 0.
+not listed fails it) and the tests. Behind them stands where the time went. The last line printed is 'N passed, M failed'
+over all steps; the exit status is 0 only if M is 0.
 """
 
 import concurrent.futures
-import pathlib
 import re
 import subprocess
 import sys
 import time
+from typing import NamedTuple
 
-from tests.gate import tally
+from tests import ROOT
+from tests.gate import tally, times
 
-HERE = pathlib.Path(__file__).resolve().parent
-PYTHON = [sys.executable, "-B"]
+MODULE = [sys.executable, "-B", "-m"]
 TALLY = re.compile(r"(\d+) passed, (\d+) failed")
 
 PROOFS = (
@@ -25,24 +25,34 @@ PROOFS = (
 )
 # Two at once, the longest first
 TESTS = (
-    ("calls against the model", [*PYTHON, "tests/console.py", "target/bin/console"]),
-    ("arithmetic against the model", [*PYTHON, "tests/arithmetic.py", "target/bin/calculator"]),
-    ("layout", [*PYTHON, "tests/layout.py"]),
-    ("names in the documents", [*PYTHON, "tests/docs.py"]),
-    ("the gate's own tests", [*PYTHON, "tests/gate_test.py"]),
-    ("the model's scans that the rules are proved to give", [*PYTHON, "tests/reckoned_scans.py"]),
-    ("the model's writes that the rules are proved to give", [*PYTHON, "tests/reckoned_writes.py"]),
-    ("the model's restarts and saves that the rules are proved to give", [*PYTHON, "tests/reckoned_restarts.py"]),
-    ("the recorded sessions of two dryers", [*PYTHON, "demo/record.py", "--check"]),
+    ("the console's answers compared with the model's", [*MODULE, "tests.comparison.console", "target/bin/console"]),
+    ("the calculator's answers compared with the model's", [*MODULE, "tests.comparison.calculator", "target/bin/calculator"]),
+    ("the gate's own tests", [*MODULE, "tests.gate.gate_test"]),
+    ("the model's scans that the rules are proved to give", [*MODULE, "tests.statements.scans"]),
+    ("the model's writes that the rules are proved to give", [*MODULE, "tests.statements.writes"]),
+    ("the model's restarts and saves that the rules are proved to give", [*MODULE, "tests.statements.restarts"]),
+    ("layout", [*MODULE, "tests.repository.layout"]),
+    ("names", [*MODULE, "tests.repository.names"]),
+    ("names in the documents", [*MODULE, "tests.repository.docs"]),
+    ("the recorded sessions of two dryers", [*MODULE, "demo.record", "--check"]),
 )
 # Timed, and so alone
 SPEED = (
-    ("the console's speed", [*PYTHON, "tests/speed.py", "target/bin/console"]),
+    ("the console's speed", [*MODULE, "tests.comparison.speed", "target/bin/console"]),
 )
 
 
-def run_step(command, folder, show):
-    """The step's lines, each shown as it comes; its exit status and its seconds."""
+class Result(NamedTuple):
+    """What came of a step."""
+    name: str
+    passed: int
+    failed: int
+    seconds: float
+    lines: list
+
+
+def run_step(command, folder, echo):
+    """The step's lines, each echoed as it comes; its exit status and its seconds."""
     lines, began = [], time.monotonic()
     try:
         process = subprocess.Popen(command, cwd=folder, stdin=subprocess.DEVNULL, stdout=subprocess.PIPE,
@@ -50,7 +60,7 @@ def run_step(command, folder, show):
     except OSError as error:
         return [str(error)], 1, 0
     for line in process.stdout:
-        show(line)
+        echo(line)
         lines.append(line)
     return lines, process.wait(), time.monotonic() - began
 
@@ -73,30 +83,31 @@ def counts_of(last, status):
     return passed, failed, ""
 
 
-def gate(steps, folder, at_once=1):
-    """All steps, the later ones too when one fails.
+def run_steps(steps, folder, at_once=1):
+    """The results of all steps, the later ones too when one fails.
 
-    The sums of what passed and failed. A step alone is shown as it goes, others when they have ended.
+    The lines of a step that runs alone are printed as they come, those of others when the step has ended.
     """
-    passed = failed = 0
-    show = (lambda line: print(line, end="", flush=True)) if at_once == 1 else (lambda line: None)
+    results = []
+    echo = (lambda line: print(line, end="", flush=True)) if at_once == 1 else (lambda line: None)
     with concurrent.futures.ThreadPoolExecutor(at_once) as pool:
-        runs = [pool.submit(run_step, command, folder, show) for _, command in steps]
+        runs = [pool.submit(run_step, command, folder, echo) for _, command in steps]
         for (name, command), run in zip(steps, runs, strict=True):
             print(f"== {name}: {' '.join(map(str, command))}", flush=True)
             lines, status, seconds = run.result()
             print("".join(lines) if at_once > 1 else "", end="")
-            more_passed, more_failed, trouble = counts_of(last_of(lines), status)
-            print(f"== {name}: {more_passed} passed, {more_failed} failed{trouble and ' (' + trouble + ')'}, {seconds:.0f} s\n", flush=True)
-            passed, failed = passed + more_passed, failed + more_failed
-    return passed, failed
+            passed, failed, trouble = counts_of(last_of(lines), status)
+            print(f"== {name}: {passed} passed, {failed} failed{trouble and ' (' + trouble + ')'}, {seconds:.0f} s\n", flush=True)
+            results.append(Result(name, passed, failed, seconds, lines))
+    return results
 
 
-def main():
-    folder = HERE.parent
-    counts = gate(PROOFS, folder), gate(TESTS, folder, at_once=2), gate(SPEED, folder)
-    return tally.close(*map(sum, zip(*counts)))
+def gate(groups, folder):
+    """Runs each group of steps, given with how many of them run at once; prints the times and closes with the tally."""
+    results = [result for steps, at_once in groups for result in run_steps(steps, folder, at_once)]
+    print("\n".join(times.table([(result.name, result.seconds) for result in results], [line for result in results for line in result.lines])))
+    return tally.close(sum(result.passed for result in results), sum(result.failed for result in results))
 
 
 if __name__ == "__main__":
-    sys.exit(main())
+    sys.exit(gate(((PROOFS, 1), (TESTS, 2), (SPEED, 1)), ROOT))

@@ -1,4 +1,4 @@
-"""Tests of the gate itself: each way in which a step can fail must fail the gate.
+"""Tests of the gate itself: each way in which a step can fail must fail the gate, and the times stand before the tally.
 
 Usage: python3 -B -m tests.gate.gate_test
 
@@ -12,25 +12,42 @@ import subprocess
 import sys
 import tempfile
 
-from tests.gate import gate
-from tests.gate import tally
+from tests.gate import gate, tally, times
+
+PASSES = ("a step", ["sh", "-c", "echo 3 passed, 0 failed"])
+# Lines as `rt ci` prints them
+RT_LINES = """rt: integers proved (12 s)
+rt: outputs proved (40 s)
+rt: console NOT PROVED (exit 1, 51 s)
+rt: must-fail outputs/minimum_lost: refused, as it must be (first at proofs/minimum/Proof.antt:31:129; 30 s)
+rt: must-fail outputs/limit_lost: refused, as it must be (5 s)
+rt: must-fail terms/half_up: NOT REFUSED: the crate is still proved with this edit (7 s)
+rt: calculator ran as nobody, and wrote what its file 'stdout' has (0 s)
+fn outputs::minimum: proved
+""".splitlines(keepends=True)
+
+
+def quietly(function, *arguments):
+    """What the function returns, and what it prints."""
+    printed = io.StringIO()
+    with contextlib.redirect_stdout(printed):
+        return function(*arguments), printed.getvalue()
+
+
+def counts(steps, folder=".", at_once=1):
+    """How many the gate counts as passed and as failed in these steps."""
+    results, _ = quietly(gate.run_steps, steps, folder, at_once)
+    return sum(result.passed for result in results), sum(result.failed for result in results)
 
 
 def outcome(script):
-    """What the gate says of one step that runs this shell script."""
-    with contextlib.redirect_stdout(io.StringIO()):
-        return gate.gate([("step", ["sh", "-c", script])], ".")
+    """The counts of one step that runs this shell script."""
+    return counts([("step", ["sh", "-c", script])])
 
 
 def two_at_once(first, second):
-    """What the gate says of two steps that run at once."""
-    with contextlib.redirect_stdout(io.StringIO()):
-        return gate.gate([("first", ["sh", "-c", first]), ("second", ["sh", "-c", second])], ".", at_once=2)
-
-
-def no_such_command():
-    with contextlib.redirect_stdout(io.StringIO()):
-        return gate.gate([("step", ["no-such-command-at-all"])], ".")
+    """The counts of two steps that run at once."""
+    return counts([("first", ["sh", "-c", first]), ("second", ["sh", "-c", second])], at_once=2)
 
 
 def unlisted_crate_is_refused():
@@ -42,12 +59,35 @@ def unlisted_crate_is_refused():
             source = root / "crates" / name / "src"
             source.mkdir(parents=True)
             (source / "lib.rt").write_text(f"pub fn {name}(x: u8) -> u8 {{\n    x\n}}\n")
-        verdicts = []
+        failed = []
         for listed in ("listed:\n", "listed:\nunlisted:\n"):
             (root / "crates.txt").write_text(listed)
-            with contextlib.redirect_stdout(io.StringIO()):
-                verdicts.append(gate.gate([("rt ci", ["rt", "ci"])], folder)[1])
-        return verdicts[0] > 0 and verdicts[1] == 0
+            results, _ = quietly(gate.run_steps, [("rt ci", ["rt", "ci"])], folder)
+            failed.append(results[0].failed)
+        timed = times.crate_seconds(results[0].lines)
+        return failed[0] > 0 and failed[1] == 0 and timed.keys() == {"listed", "unlisted"}
+
+
+def closes_with_the_tally():
+    """The exit status and the last line of a gate that passes, and of one that fails; the times come before."""
+    fails = ("another step", ["sh", "-c", "echo 1 passed, 2 failed; exit 1"])
+    status, printed = quietly(gate.gate, (((PASSES,), 1), ((PASSES, PASSES), 2)), ".")
+    bad_status, bad_printed = quietly(gate.gate, (((PASSES, fails), 2),), ".")
+    lines = printed.splitlines()
+    behind = lines[lines.index("== steps, seconds, the longest first"):]
+    return (status == 0 and lines[-1] == "9 passed, 0 failed" and not any("passed" in line for line in behind[:-1])
+            and bad_status == 1 and bad_printed.endswith("\n4 passed, 2 failed\n"))
+
+
+def times_are_read():
+    """The seconds of crates and edits as `rt ci` tells them."""
+    return (times.crate_seconds(RT_LINES) == {"integers": 12, "outputs": 40, "console": 51}
+            and times.edit_seconds(RT_LINES) == {"outputs": (35, 2), "terms": (7, 1)})
+
+
+def longest_stands_first():
+    names = [line.split("  ")[-1] for line in times.table([("short", 1.4), ("long", 90.6)], RT_LINES) if line.startswith(" ")]
+    return names == ["long", "short", "console", "outputs", "integers", "outputs (2 edits)", "terms (1 edits)"]
 
 
 CASES = (
@@ -60,9 +100,12 @@ CASES = (
     ("no output", lambda: outcome("true") == (0, 1)),
     ("a tally that is not the last line", lambda: outcome("echo 3 passed, 0 failed; echo done") == (0, 1)),
     ("a tally of nothing", lambda: outcome("echo 0 passed, 0 failed") == (0, 1)),
-    ("a command that is not there", lambda: no_such_command() == (0, 1)),
+    ("a command that is not there", lambda: counts([("step", ["no-such-command-at-all"])]) == (0, 1)),
     ("two at once that pass", lambda: two_at_once("sleep 0.1; echo 3 passed, 0 failed", "echo 4 passed, 0 failed") == (7, 0)),
     ("one of two at once that fails", lambda: two_at_once("echo 3 passed, 0 failed", "echo 4 passed, 1 failed; exit 1") == (7, 1)),
+    ("the tally behind the times", closes_with_the_tally),
+    ("the seconds of crates and edits", times_are_read),
+    ("the longest first", longest_stands_first),
     ("a crate that is not listed", unlisted_crate_is_refused),
 )
 
