@@ -1,9 +1,10 @@
 """The documents name only what is there: every name in a document's inline code stands somewhere in the repository
-outside the documents, and every edit that the trace cites is one that the gate tries, and the other way round.
+outside the documents, every path in it is there, and every edit that the trace cites is one that the gate tries, and the other
+way round.
 
 Usage: python3 -B -m tests.repository.docs
 
-The last line printed is 'N passed, M failed', one count for each name in each document and for each must-fail edit.
+The last line printed is 'N passed, M failed', one count for each name and path in each document and for each must-fail edit.
 """
 
 import re
@@ -17,6 +18,7 @@ TEXTS = ("crates/**/*.rt", "crates/**/*.antt", "crates/*/std*", "crates/*/must-f
          "Makefile")
 INLINE_CODE = re.compile(r"`([^`\n]+)`")
 NAME = re.compile(r"[A-Za-z][\w-]*")
+PATH = re.compile(r"(?<![\w/.-])(?:[\w.-]+/)+[\w-]+\.(?:py|antt|rt|txt|md|edit)\b")  # from the root, or from crates/
 TOOLS = {"rt", "make", "git", "omega"}  # programs and tactics of the kit and the machine
 PLACEHOLDERS = {"N", "F"}
 
@@ -40,6 +42,14 @@ def unknown_names(document, names):
     return [f"{document}: `{name}` stands nowhere in the repository" for name in sorted(cited - names)], len(cited)
 
 
+def missing_paths(document):
+    """The paths of a document that aren't there, and how many it has; a path with a placeholder names no file."""
+    code = " ".join(INLINE_CODE.findall((ROOT / document).read_text(encoding="utf-8")))
+    cited = {path for path in PATH.findall(code) if not PLACEHOLDERS & set(path.split("/"))}
+    missing = [path for path in sorted(cited) if not (ROOT / path).exists() and not (ROOT / "crates" / path).exists()]
+    return [f"{document}: there is no `{path}`" for path in missing], len(cited)
+
+
 def edits():
     """Must-fail edits that the trace doesn't cite, or cites and aren't there; and how many there are in all."""
     there = {f"{path.parent.parent.name}/{path.stem}" for path in ROOT.glob("crates/*/must-fail/*.edit")}
@@ -51,8 +61,8 @@ def main():
     found, looked = edits()
     names = known_names()
     for document in DOCUMENTS:
-        more, count = unknown_names(document, names)
-        found, looked = found + more, looked + count
+        for more, count in (unknown_names(document, names), missing_paths(document)):
+            found, looked = found + more, looked + count
     return tally.report(found, looked, "every name is there")
 
 
