@@ -25,6 +25,10 @@ class Coverage:
         for (kind, word), count in collections.Counter((entry.kind, entry.word) for entry in entries).items():
             self.counts[f"line: {kind} of {word}"] += count
 
+    def count(self, *names):
+        for name in names:
+            self.counts[name] += 1
+
     def join(self, other):
         """With what another run met."""
         self.counts.update(other.counts)

@@ -87,7 +87,7 @@ class ImageCoverage(Coverage):
 
     def call(self, call, before, after, answer, automatic_scans):
         self.calls += 1
-        self.counts.update(("calls", call[0]))
+        self.count("calls", call[0])
         {"fresh": self.fresh, "save": self.save, "restart": self.restart, "scan": self.scanned, "write": self.written,
          "read": self.read}[call[0]](
             call, before[0], after[0], answer)
@@ -162,7 +162,7 @@ class ImageCoverage(Coverage):
             when, SW = self.saved[image]
             names.append("a saved image restarted from " + ("under another SW" if SW != before.SW else "at once" if when == self.calls - 1
                                                             else "later"))
-        self.counts.update(names)
+        self.count(*names)
         self.counts.update(met_by_repair(decoded, after.parameters) if sum_.startswith("wrong") else ())
         self.restarted, self.open_since = image, 0
 

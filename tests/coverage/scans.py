@@ -86,7 +86,7 @@ class ScanCoverage(Coverage):
             names += [f"open scan {after.open_count}"] + (["open in an automatic mode"] if mode in AUTOMATIC else [])
         if after.open_count == 85:
             names += self.at_the_85th(was, mode, after.SW)
-        self.counts.update(names)
+        self.count(*names)
 
     def at_the_85th(self, was, mode, SW):
         """Step 6: each side of "if the mode just before this scan was automatic and S2.5 is ON, it goes to minimum"."""

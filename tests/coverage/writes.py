@@ -82,7 +82,7 @@ class WriteCoverage(Coverage):
         self.changed, self.MD_written_at_84, self.bit_4_written, self.user_bits_written, self.waits_in = set(), False, False, False, None
 
     def call(self, call, before, after, answer, automatic_scans):
-        self.counts.update(("calls", call[0]))
+        self.count("calls", call[0])
         if call[0] == "fresh":
             self.forget()
         elif call[0] == "write":
@@ -97,7 +97,7 @@ class WriteCoverage(Coverage):
             self.counts.update(kinds_of_number("read", number))
             return
         name = NAMES[number - 1]
-        self.counts.update((f"read {name}", f"read {name} in {mode_of(controller)}"))
+        self.count(f"read {name}", f"read {name} in {mode_of(controller)}")
         if name == "OP" and controller.output % 65536:
             self.counts["read OP with a fraction"] += 1
 
@@ -110,7 +110,7 @@ class WriteCoverage(Coverage):
         name, mode = NAMES[number - 1], mode_of(before)
         names = [f"{name} {outcome}"]
         if number in READ_ONLY:
-            self.counts.update(names)
+            self.count(*names)
             return
         if name != "MD" or not 1 < value < 65534:  # most words of MD are of no interest by their place
             names += [f"{name} {place}" for place in places(value, *range_of(before.parameters, number))]
@@ -123,7 +123,7 @@ class WriteCoverage(Coverage):
         if outcome != "accepted":
             names.append("refusals " + " ".join(map(str, refusals(before, number, value))))
         names.append(f"write with {before.open_count} open scans before, {outcome.split()[0]}")
-        self.counts.update(names)
+        self.count(*names)
         self.counts["different MD words"] = len(self.words)
         if outcome == "accepted":
             self.accepted(name, mode, before, after)

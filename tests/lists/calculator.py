@@ -28,6 +28,7 @@ TERMS = {"proportional": formulas.proportional, "integral": formulas.integral,
 OTHERS = {"scale": formulas.scale, "root": formulas.root,
           "ratio": formulas.ratio, "inverse": formulas.inverse_ratio,
           "limit": formulas.limit}
+STEPS_IN_A_UNIT = Fraction(65536)
 LIMIT = 10000 * 65536  # of a stored term, in steps
 
 
@@ -62,7 +63,7 @@ def quotient(word, arguments):
         return Fraction(100 * arguments[0], arguments[1])
     if word == "inverse":
         return Fraction(arguments[0] * arguments[1], 100)
-    return 65536 * TERMS[word](*arguments)
+    return TERMS[word](*arguments) * STEPS_IN_A_UNIT
 
 
 # Kinds of calls, told from the exact quotient ------------------------------
@@ -75,16 +76,20 @@ AT_THE_LIMIT = [f"{place} the limit {side}" for side in SIDES
                 for place in ("just within", "at", "just beyond")]
 
 
-def side_of(word, arguments):
+def side_of(word, arguments, exact):
     """Of the quotient; in scaling, of the whole reading L + quotient."""
     low = arguments[0] if word == "scale" else 0
-    return SIDES[0] if low + quotient(word, arguments) > 0 else SIDES[1]
+    return SIDES[0] if exact.numerator > -low * exact.denominator else SIDES[1]
+
+
+def is_limited(word, exact):
+    return word in TERMS and abs(exact.numerator) > LIMIT * exact.denominator
 
 
 def tie_kind(word, arguments):
     """The kind of tie, or None.  The model's answer is checked here too."""
     exact = quotient(word, arguments)
-    if exact.denominator != 2 or word in TERMS and abs(exact) > LIMIT:
+    if exact.denominator != 2 or is_limited(word, exact):
         return None
     lower = (exact.numerator - 1) // 2
     if word == "scale":
@@ -95,26 +100,28 @@ def tie_kind(word, arguments):
         answer = lower + 1 if exact > 0 else lower   # step 5: away from zero
     if str(answer) != expected_answer(word, arguments):
         raise ValueError("the model is wrong at " + line_of(word, arguments))
-    return f"half {side_of(word, arguments)}, lower neighbour {('even', 'odd')[lower % 2]}"
+    return f"half {side_of(word, arguments, exact)}, lower neighbour {('even', 'odd')[lower % 2]}"
 
 
 def near_tie_kind(word, arguments):
     """No tie, but as near to one as the quotient's denominator allows."""
     exact = quotient(word, arguments)
-    if exact.denominator < 100 or word in TERMS and abs(exact) > LIMIT:
+    if exact.denominator < 100 or is_limited(word, exact):
         return None
-    if abs(exact % 1 - Fraction(1, 2)) > Fraction(1, exact.denominator):
+    remainder = exact.numerator % exact.denominator
+    if abs(2 * remainder - exact.denominator) > 2:
         return None
-    return f"next to half {side_of(word, arguments)}"
+    return f"next to half {side_of(word, arguments, exact)}"
 
 
 def limit_kind(word, arguments):
     """Exactly +-10,000 units, or less than ten units within or beyond them."""
-    beyond = abs(quotient(word, arguments)) - LIMIT
-    if abs(beyond) >= 10 * 65536:
+    exact = quotient(word, arguments)
+    beyond = abs(exact.numerator) - LIMIT * exact.denominator  # times the denominator
+    if abs(beyond) >= 10 * 65536 * exact.denominator:
         return None
     place = "just beyond" if beyond > 0 else "just within" if beyond < 0 else "at"
-    return f"{place} the limit {side_of(word, arguments)}"
+    return f"{place} the limit {side_of(word, arguments, exact)}"
 
 
 # Proposals: settings, then a last number "moving" that the quotient follows -

@@ -3,8 +3,13 @@ what each call may change.
 
 It is written apart from the rules: the conditions of the modes, the causes, the accepted automatic scans and the
 outright settings are written out here again from the paper's words, and are read from the exact controller.  Nothing of
-the rules is called.
+the rules is called, and of the model only the names of the state items are used.
 """
+
+from functools import lru_cache
+from operator import itemgetter
+
+from tests.model.state import Controller
 
 STEPS_IN_A_UNIT = 65536
 AUTOMATIC_MODES = {"Auto", "Remote", "Ratio", "Fall-back"}
@@ -16,10 +21,15 @@ MD, OP = 24, 28
 TWO_BYTES, OP_AT, ONE_BYTE, FAULT_AT, SUMCHECK_AT = range(3, 120, 5), 118, (123, 127, 131), 127, 135
 # "A fresh start and an accepted restart leave"; and no earlier PV or SP is remembered
 AFTER_START = {"pins": 0x80, "buttons": 0, "open_count": 0, "MP": 0, "battery_low": False, "low_alarm": False, "high_alarm": False,
-        "previous_PV": None, "PV_before_previous": None, "previous_SP": None}
+               "previous_PV": None, "PV_before_previous": None, "previous_SP": None}
 # What no write may touch: "of these only scans and restarts change any", the switch word and what scans remember
 UNTOUCHED = ("SW", "open_count", "pins", "buttons", "PV", "SP", "ER", "MP", "battery_low", "low_alarm", "high_alarm",
              "previous_PV", "PV_before_previous", "previous_SP")
+
+
+# Compared: "all items but the output equal, open counts above 85 taken as 85"
+COMPARED = tuple(item for item in Controller._fields if item not in ("output", "open_count"))
+compared, untouched = (itemgetter(*map(Controller._fields.index, items)) for items in (COMPARED, UNTOUCHED))
 
 
 def bit(number, place):
@@ -30,6 +40,7 @@ def word_at(image, place):
     return image[place] * 256 + image[place + 1]
 
 
+@lru_cache(maxsize=1 << 12)
 def sum_of(image):
     """"The sumcheck is all earlier values, read unsigned, summed modulo 65,536"."""
     return (sum(word_at(image, place) for place in TWO_BYTES) + sum(image[place] for place in ONE_BYTE)) % 65536
@@ -115,10 +126,9 @@ class Claim:
         stands".
         """
         stored, exact = after
-        if exact._replace(output=stored.output, open_count=stored.open_count) != stored:
-            for item, ours, others in zip(stored._fields, stored, exact, strict=True):
-                if item not in ("output", "open_count") and ours != others:
-                    yield f"{item} is {ours}, the exact controller's {others}"
+        if compared(stored) != compared(exact):
+            yield from (f"{item} is {ours}, the exact controller's {others}"
+                        for item, ours, others in zip(COMPARED, compared(stored), compared(exact), strict=True) if ours != others)
         if min(stored.open_count, 85) != min(exact.open_count, 85):
             yield f"the open count is {stored.open_count}, the exact controller's {exact.open_count}"
         if stored.memory_fault != (self.restart_brought_fault and not self.cleared_since):
@@ -150,9 +160,9 @@ def broken_leaving(call, before, after, answers):
     if call[0] in ("fresh", "restart") and answers[0] == ("ok",):
         yield from broken_start(before[0].SW if call[0] == "restart" else call[1], after)
     if call[0] == "write":
-        for item in UNTOUCHED:
-            if any(getattr(now, item) != getattr(earlier, item) for earlier, now in zip(before, after, strict=True)):
-                yield f"a write has changed {item}"
+        for earlier, now in zip(map(untouched, before), map(untouched, after), strict=True):
+            if now != earlier:
+                yield from (f"a write has changed {item}" for item, old, new in zip(UNTOUCHED, earlier, now, strict=True) if old != new)
 
 
 def broken_start(SW, after):

@@ -7,6 +7,7 @@ here have one character for each byte of the line.
 """
 
 import re
+from functools import lru_cache
 
 LONGEST_LINE = 700
 NUMBER = re.compile("-?[0-9]{1,18}")
@@ -19,6 +20,8 @@ RANGES = {"fresh": (WORD,), "scan": (BYTE, WORD, WORD, WORD, BYTE, BYTE), "write
 MOST_BYTES = 300  # of an image in the lists; what the console makes of more isn't decided
 
 
+# The same lines come again and again: what was found of them is kept, to save time.
+@lru_cache(maxsize=1 << 14)
 def call_of(line):
     """The call that a line makes, as its word and numbers, a restart's as its word and bytes.
 
@@ -49,6 +52,7 @@ def text_of(part):
     return str(part)
 
 
+@lru_cache(maxsize=1 << 14)
 def line_of(call):
     """A call's plainest line; an answer's line too."""
     return " ".join(map(text_of, call))

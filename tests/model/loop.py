@@ -35,12 +35,13 @@ def scan(controller, given, arithmetic):
         pins=given.pins, buttons=given.buttons, battery_low=bool(given.sensors & BATTERY_SENSOR),
         PV=process_value(controller.parameters, given.sample_1, is_open),
         open_count=arithmetic.counted(controller.open_count + 1) if is_open else 0)
-    now = now._replace(request=requested(now))
+    request = requested(now)
+    now = now if request == now.request else now._replace(request=request)
     mode = mode_of(now)
-    now = now._replace(parameters=moved_parameters(now, mode, is_open))
-    now = with_setpoint(now, mode, given)
-    now = now._replace(output=next_output(controller, now, mode, given.sample_3, is_open, arithmetic))
-    return remembering(controller, now, is_open), ("scan", *scan_words(now, arithmetic))
+    now = with_setpoint(now, moved_parameters(now, mode, is_open), mode, given)
+    output = next_output(controller, now, mode, given.sample_3, is_open, arithmetic)
+    now = now._replace(output=output, **remembered(controller, now, is_open))
+    return now, ("scan", *scan_words(now, arithmetic))
 
 
 def make(controller, call, arithmetic):
@@ -108,24 +109,22 @@ def moved_parameters(now, mode, is_open):
     return parameters._replace(SL=limit(parameters.LS, parameters.HS, parameters.SL + way))
 
 
-def ratio_setpoint(now, trim, sample_2):
+def ratio_setpoint(SW, parameters, trim, sample_2):
     """Step 5, in Ratio: "100 x q / s + RB, or with S2.3 ON q x s / 100 + RB"; the sum s is limited to LR..HR."""
-    parameters = now.parameters
     s = limit(parameters.LR, parameters.HR, parameters.RS + trim)
     q = scale(parameters.channel_2L, parameters.channel_2H, sample_2)
-    quotient = formulas.inverse_ratio(q, s) if now.SW & S2_3 else formulas.ratio(q, s)
+    quotient = formulas.inverse_ratio(q, s) if SW & S2_3 else formulas.ratio(q, s)
     return quotient + parameters.RB
 
 
-def with_setpoint(now, mode, given):
+def with_setpoint(now, parameters, mode, given):
     """Step 5: SP, SL, ER and MP of this scan; and the alarms, which follow from PV and ER."""
-    parameters = now.parameters
     scaled_3 = scale(parameters.channel_3L, parameters.channel_3H, given.sample_3)
     trim = 0 if mode == "Track" or now.measured_power else scaled_3
     if mode == "Remote":
         SP = scale(parameters.channel_1L, parameters.channel_1H, given.sample_2) + trim
     elif mode == "Ratio":
-        SP = ratio_setpoint(now, trim, given.sample_2)
+        SP = ratio_setpoint(now.SW, parameters, trim, given.sample_2)
     else:
         SP = parameters.SL if now.SW & S2_1 else parameters.SL + trim
     SP = limit(parameters.LS, parameters.HS, SP)
@@ -151,7 +150,9 @@ def next_output(before, now, mode, sample_3, is_open, arithmetic):
         elif not now.buttons & SP_BUTTON:
             output += arithmetic.of_units(12 * direction(now.buttons))
     elif not is_open:
-        output += sum(arithmetic.term(*term) for term in terms(before, now, mode))
+        for term in terms(before, now, mode):
+            change = arithmetic.term(*term)
+            output = output + change if change else output  # adding a fraction of zero takes long
     return limit(arithmetic.of_units(now.parameters.LO), arithmetic.of_units(now.parameters.HO), output)
 
 
@@ -173,8 +174,8 @@ def terms(before, now, mode):
             (formulas.derivative, parameters.XP, W, parameters.TD, minutes, inverse, D))
 
 
-def remembering(before, now, is_open):
+def remembered(before, now, is_open):
     """Step 7: "An open scan forgets earlier PV and SP and isn't remembered; others are"."""
     if is_open:
-        return now._replace(previous_PV=None, PV_before_previous=None, previous_SP=None)
-    return now._replace(previous_PV=now.PV, PV_before_previous=before.previous_PV, previous_SP=now.SP)
+        return {"previous_PV": None, "PV_before_previous": None, "previous_SP": None}
+    return {"previous_PV": now.PV, "PV_before_previous": before.previous_PV, "previous_SP": now.SP}

@@ -42,22 +42,26 @@ def partner_of(name):
     return next((other for other in PAIR_OF.get(name, ()) if other != name), None)
 
 
+# The ranges that don't depend on other parameters, by number
+FIXED_RANGES = {**{number: (row.least, row.greatest) for number, row in enumerate(ROWS, 1) if not isinstance(row.least, str)},
+                **dict.fromkeys(WORDS, (0, 65535))}
+
+
 def range_of(parameters, number):
     """The least and the greatest value of a parameter that may be written, with these parameters standing."""
-    if number in WORDS:
-        return 0, 65535
-    _, least, greatest, _ = ROWS[number - 1]
-    if isinstance(least, str):
-        return getattr(parameters, least), getattr(parameters, greatest)
-    return least, greatest
+    if number in FIXED_RANGES:
+        return FIXED_RANGES[number]
+    row = ROWS[number - 1]
+    return getattr(parameters, row.least), getattr(parameters, row.greatest)
 
 
 def is_in_order(parameters, name):
     """Whether the pair that this parameter belongs to, if any, is in order."""
     if name not in PAIR_OF:
         return True
-    high, low = (getattr(parameters, end) for end in PAIR_OF[name])
-    return low < high if PAIR_OF[name] in CHANNEL_PAIRS else low <= high
+    pair = PAIR_OF[name]
+    high, low = getattr(parameters, pair[0]), getattr(parameters, pair[1])
+    return low < high if pair in CHANNEL_PAIRS else low <= high
 
 
 def assert_legal(parameters):
