@@ -1,5 +1,5 @@
--- Restarts and saves of a reference model that was made apart from the rules, stated of the rules; proofs/ModelRestarts.antt proves them. Made by
--- tests/reckoned_restarts.py, which the gate compares with this file.
+-- Restarts and saves of a reference model that was made apart from the rules, stated of the rules;
+-- proofs/ModelRestarts.antt proves them. Made by tests/statements/restarts.py, which the gate compares with this file.
 use mathlib.Core.Bool.{true, false}
 use mathlib.Core.List.{List, [], _∷_}
 use mathlib.Core.Path.{_≡_}

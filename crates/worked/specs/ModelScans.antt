@@ -1,5 +1,5 @@
--- Scans of a reference model that was made apart from the rules, with drawn parameters, stated of the rules; proofs/ModelScans.antt proves them. Made by
--- tests/reckoned_scans.py, which the gate compares with this file.
+-- Scans of a reference model that was made apart from the rules, with drawn parameters, stated of the rules;
+-- proofs/ModelScans.antt proves them. Made by tests/statements/scans.py, which the gate compares with this file.
 use mathlib.Core.Bool.{Bool, true, false}
 use mathlib.Core.List.{List, [], _∷_}
 use mathlib.Core.Path.{_≡_}
@@ -21,7 +21,8 @@ values numbers = pos 0 ∷ numbers
 abbrev pub readings : ℤ → ℤ → ℤ → ℤ → Readings
 readings pv sp er mp = record { pv = pv; sp = sp; er = er; mp = mp }
 
--- SW, parameters, request, memory fault, user bits 1 and 2, MD bit 4, open count, pins, readings, buttons, battery low, low alarm, high alarm, history, output
+-- SW, parameters, request, memory fault, user bits 1 and 2, MD bit 4, open count, pins, readings, buttons, battery low,
+-- low alarm, high alarm, history, output
 abbrev pub state : ℕ → List ℤ → Request → Bool → Bool → Bool → Bool → ℕ → ℕ → Readings → ℕ → Bool → Bool → Bool → History → ℤ → Controller
 state sw numbers request fault user1 user2 power opencount pins latest buttons battery low high history output =
     record {

@@ -1,5 +1,5 @@
--- Writes and reads of a reference model that was made apart from the rules, stated of the rules; proofs/ModelWrites.antt proves them. Made by
--- tests/reckoned_writes.py, which the gate compares with this file.
+-- Writes and reads of a reference model that was made apart from the rules, stated of the rules; proofs/ModelWrites.antt
+-- proves them. Made by tests/statements/writes.py, which the gate compares with this file.
 use mathlib.Core.Bool.{true, false}
 use mathlib.Core.List.{List, [], _∷_}
 use mathlib.Core.Path.{_≡_}
