@@ -13,7 +13,7 @@ import sys
 from tests import ROOT
 from tests.gate import tally
 
-DOCUMENTS = ("README.md", "docs/ARCHITECTURE.md", "docs/DECISIONS.md", "docs/TRACE.md")
+DOCUMENTS = ("README.md", *(f"docs/{path.name}" for path in sorted((ROOT / "docs").glob("*.md"))))
 TEXTS = ("crates/**/*.rt", "crates/**/*.antt", "crates/*/std*", "crates/*/must-fail/*", "tests/**/*.py", "demo/*", "crates.txt",
          "Makefile")
 INLINE_CODE = re.compile(r"`([^`\n]+)`")
