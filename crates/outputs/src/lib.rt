@@ -226,7 +226,7 @@ fn by_terms(p: Parameters, x: Context, r: Readings, h: History, output: i64) -> 
 fn tracked(sample: u16) -> i64
     ensures { λ n. ⌜ n ≡ storedUnits (pos (min sample 9999)) ⌝ }
 {
-    if sample < amounts::MOST {
+    if sample < parameters::OP_MOST {
         return sample as i64 * amounts::UNIT;
     }
     amounts::STORED_MOST
