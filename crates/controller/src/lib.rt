@@ -72,9 +72,6 @@ pub enum ReadAnswer {
 // The pin byte before the first scan: the Hold pin high, the others low.
 const START_PINS: u8 = 0x80;
 
-// The greatest output, as OP and electrical output answer it.
-const OP_MOST: u16 = Controller::OUTPUT_MOST as u16;
-
 fn start_conditions(request: Request, fault: bool) -> Conditions
     ensures { λ r. ⌜ r ≡ startConditions request fault ⌝ }
 {
@@ -139,7 +136,11 @@ fn electrical_of(sw: u16, output: i64) -> u16
 {
     let s = signals::switches_of(sw);
     let op = op_of(output);
-    if s.displayinversion { OP_MOST - op } else { op }
+    if s.displayinversion {
+        parameters::OP_MOST - op
+    } else {
+        op
+    }
 }
 
 impl Core {

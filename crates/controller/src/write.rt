@@ -15,7 +15,7 @@ use signals::Refusal;
 use signals::Verdict;
 use words::UserBits;
 
-// How many words there are.
+// How many words of 16 bits there are.
 const WORD_COUNT: u64 = Controller::WORD_MOST as u64 + 1;
 
 fn word_of(v: i64) -> u16

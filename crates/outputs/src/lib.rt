@@ -21,20 +21,8 @@ use signals::Input;
 use signals::Switches;
 use terms::Tuning;
 
+mod amounts;
 pub mod restarted;
-
-// What Raise or Lower moves the output by, in units.
-const RAISE_STEP: i64 = 12;
-
-const LOWER_STEP: i64 = -RAISE_STEP;
-
-// One unit, stored.
-const UNIT: i64 = terms::UNIT as i64;
-
-// The greatest output: as a sample, and stored.
-const OUTPUT_MOST: u16 = parameters::OUTPUT_MOST as u16;
-
-const STORED_MOST: i64 = parameters::OUTPUT_MOST * UNIT;
 
 // What is remembered of earlier scans: nothing; the PV and SP of the last one; these and the PV of the one before it.
 pub enum History {
@@ -179,7 +167,7 @@ fn units(u: i64) -> i64
     requires { ⌜ natAbs u ≤ 65535 ⌝ }
     ensures { λ n. ⌜ n ≡ storedUnits u ⌝ }
 {
-    u * UNIT
+    u * amounts::UNIT
 }
 
 fn minimum_of(p: Parameters, s: Switches) -> i64
@@ -196,11 +184,11 @@ fn adjusted(adjustment: Adjustment, output: i64) -> i64
 {
     match adjustment {
         Adjustment::Raise => {
-            let by = units(RAISE_STEP);
+            let by = units(amounts::RAISE_STEP);
             integers::plus(output, by)
         }
         Adjustment::Lower => {
-            let by = units(LOWER_STEP);
+            let by = units(amounts::LOWER_STEP);
             integers::plus(output, by)
         }
         Adjustment::Neither => output,
@@ -242,10 +230,10 @@ fn by_terms(p: Parameters, x: Context, r: Readings, h: History, output: i64) -> 
 fn tracked(sample: u16) -> i64
     ensures { λ n. ⌜ n ≡ storedUnits (pos (min sample 9999)) ⌝ }
 {
-    if sample < OUTPUT_MOST {
-        return sample as i64 * UNIT;
+    if sample < parameters::OP_MOST {
+        return sample as i64 * amounts::UNIT;
     }
-    STORED_MOST
+    amounts::STORED_MOST
 }
 
 fn changed_in(p: Parameters, x: Context, r: Readings, h: History, output: i64) -> i64

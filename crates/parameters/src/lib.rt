@@ -10,7 +10,7 @@ pub struct Parameters {
     pub values: [i64; VALUE_COUNT],
 }
 
-pub const VALUE_COUNT: usize = 24;
+pub const VALUE_COUNT: usize = IC as usize + 1;
 
 // What a parameter's number asks of a value that is written: the row of the table that it stands in.
 pub enum Rule {
@@ -94,8 +94,10 @@ pub const ER: u64 = 31;
 
 pub const MP: u64 = 32;
 
-// The greatest output, in units.
+// The greatest output, in units: as HO and LO hold it, and as OP, electrical output and a sample do.
 pub const OUTPUT_MOST: i64 = 9999;
+
+pub const OP_MOST: u16 = OUTPUT_MOST as u16;
 
 // IC: channel 1's sample is rooted.
 pub const ROOT: i64 = 1;

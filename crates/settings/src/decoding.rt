@@ -8,9 +8,6 @@ use modes::Request;
 use parameters::Parameters;
 use words::UserBits;
 
-// The greatest output, as its field holds it.
-const OP_MOST: u16 = parameters::OUTPUT_MOST as u16;
-
 fn request_in(value: u16) -> Request
     ensures { λ r. ⌜ r ≡ requestIn value ⌝ }
 {
@@ -97,7 +94,7 @@ pub fn is_sum_right(values: [u16; fields::FIELD_COUNT]) -> bool
 pub fn are_others_legal(values: [u16; fields::FIELD_COUNT]) -> bool
     ensures { λ r. ⌜ r ≡ areOthersLegal values ⌝ }
 {
-    let op = values[fields::OP] <= OP_MOST;
+    let op = values[fields::OP] <= parameters::OP_MOST;
     let request = values[fields::REQUEST] <= crate::REMOTE;
     let manual = values[fields::REQUEST] == crate::MANUAL;
     let clear = values[fields::FAULT] == crate::FAULT_CLEAR;
