@@ -55,9 +55,9 @@ def make(controller, call, arithmetic):
 
 
 def refusal_of_scan(given):
-    """The refusal: "Plant: 1 a sample above 10000; 2 button bits 5 or 4 set; 3 sensor bits above 1 set".
+    """The refusal's number, or None: "the lowest number wins".
 
-    "the lowest number wins".
+    "Plant: 1 a sample above 10000; 2 button bits 5 or 4 set; 3 sensor bits above 1 set"
     """
     if max(given.sample_1, given.sample_2, given.sample_3) > 10000:
         return 1
