@@ -16,6 +16,7 @@ from tests.model.writes import read, write
 
 # The same numbers come again and again: what was computed once is kept, to save time.
 scale = lru_cache(maxsize=1 << 17)(formulas.scale)
+OTHER_CALLS = {"write": write, "read": read, "save": save, "restart": restart}
 
 
 # The calls -----------------------------------------------------------------
@@ -51,7 +52,7 @@ def make(controller, call, arithmetic):
         return fresh(*given, arithmetic), ("ok",)
     if word == "scan":
         return scan(controller, Input(*given), arithmetic)
-    return {"write": write, "read": read, "save": save, "restart": restart}[word](controller, *given, arithmetic)
+    return OTHER_CALLS[word](controller, *given, arithmetic)
 
 
 def refusal_of_scan(given):
