@@ -88,7 +88,7 @@ def after_the_cut(program, switches, image):
 def mixed(program, older, newer):
     """What becomes of each mixture, the first bytes of the newer image over the older one.
 
-    a state is told by the image that it saves to.
+    A state is told by the image that it saves to.
     """
     console, counts, faulty = Console(program, 0), collections.Counter(), None
     states = {}

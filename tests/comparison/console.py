@@ -170,8 +170,7 @@ def compare_lists(program, generator, results):
 # The rest -------------------------------------------------------------------
 
 def check_figures(program, results):
-    """What was worked by hand, and the manual's figures: each answer of the program is compared with the figure itself.
-    """
+    """What was worked by hand, and the manual's figures: the program's answers are compared with the figures."""
     def answers_of_program(lines):
         written, trouble = run_lines(program, lines, SHORT_SECONDS)
         results.check(not trouble, trouble)

@@ -44,7 +44,7 @@ def run_in_pieces(program, text, size):
 def first_difference(lines, expected, written, trouble):
     """The place of the first wrong answer.
 
-    The last line's if all are right but the program ended badly or wrote more.
+    It is the last line's place if all are right but the program ended badly or wrote more.
     """
     answers = written.split("\n")[:len(lines)]
     for place, (answer, right) in enumerate(itertools.zip_longest(answers, expected)):

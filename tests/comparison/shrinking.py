@@ -15,9 +15,9 @@ MANY_LINES = 300  # more than this are first made fewer
 
 
 class Shrinking:
-    """wrong_at(lines) runs the program over the lines and gives the place of the first wrong answer, or None.
+    """Makes a list shorter and simpler, with so many runs and seconds at most.
 
-    It is run so often at most.
+    wrong_at(lines) runs the program over the lines and gives the place of the first wrong answer, or None.
     """
 
     def __init__(self, wrong_at, most_runs, most_seconds):

@@ -57,8 +57,7 @@ def least_counts():
 
 
 def least_counts_of_fields():
-    """By field: what is legal at the ends of each range, what is illegal alone, and what a wrong sumcheck makes of it.
-    """
+    """By field: values at the ends of each range, what is illegal alone, and what a wrong sumcheck makes of it."""
     names = [row.name for row in ROWS]
     yield from ((f"{name} {place}, wrong sumcheck", 8) for name in names for place in PLACES[:6])
     yield from ((f"{name} {place}, sound", 3) for name in names for place in PLACES[1:3] if f"{name} {place}" not in CHANNEL_ENDS)

@@ -106,9 +106,7 @@ def all_lines():
 
 
 def wrong_in(answers_of):
-    """The lines that are answered otherwise than worked by hand or told by the manual, and how many answers were looked
-    at.
-    """
+    """The lines that aren't answered as worked by hand or told by the manual, and how many answers were looked at."""
     lines = list(all_lines())
     answers = answers_of([line for _, line, _ in lines])
     answers += ["no answer"] * (len(lines) - len(answers))

@@ -3,7 +3,7 @@
 Usage: python3 -B -m tests.gate.gate
 
 The steps are `rt ci` (every listed crate proved from nothing, must-fail edits refused, programs run; a crate that is
-not listed fails it) and the tests. Behind them stands where the time went. The last line printed is 'N passed, M failed'
+not listed fails it) and the tests. Behind them comes where the time went. The last line printed is 'N passed, M failed'
 over all steps; the exit status is 0 only if M is 0.
 """
 
@@ -33,6 +33,7 @@ TESTS = (
     ("the model's restarts and saves that the rules are proved to give", [*MODULE, "tests.statements.restarts"]),
     ("layout", [*MODULE, "tests.repository.layout"]),
     ("names", [*MODULE, "tests.repository.names"]),
+    ("the tests of layout and names", [*MODULE, "tests.repository.repository_test"]),
     ("names in the documents", [*MODULE, "tests.repository.docs"]),
     ("the recorded sessions of two dryers", [*MODULE, "demo.record", "--check"]),
 )
@@ -105,7 +106,8 @@ def run_steps(steps, folder, at_once=1):
 def gate(groups, folder):
     """Runs each group of steps, given with how many of them run at once; prints the times and closes with the tally."""
     results = [result for steps, at_once in groups for result in run_steps(steps, folder, at_once)]
-    print("\n".join(times.table([(result.name, result.seconds) for result in results], [line for result in results for line in result.lines])))
+    lines = [line for result in results for line in result.lines]
+    print("\n".join(times.table([(result.name, result.seconds) for result in results], lines)))
     return tally.close(sum(result.passed for result in results), sum(result.failed for result in results))
 
 

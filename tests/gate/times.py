@@ -3,7 +3,7 @@
 import collections
 import re
 
-# Lines of `rt ci`, which counts whole seconds; crates and edits run two at once, so that their sum is more than the time
+# Lines of `rt ci`, which counts whole seconds; crates and edits run two at once, so that their sum is more
 CRATE = re.compile(r"rt: ([\w-]+) (?:proved|NOT PROVED) \((?:.*, )?(\d+) s\)")
 EDIT = re.compile(r"rt: must-fail ([\w-]+)/[\w-]+: .*?(?:\(|; )(\d+) s\)")
 

@@ -192,8 +192,7 @@ def exchanged(base, name, other):
 
 
 def heads_changed(source):
-    """Every tag and every length wrong, with a right sumcheck, a wrong one and an illegal value; and fields exchanged.
-    """
+    """Every tag and every length wrong, with a right or wrong sumcheck or an illegal value; and fields exchanged."""
     generator = source.generator
     for field in generator.sample(range(len(FIELDS)), len(FIELDS)):
         base, name = source.drawn(), FIELDS[field]

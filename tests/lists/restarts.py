@@ -148,7 +148,7 @@ def fault_and_open_runs(source):
 def between_automatic_scans(source):
     """Restarts between automatic scans: what was remembered is forgotten, the output is OP.
 
-    a refused restart forgets nothing.
+    A refused restart forgets nothing.
     """
     generator = source.generator
     terms = {"XP": generator.randint(200, 3000), "TI": generator.choice((0, generator.randint(1, 300))),
@@ -227,10 +227,9 @@ KINDS = ((saved_in_modes, 24), (under_other_switches, 24), (with_the_fault, 24),
 
 
 def call_list(generator, kind, number):
-    """One list.
+    """One list; S2.5 and S2.2 each way in turn.
 
-    S2.5 is ON in every second list, or in every third between automatic scans, where it would end them all; S2.2 in
-    turn.
+    S2.5 is ON in every second list, or in every third between automatic scans, where it would end them all.
     """
     SW = switch_word(generator) & ~(POWER_FAIL | INVERSION)
     is_power_fail = number % 3 == 2 if kind in (between_automatic_scans, single_steps) else number % 2

@@ -153,10 +153,9 @@ KINDS = ((mode_runs, 58), (quick_changes, 90), (open_run, 320), (setpoints_in_us
 # Whole lists ----------------------------------------------------------------
 
 def call_list(generator, kind, number):
-    """One list.
+    """One list, with a drawn switch word.
 
-    Open runs take S2.5 and S2.2 each way, with each of the modes they are entered from; RS is moved to its ends in
-    Ratio.
+    Open runs take S2.5 and S2.2 each way, with each of the modes they are entered from; in Ratio RS moves to its ends.
     """
     SW = switch_word(generator)
     if kind is open_run:

@@ -31,8 +31,7 @@ def range_ends(writer):
 
 
 def pairs(writer):
-    """Both ends of every pair about the stored partner, in order, equal and out of order, the partner moved in between.
-    """
+    """Both ends of every pair about the stored partner, in order, equal and out of order; the partner moved too."""
     generator = writer.generator
     for pair in generator.sample(PAIRS * 2, 2 * len(PAIRS)):
         yield from writer.new_parameters()

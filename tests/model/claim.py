@@ -151,9 +151,9 @@ class Claim:
 
 
 def broken_leaving(call, before, after, answers):
-    """A refused call, a read and a save leave the controller.
+    """What a call may not change, and what a start must set.
 
-    a write leaves all that only scans and restarts change; and what starts leave.
+    A refused call, a read and a save leave the controller; a write leaves all that only scans and restarts change.
     """
     if (answers[0][0] == "refused" or call[0] in ("read", "save")) and after != before:
         yield f"a refused call, a read or a save has changed a controller: {call}"

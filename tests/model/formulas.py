@@ -89,8 +89,7 @@ def integral(xp, span, ti, minutes, c):
 def derivative(xp, span, td, minutes, inverted, d):
     """-10,000,000 x D x 25 x TD / (9 x XP x W); d is D, span is W.
 
-    With S2.8 ON (minutes) 500 and 3 stand for 25 and 9; plus sign with
-    S2.4 ON (inverted).
+    With S2.8 ON (minutes) 500 and 3 stand for 25 and 9; plus sign with S2.4 ON (inverted).
     """
     above, below = (500, 3) if minutes else (25, 9)
     size = Fraction(10_000_000 * d * above * td, below * xp * span)
@@ -100,9 +99,8 @@ def derivative(xp, span, td, minutes, inverted, d):
 def stored_term(exact):
     """The term as stored, in steps of 1/65,536 units.
 
-    "Each exact term is limited to +-10,000 and then taken to a whole number
-    of 1/65,536 units that is off by at most one half."  Document 01 leaves an
-    exact half free; our decision is the even neighbour, above and below zero.
+    "Each exact term is limited to +-10,000 and then taken to a whole number of 1/65,536 units that is off by at most
+    one half."  Document 01 leaves an exact half free; our decision is the even neighbour, above and below zero.
     """
     limited = limit(-TERM_LIMIT, TERM_LIMIT, exact)
     return nearest_halves_to_even(limited * STEPS_IN_A_UNIT)

@@ -16,6 +16,7 @@ from tests.model.writes import read, write
 
 # The same numbers come again and again: what was computed once is kept, to save time.
 scale = lru_cache(maxsize=1 << 17)(formulas.scale)
+OTHER_CALLS = {"write": write, "read": read, "save": save, "restart": restart}
 
 
 # The calls -----------------------------------------------------------------
@@ -51,13 +52,13 @@ def make(controller, call, arithmetic):
         return fresh(*given, arithmetic), ("ok",)
     if word == "scan":
         return scan(controller, Input(*given), arithmetic)
-    return {"write": write, "read": read, "save": save, "restart": restart}[word](controller, *given, arithmetic)
+    return OTHER_CALLS[word](controller, *given, arithmetic)
 
 
 def refusal_of_scan(given):
-    """The refusal: "Plant: 1 a sample above 10000; 2 button bits 5 or 4 set; 3 sensor bits above 1 set".
+    """The refusal's number, or None: "the lowest number wins".
 
-    "the lowest number wins".
+    "Plant: 1 a sample above 10000; 2 button bits 5 or 4 set; 3 sensor bits above 1 set"
     """
     if max(given.sample_1, given.sample_2, given.sample_3) > 10000:
         return 1

@@ -42,7 +42,9 @@ class Stored:
 
 
 class Exact:
-    """The exact controller: "its output is a fraction of two whole numbers and its limited terms are added unrounded".
+    """The exact controller.
+
+    "its output is a fraction of two whole numbers and its limited terms are added unrounded"
     """
 
     @staticmethod

@@ -1,10 +1,12 @@
-"""The documents name only what is there: every name in a document's inline code stands somewhere in the repository
-outside the documents, every path in it is there, and every edit that the trace cites is one that the gate tries, and the other
-way round.
+"""The documents name only what is there.
+
+Every name in a document's inline code stands somewhere in the repository outside the documents, every path in it is
+there, and every edit that the trace cites is one that the gate tries, and the other way round.
 
 Usage: python3 -B -m tests.repository.docs
 
-The last line printed is 'N passed, M failed', one count for each name and path in each document and for each must-fail edit.
+The last line printed is 'N passed, M failed', one count for each name and path in each document and for each must-fail
+edit.
 """
 
 import re

@@ -48,8 +48,9 @@ def docstrings(text):
 
 
 def prose_of_document(lines):
-    """Numbers of the lines that are neither a table row nor in a code block: fenced, or indented by four behind an
-    empty line.
+    """Numbers of the lines that are neither a table row nor in a code block.
+
+    A code block is fenced, or indented by four behind an empty line.
     """
     prose, is_fenced, is_code, was_empty = set(), False, False, True
     for number, line in enumerate(lines, 1):

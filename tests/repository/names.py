@@ -16,10 +16,13 @@ from tests.gate import tally
 from tests.repository.files import text_of, tracked
 
 # Not among them, since the checker generates fields of these names: left, taken
-RETIRED = frozenset("""bearer carried decline declined declines glyph glyphs handed judge judged judges laid lay lays lent marks mend mended
-mending mends reckon reckoned reckoner reckoning reckons said say says shown spell spelled spells unsaid""".split())
+RETIRED = frozenset("""bearer carried decline declined declines glyph glyphs handed judge judged judges laid lay lays lent
+marks mend mended mending mends reckon reckoned reckoner reckoning reckons said say says shown spell spelled spells
+unsaid""".split())
 PART = re.compile(r"[A-Z]+(?![a-z])|[A-Z]?[a-z]+")
-COMMENTS_AND_TEXTS = {".rt": re.compile(r'//.*|b?"(?:[^"\\\n]|\\.)*"'), ".antt": re.compile(r'--.*|"(?:[^"\\\n]|\\.)*"')}
+TEXT = r'"(?:[^"\\\n]|\\.)*"'
+COMMENTS_AND_TEXTS = {"rt": re.compile(r"//.*|b?" + TEXT), "antt": re.compile(r"--.*|" + TEXT),
+                      "show": re.compile(r"#.*|'[^'\n]*'|" + TEXT)}
 IDENTIFIER = re.compile(r"[^\W\d](?:[\w'·]|-(?=\w))*")
 
 
@@ -28,14 +31,14 @@ def retired_in(name):
     return sorted(RETIRED & {part.lower() for part in PART.findall(name)})
 
 
-def identifiers(name):
-    """The identifiers in a file: of Python its names, of other files all words outside comments and texts."""
-    suffix = "." + name.rsplit(".", 1)[-1]
-    if suffix == ".py":
-        tokens = tokenize.generate_tokens(io.StringIO(text_of(name)).readline)
+def identifiers(name, text):
+    """The identifiers in a file of this name: of Python the names, else all words outside comments and texts."""
+    kind = re.split(r"[./]", name)[-1]
+    if kind == "py":
+        tokens = tokenize.generate_tokens(io.StringIO(text).readline)
         return {token.string for token in tokens if token.type == tokenize.NAME}
-    if suffix in COMMENTS_AND_TEXTS:
-        return set(IDENTIFIER.findall(COMMENTS_AND_TEXTS[suffix].sub(" ", text_of(name))))
+    if kind in COMMENTS_AND_TEXTS:
+        return set(IDENTIFIER.findall(COMMENTS_AND_TEXTS[kind].sub(" ", text)))
     return set()
 
 
@@ -45,7 +48,7 @@ def main():
         looked += 1
         words = retired_in(name)
         faults += [f"{name}: the path has the retired word{'s' if words[1:] else ''} {', '.join(words)}"] if words else []
-        found = identifiers(name) if name.startswith(("crates/", "tests/", "demo/")) else set()
+        found = identifiers(name, text_of(name)) if name.startswith(("crates/", "tests/", "demo/")) else set()
         looked += len(found)
         faults += [f"{name}: {each} has the retired word {', '.join(retired_in(each))}" for each in sorted(found) if retired_in(each)]
     return tally.report(faults, looked, "no retired word")

@@ -96,7 +96,7 @@ def things_met(before, given, after, mode):
 def scans_drawn():
     """Scans of the drawn lists, and each once more with the memory fault standing before it.
 
-    Refused ones not among them.
+    Refused scans aren't among them.
     """
     generator = random.Random(SEED)
     for calls in parameter_lists.all_calls(generator):

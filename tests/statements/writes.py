@@ -51,7 +51,7 @@ Writes before n v after answer = write before n v ≡ record { next = after; ans
 def drawn_state(generator):
     """A controller with drawn parameters, pins, request, open count and output, as scans and writes may leave it.
 
-    a cause leaves the request Manual.
+    A cause leaves the request Manual.
     """
     parameters, opens = parameter_lists.draw_parameters(generator), generator.choice((0, 0, 0, 84, OPEN_CAUSE))
     pv, sp = generator.randint(-9999, 9999), generator.randint(-9999, 9999)
