@@ -1,1 +1,1 @@
-"""The reference model: controller and console lines in Python, made from document 01 and our decisions, not the code."""
+"""The reference model: the controller and the console lines in Python, made from document 01 and our decisions."""
