@@ -1,3 +1,1 @@
-"""The reference model: the controller and the console's lines in Python, made from document 01 and our decisions, never
-from the code.
-"""
+"""The reference model: the controller and the console lines in Python, made from document 01 and our decisions."""

@@ -5,26 +5,28 @@ for instance, can't be broken and may be longer.
 """
 
 import ast
+import pathlib
 import re
 
 MOST_CODE_COLUMNS, MOST_PROSE_COLUMNS = 140, 120
-COMMENT = {".rt": "//", ".antt": "--", ".py": "#"}
+COMMENT = {".rt": "//", ".antt": "--", ".py": "#", ".txt": "#", "show": "#", "Makefile": "#"}  # by suffix, or by the name
 GENERATED = re.compile(r"crates/worked/specs/Model\w*\.antt")
 LIST_ITEM = re.compile(r"(?:[-*+]|\d+\.) +")
 
 
 def too_long_lines(name, lines):
     """Number and columns of each line that is too long; none in files of other kinds."""
-    suffix = "." + name.rsplit(".", 1)[-1]
-    if suffix == ".md":
+    path = pathlib.PurePath(name)
+    kind = path.suffix or path.name
+    if kind == ".md":
         prose = prose_of_document(lines)
-    elif suffix in COMMENT and not GENERATED.fullmatch(name):
-        prose = comments(lines, COMMENT[suffix]) | (docstrings("\n".join(lines)) if suffix == ".py" else set())
+    elif kind in COMMENT and not GENERATED.fullmatch(name):
+        prose = comments(lines, COMMENT[kind]) | (docstrings("\n".join(lines)) if kind == ".py" else set())
     else:
         return []
     limits = ((number, line, MOST_PROSE_COLUMNS if number in prose else MOST_CODE_COLUMNS) for number, line in enumerate(lines, 1)
-              if suffix != ".md" or number in prose)
-    return [(number, len(line)) for number, line, most in limits if len(line) > most and can_be_broken(line, COMMENT.get(suffix, ""))]
+              if kind != ".md" or number in prose)
+    return [(number, len(line)) for number, line, most in limits if len(line) > most and can_be_broken(line, COMMENT.get(kind, ""))]
 
 
 def can_be_broken(line, comment):
