@@ -1,4 +1,5 @@
--- The rules give what the reference model gives, for each of its restarts and saves in specs/ModelRestarts.antt: each side computes to the same state, answer and bytes.
+-- The rules give what the reference model gives, for each of its restarts and saves in specs/ModelRestarts.antt:
+-- each side computes to the same state, answer and bytes.
 use mathlib.Core.Path.{refl}
 use Rattle.integers.specs.Limit.{limited, atLeast, atMost}
 use Rattle.integers.specs.Listed.{listed}
@@ -21,10 +22,29 @@ use Rattle.controller.specs.Restart as r
 use Rattle.controller.specs.Save as v
 use Rattle.controller.specs.Scan as s
 use Rattle.controller.specs.State.{startReadings}
+use Rattle.worked.proofs.Worked.{_and_}
 use Rattle.worked.specs.Figures.{AllHold}
 use Rattle.worked.specs.ModelRestarts.{modelRestarts}
 
 pub model-restarts-hold : AllHold modelRestarts
-unfolding modelRestarts r.restart r.restartCore r.restartTests r.restartAccepted r.restoredSettings r.repairedSettings r.isLegal v.savedImage v.settingsNow v.settingsOf startReadings opOf s.responseFrom s.controllerAfter s.refused refusedBy switchesOf f.fieldsFrom f.fieldBytes f.valueBytes f.tagOf f.lengthOf f.withSumcheck f.sumOf f.sum f.saveTests f.savedIn g.formedFrom g.valuesFrom g.valueIn g.isHeaded areLegal every m.repaired m.setpointAndRatioLimited m.byPairs m.pairedValue m.byRange m.rangedValue m.widestOutput limitedAnew value withValue ruleOf t.imageOf t.valuesOf t.valueAt t.userBitsNumber t.userBitsIn t.parameterIn t.parametersIn t.settingsIn t.isSumRight t.areOthersLegal t.legalUserBits listed asWord fromWord limited atLeast atMost storedUnits limitedStored o.storedArithmetic o.changed o.limitedTo o.executed u.minimumOf u.restartedTo u.restartInstruction
+unfolding modelRestarts r.restart r.restartCore r.restartTests r.restartAccepted r.restoredSettings r.repairedSettings
+    r.isLegal v.savedImage v.settingsNow v.settingsOf startReadings opOf s.responseFrom s.controllerAfter s.refused
+    refusedBy switchesOf f.fieldsFrom f.fieldBytes f.valueBytes f.tagOf f.lengthOf f.withSumcheck f.sumOf f.sum
+    f.saveTests f.savedIn g.formedFrom g.valuesFrom g.valueIn g.isHeaded areLegal every m.repaired
+    m.setpointAndRatioLimited m.byPairs m.pairedValue m.byRange m.rangedValue m.widestOutput limitedAnew value
+    withValue ruleOf t.imageOf t.valuesOf t.valueAt t.userBitsNumber t.userBitsIn t.parameterIn t.parametersIn
+    t.settingsIn t.isSumRight t.areOthersLegal t.legalUserBits listed asWord fromWord limited atLeast atMost
+    storedUnits limitedStored o.storedArithmetic o.changed o.limitedTo o.executed u.minimumOf u.restartedTo
+    u.restartInstruction
 model-restarts-hold =
-    (refl, (refl, (refl, (refl, (refl, (refl, (refl, (refl, (refl, (refl, (refl, (refl, (refl, (refl, (refl, (refl, (refl, (refl, (refl, (refl, (refl, (refl, (refl, (refl, (refl, (refl, (refl, (refl, (refl, (refl, (refl, (refl, (refl, (refl, (refl, (refl, (refl, (refl, (refl, (refl, (refl, (refl, (refl, (refl, (refl, (refl, (refl, (refl, (refl, (refl, (refl, (refl, (refl, (refl, (refl, (refl, (refl, (refl, (refl, (refl, (refl, (refl, (refl, (refl, (refl, (refl, (refl, (refl, (refl, (refl, (refl, (refl, (refl, (refl, (refl, (refl, (refl, (refl, (refl, (refl, (refl, (refl, (refl, (refl, (refl, (refl, (refl, (refl, (refl, (refl, (refl, ((refl, refl), ((refl, refl), ((refl, refl), ((refl, refl), ((refl, refl), ((refl, refl), ((refl, refl), ((refl, refl), ((refl, refl), ((refl, refl), tt)))))))))))))))))))))))))))))))))))))))))))))))))))))))))))))))))))))))))))))))))))))))))))))))))))))
+    refl and refl and refl and refl and refl and refl and refl and refl and refl and refl and refl and refl and
+    refl and refl and refl and refl and refl and refl and refl and refl and refl and refl and refl and refl and
+    refl and refl and refl and refl and refl and refl and refl and refl and refl and refl and refl and refl and
+    refl and refl and refl and refl and refl and refl and refl and refl and refl and refl and refl and refl and
+    refl and refl and refl and refl and refl and refl and refl and refl and refl and refl and refl and refl and
+    refl and refl and refl and refl and refl and refl and refl and refl and refl and refl and refl and refl and
+    refl and refl and refl and refl and refl and refl and refl and refl and refl and refl and refl and refl and
+    refl and refl and refl and refl and refl and refl and refl and
+    (refl, refl) and (refl, refl) and (refl, refl) and (refl, refl) and (refl, refl) and
+    (refl, refl) and (refl, refl) and (refl, refl) and (refl, refl) and (refl, refl) and
+    tt

@@ -1,4 +1,5 @@
--- The rules give what the reference model gives, for each of its scans in specs/ModelScans.antt: each side computes to the same state and answer.
+-- The rules give what the reference model gives, for each of its scans in specs/ModelScans.antt: each side computes
+-- to the same state and answer.
 use mathlib.Core.Path.{refl}
 use Rattle.integers.specs.Rounding.{halfUp, halfEven, nearestAway, nearestEven}
 use Rattle.integers.specs.Limit as Limit
@@ -22,10 +23,27 @@ use Rattle.terms.specs.Fraction.{whole, atLeast, atMost, limited, stored, store
 use Rattle.terms.specs.Terms.{proportionalTerm, integralTerm, derivativeTerm, limitedTerm, storedTerm}
 use Rattle.scaling.specs.Root.{greatestTo, rootOf}
 use Rattle.outputs.specs.History as h
+use Rattle.worked.proofs.Worked.{_and_}
 use Rattle.worked.specs.Figures.{AllHold}
 use Rattle.worked.specs.ModelScans.{modelScans}
 
 pub model-scans-hold : AllHold modelScans
-unfolding s.scan s.scanCore s.accepted s.responseFrom s.controllerAfter s.contextOf s.computedIn s.indicationsAfter s.coreAfter s.statusOf s.modeNow a.opOf a.electricalOf refusedBy scanTests buttonsOf pinsOf switchesOf adjustmentOf m.counted m.openCountAfter m.conditionsAfter m.modeOf m.goesToMinimum byteOf mdHigh mdLow MD dsLow DS value withValue r.computed r.lowAlarm r.highAlarm p.firstSample p.processVariable p.thirdChannel p.movedByHand p.ratioAfter p.setpointMoved p.setpointAfter p.trimOf p.localSetpoint p.setpointIn p.setpointOf p.measuredPower scaled halfUp Limit.limited Limit.atLeast Limit.atMost d.deviation d.earlierSetpoint d.changeOfDeviation d.secondDifference d.tuningOf o.storedArithmetic o.changed o.limitedTo o.executed u.termsOf u.byTerms u.limitsIn u.instructionOf proportionalTerm integralTerm derivativeTerm limitedTerm storedTerm whole atLeast atMost limited stored storedUnits limitedStored nearestEven halfEven p.remoteSetpoint p.ratioSetpoint greatestTo rootOf u.byHand u.minimumOf h.historyAfter ratioQuotient inverseQuotient nearestAway modelScans
+unfolding s.scan s.scanCore s.accepted s.responseFrom s.controllerAfter s.contextOf s.computedIn s.indicationsAfter
+    s.coreAfter s.statusOf s.modeNow a.opOf a.electricalOf refusedBy scanTests buttonsOf pinsOf switchesOf
+    adjustmentOf m.counted m.openCountAfter m.conditionsAfter m.modeOf m.goesToMinimum byteOf mdHigh mdLow MD dsLow DS
+    value withValue r.computed r.lowAlarm r.highAlarm p.firstSample p.processVariable p.thirdChannel p.movedByHand
+    p.ratioAfter p.setpointMoved p.setpointAfter p.trimOf p.localSetpoint p.setpointIn p.setpointOf p.measuredPower
+    scaled halfUp Limit.limited Limit.atLeast Limit.atMost d.deviation d.earlierSetpoint d.changeOfDeviation
+    d.secondDifference d.tuningOf o.storedArithmetic o.changed o.limitedTo o.executed u.termsOf u.byTerms u.limitsIn
+    u.instructionOf proportionalTerm integralTerm derivativeTerm limitedTerm storedTerm whole atLeast atMost limited
+    stored storedUnits limitedStored nearestEven halfEven p.remoteSetpoint p.ratioSetpoint greatestTo rootOf u.byHand
+    u.minimumOf h.historyAfter ratioQuotient inverseQuotient nearestAway modelScans
 model-scans-hold =
-    (refl, (refl, (refl, (refl, (refl, (refl, (refl, (refl, (refl, (refl, (refl, (refl, (refl, (refl, (refl, (refl, (refl, (refl, (refl, (refl, (refl, (refl, (refl, (refl, (refl, (refl, (refl, (refl, (refl, (refl, (refl, (refl, (refl, (refl, (refl, (refl, (refl, (refl, (refl, (refl, (refl, (refl, (refl, (refl, (refl, (refl, (refl, (refl, (refl, (refl, (refl, (refl, (refl, (refl, (refl, (refl, (refl, (refl, (refl, (refl, (refl, (refl, (refl, (refl, (refl, (refl, (refl, (refl, (refl, (refl, (refl, (refl, (refl, (refl, (refl, (refl, (refl, tt)))))))))))))))))))))))))))))))))))))))))))))))))))))))))))))))))))))))))))))
+    refl and refl and refl and refl and refl and refl and refl and refl and refl and refl and refl and refl and
+    refl and refl and refl and refl and refl and refl and refl and refl and refl and refl and refl and refl and
+    refl and refl and refl and refl and refl and refl and refl and refl and refl and refl and refl and refl and
+    refl and refl and refl and refl and refl and refl and refl and refl and refl and refl and refl and refl and
+    refl and refl and refl and refl and refl and refl and refl and refl and refl and refl and refl and refl and
+    refl and refl and refl and refl and refl and refl and refl and refl and refl and refl and refl and refl and
+    refl and refl and refl and refl and refl and
+    tt

@@ -1,4 +1,5 @@
--- The rules give what the reference model gives, for each of its writes and reads in specs/ModelWrites.antt: each side computes to the same state and answer.
+-- The rules give what the reference model gives, for each of its writes and reads in specs/ModelWrites.antt: each
+-- side computes to the same state and answer.
 use mathlib.Core.Path.{refl}
 use Rattle.integers.specs.Limit.{limited, atLeast, atMost}
 use Rattle.signals.specs.Refusals.{refusedBy}
@@ -15,10 +16,30 @@ use Rattle.controller.specs.Answers.{opOf}
 use Rattle.controller.specs.Read.{read, readIn}
 use Rattle.controller.specs.Scan as s
 use Rattle.controller.specs.Write as w
+use Rattle.worked.proofs.Worked.{_and_}
 use Rattle.worked.specs.Figures.{AllHold}
 use Rattle.worked.specs.ModelWrites.{modelWrites}
 
 pub model-writes-hold : AllHold modelWrites
-unfolding modelWrites w.write w.writeCore w.writeAccepted w.writeTests w.stateTests w.setpointTests w.coreWith w.coreWritten w.mdWritten w.dsWritten w.parameterWritten read readIn opOf limitsIn limitsWritten limitedAnew written value withValue ruleOf conditionsWritten powerWritten userBitsWritten mdTests refusedBy switchesOf pinsOf buttonsOf modeOf byteOf mdHigh mdLow MD dsLow DS limited atLeast atMost storedUnits limitedStored s.responseFrom s.controllerAfter s.refused s.modeNow o.storedArithmetic o.changed o.limitedTo o.executed
+unfolding modelWrites w.write w.writeCore w.writeAccepted w.writeTests w.stateTests w.setpointTests w.coreWith
+    w.coreWritten w.mdWritten w.dsWritten w.parameterWritten read readIn opOf limitsIn limitsWritten limitedAnew
+    written value withValue ruleOf conditionsWritten powerWritten userBitsWritten mdTests refusedBy switchesOf pinsOf
+    buttonsOf modeOf byteOf mdHigh mdLow MD dsLow DS limited atLeast atMost storedUnits limitedStored s.responseFrom
+    s.controllerAfter s.refused s.modeNow o.storedArithmetic o.changed o.limitedTo o.executed
 model-writes-hold =
-    (refl, (refl, (refl, (refl, (refl, (refl, (refl, (refl, (refl, (refl, (refl, (refl, (refl, (refl, (refl, (refl, (refl, (refl, (refl, (refl, (refl, (refl, (refl, (refl, (refl, (refl, (refl, (refl, (refl, (refl, (refl, (refl, (refl, (refl, (refl, (refl, (refl, (refl, (refl, (refl, (refl, (refl, (refl, (refl, (refl, (refl, (refl, (refl, (refl, (refl, (refl, (refl, (refl, (refl, (refl, (refl, (refl, (refl, (refl, (refl, (refl, (refl, (refl, (refl, (refl, (refl, (refl, (refl, (refl, (refl, (refl, (refl, (refl, (refl, (refl, (refl, (refl, (refl, (refl, (refl, (refl, (refl, (refl, (refl, (refl, (refl, (refl, (refl, (refl, (refl, (refl, (refl, (refl, (refl, (refl, (refl, (refl, (refl, (refl, (refl, (refl, (refl, (refl, (refl, (refl, (refl, (refl, (refl, (refl, (refl, (refl, (refl, (refl, (refl, (refl, (refl, (refl, (refl, (refl, (refl, (refl, (refl, (refl, (refl, (refl, (refl, (refl, (refl, (refl, (refl, (refl, (refl, (refl, (refl, (refl, (refl, (refl, (refl, (refl, (refl, (refl, (refl, (refl, (refl, (refl, (refl, (refl, (refl, (refl, (refl, (refl, (refl, (refl, (refl, (refl, (refl, (refl, (refl, (refl, (refl, (refl, (refl, (refl, (refl, (refl, (refl, (refl, (refl, (refl, (refl, (refl, (refl, (refl, (refl, (refl, (refl, (refl, (refl, (refl, tt)))))))))))))))))))))))))))))))))))))))))))))))))))))))))))))))))))))))))))))))))))))))))))))))))))))))))))))))))))))))))))))))))))))))))))))))))))))))))))))))))))))))))))))))))))
+    refl and refl and refl and refl and refl and refl and refl and refl and refl and refl and refl and refl and
+    refl and refl and refl and refl and refl and refl and refl and refl and refl and refl and refl and refl and
+    refl and refl and refl and refl and refl and refl and refl and refl and refl and refl and refl and refl and
+    refl and refl and refl and refl and refl and refl and refl and refl and refl and refl and refl and refl and
+    refl and refl and refl and refl and refl and refl and refl and refl and refl and refl and refl and refl and
+    refl and refl and refl and refl and refl and refl and refl and refl and refl and refl and refl and refl and
+    refl and refl and refl and refl and refl and refl and refl and refl and refl and refl and refl and refl and
+    refl and refl and refl and refl and refl and refl and refl and refl and refl and refl and refl and refl and
+    refl and refl and refl and refl and refl and refl and refl and refl and refl and refl and refl and refl and
+    refl and refl and refl and refl and refl and refl and refl and refl and refl and refl and refl and refl and
+    refl and refl and refl and refl and refl and refl and refl and refl and refl and refl and refl and refl and
+    refl and refl and refl and refl and refl and refl and refl and refl and refl and refl and refl and refl and
+    refl and refl and refl and refl and refl and refl and refl and refl and refl and refl and refl and refl and
+    refl and refl and refl and refl and refl and refl and refl and refl and refl and refl and refl and refl and
+    refl and refl and refl and refl and refl and refl and refl and refl and refl and refl and refl and
+    tt

@@ -1,5 +1,5 @@
--- Document 01, "Worked by hand (all to be proved)": one list of statements about the rules, in the paper's order. proofs/Worked.antt proves
--- it.
+-- Document 01, "Worked by hand (all to be proved)": one list of statements about the rules, in the paper's order.
+-- proofs/Worked.antt proves it.
 use mathlib.Core.Path.{_≡_}
 use mathlib.Core.Bool.{true, false}
 use mathlib.Core.List.{List, [], _∷_}
@@ -17,7 +17,7 @@ use Rattle.scaling.specs.Scale.{scaled}
 use Rattle.terms.specs.Fraction.{Fraction, Positive, whole}
 use Rattle.terms.specs.Terms.{proportionalTerm, integralTerm, derivativeTerm, limitedTerm, storedTerm}
 use Rattle.terms.specs.declared.Tuning.{Tuning}
-use Rattle.outputs.specs.Instruction.{addTerms, exactArithmetic, changed}
+use Rattle.outputs.specs.Instruction.{Change, addTerms, exactArithmetic, changed}
 use Rattle.controller.specs.Answers.{words, number}
 use Rattle.controller.specs.Save.{savedImage}
 use Rattle.controller.specs.Scan.{scan}
@@ -37,6 +37,10 @@ Equal f g = Positive f × Positive g × (f .numerator *ℤ pos (g .denominator) 
 -- "With XP 1000, W 1000, S2.8 and S2.4 OFF", and TI and TD as each figure has them
 abbrev pub example : ℕ → ℕ → Tuning
 example ti td = record { xp = 1000; span = 1000; ti = ti; td = td; minutes = false; inverted = false }
+
+-- the three terms of a change c - c1, of c and of D
+abbrev pub termsFrom : Tuning → ℕ → ℕ → ℕ → Change
+termsFrom t change c d = addTerms (proportionalTerm t (pos change)) (integralTerm t (pos c)) (derivativeTerm t (pos d))
 
 -- the count that so many consecutive open scans leave
 abbrev pub afterOpenScans : ℕ → ℕ
@@ -59,7 +63,7 @@ figures =
     ∷ Equal (limitedTerm (integralTerm (example 10 0) (pos 1))) (record { numerator = pos 36; denominator = 100 })
     ∷ (storedTerm (integralTerm (example 10 0) (pos 1)) ≡ pos 23593)
     -- the exact controller's output with that term and two that are 0: "its limited terms are added unrounded"
-    ∷ Equal (changed exactArithmetic (addTerms (proportionalTerm (example 10 0) (pos 0)) (integralTerm (example 10 0) (pos 1)) (derivativeTerm (example 10 0) (pos 0))) (whole (pos 0))) (record { numerator = pos 36; denominator = 100 })
+    ∷ Equal (changed exactArithmetic (termsFrom (example 10 0) 0 1 0) (whole (pos 0))) (record { numerator = pos 36; denominator = 100 })
     -- "D = 1, TD 10 gives -18,204,444 stored"
     ∷ (storedTerm (derivativeTerm (example 0 10) (pos 1)) ≡ negℤ (pos 18204444))
     -- "D = 100 gives -10,000 units"
