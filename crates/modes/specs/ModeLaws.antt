@@ -13,10 +13,12 @@ abbrev pub everyMode : (Mode → Bool) → Bool
 everyMode test =
     test Hold && test Track && test Forced && test Manual && test Auto && test Remote && test Ratio && test Fallback
 
+-- a test that would make a true one false, were it false, is true
 not-false : (b : Bool) → (b ≡ false → false ≡ true) → b ≡ true
 not-false true f = refl
 not-false false f = f refl
 
+-- a test that holds of every mode holds of this one
 pub every-mode : (test : Mode → Bool) → everyMode test ≡ true → (mode : Mode) → test mode ≡ true
 every-mode test e Hold = not-false (test Hold) (λ q. simp q at e)
 every-mode test e Track = not-false (test Track) (λ q. simp (q, and-false) at e)
@@ -27,6 +29,7 @@ every-mode test e Remote = not-false (test Remote) (λ q. simp (q, and-false) at
 every-mode test e Ratio = not-false (test Ratio) (λ q. simp (q, and-false) at e)
 every-mode test e Fallback = not-false (test Fallback) (λ q. simp (q, and-false) at e)
 
+-- two Booleans that compare equal are equal
 same : (a b : Bool) → Bool·beq a b ≡ true → a ≡ b
 same true true e = refl
 same false false e = refl

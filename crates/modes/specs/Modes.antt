@@ -104,9 +104,11 @@ isAutomatic mode = isOneOf (Auto ∷ Remote ∷ Ratio ∷ Fallback ∷ []) mode
 abbrev pub isTrack : Mode → Bool
 isTrack mode = isOneOf (Track ∷ []) mode
 
+-- the same of Remote
 abbrev pub isRemote : Mode → Bool
 isRemote mode = isOneOf (Remote ∷ []) mode
 
+-- the same of Ratio
 abbrev pub isRatio : Mode → Bool
 isRatio mode = isOneOf (Ratio ∷ []) mode
 

@@ -8,12 +8,14 @@ ghost use Rattle.modes.specs.Modes.{isAutomatic, isTrack, isRemote, isRa
 use signals::Buttons;
 use signals::Input;
 
+// What was requested last, by a button or by a write of MD.
 pub enum Request {
     Manual,
     Auto,
     Remote,
 }
 
+// The modes in their priority order.
 pub enum Mode {
     Hold,
     Track,
@@ -65,12 +67,14 @@ fn counted(opencount: u8) -> u8
     }
 }
 
+// The contract rules out a count that a scan that isn't open leaves standing.
 fn open_count_after(isopen: bool, opencount: u8) -> u8
     ensures { λ r. ⌜ r ≡ openCountAfter counted isopen opencount ⌝ }
 {
     if isopen { counted(opencount) } else { 0 }
 }
 
+// The first pressed of M, A, R. The contract rules out another order.
 fn request_by(b: Buttons, q: Request) -> Request
     ensures { λ r. ⌜ r ≡ requestBy b q ⌝ }
 {
@@ -94,6 +98,7 @@ fn request_after(cause: bool, b: Buttons, q: Request) -> Request
     if cause { Request::Manual } else { asked }
 }
 
+// The mode by the request alone. The contract rules out Remote for Ratio, and either with the Remote pin 0.
 fn mode_by(q: Request, remotepin: bool, ratioswitch: bool) -> Mode
     ensures { λ r. ⌜ r ≡ modeBy q remotepin ratioswitch ⌝ }
 {
@@ -114,6 +119,7 @@ fn mode_by(q: Request, remotepin: bool, ratioswitch: bool) -> Mode
     }
 }
 
+// Hold, Track and Forced Manual before what is requested. The contract rules out another order.
 fn in_priority(holdpin: bool, trackpin: bool, cause: bool, requested: Mode) -> Mode
     ensures { λ r. ⌜ r ≡ inPriority holdpin trackpin cause requested ⌝ }
 {

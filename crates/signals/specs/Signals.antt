@@ -47,5 +47,6 @@ adjustmentOf b =
 abbrev pub isOpen : Input → Bool
 isOpen i = bit (i .sensors) 0
 
+-- its other bit
 abbrev pub batteryLow : Input → Bool
 batteryLow i = bit (i .sensors) 1

@@ -5,6 +5,7 @@ use Prim.Native.Nat.{ℕ, _+_, _*_, _≤_}
 use native.Mathlib.Omega.{arith}
 use Rattle.words.specs.Words.{weight, nibbleOf, byteOf}
 
+-- a bit adds its weight at most
 pub weight-most : (b : Bool) (w : ℕ) → weight b w ≤ w
 weight-most true w = omega arith
 weight-most false w = omega arith
@@ -14,6 +15,7 @@ weight-upper : (b : Bool) (w : ℕ) → weight b (16 * w) ≡ 16 * weight b w
 weight-upper true w = refl
 weight-upper false w = omega arith
 
+-- a byte by its two halves
 pub byte-nibbles : (b7 b6 b5 b4 b3 b2 b1 b0 : Bool) →
     byteOf b7 b6 b5 b4 b3 b2 b1 b0 ≡ 16 * nibbleOf b7 b6 b5 b4 + nibbleOf b3 b2 b1 b0
 unfolding byteOf nibbleOf

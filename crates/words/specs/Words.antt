@@ -39,16 +39,19 @@ modeBit Fallback = 12
 modeBit Remote = 11
 modeBit Ratio = 11
 
+-- bits 15 to 8 of MD
 unfoldable pub mdHigh : Mode → Conditions → ℕ
 mdHigh mode c =
     let n = modeBit mode in
     byteOf (eqb n 15) (eqb n 14) (eqb n 13) (eqb n 12) (eqb n 11) (pinsOf (c .pins) .remote) (isOpenCause (c .opencount)) (c .fault)
 
+-- bits 7 to 0 of MD
 unfoldable pub mdLow : UserBits → Indications → ℕ
 mdLow userbits indications =
     let b = buttonsOf (indications .buttons) in
     byteOf (b .lower) (b .raise) false (userbits .measuredpower) (b .sp) (b .r) (b .a) (b .m)
 
+-- the word
 unfoldable pub MD : Mode → Conditions → UserBits → Indications → ℕ
 MD mode c userbits indications = 256 * mdHigh mode c + mdLow userbits indications
 
@@ -63,10 +66,12 @@ dsBit5 mode = not (isOneOf (Hold ∷ Manual ∷ Forced ∷ []) mode)
 abbrev pub dsBit4 : Mode → Bool
 dsBit4 mode = not (isOneOf (Remote ∷ Ratio ∷ []) mode)
 
+-- bits 7 to 0 of DS
 unfoldable pub dsLow : Mode → Conditions → UserBits → Indications → ℕ
 dsLow mode c userbits indications =
     byteOf (userbits .user2) (userbits .user1) (dsBit5 mode) (dsBit4 mode) (not (indications .batterylow))
     (not (isCause (c .fault) (c .opencount))) (not (indications .lowalarm)) (not (indications .highalarm))
 
+-- the word
 unfoldable pub DS : Mode → Conditions → UserBits → Indications → ℕ
 DS mode c userbits indications = 256 * c .pins + dsLow mode c userbits indications

@@ -24,6 +24,7 @@ requestOf word =
 abbrev pub clearsFault : Bool → ℕ → Bool
 clearsFault fault word = fault && not (bit word 8)
 
+-- the memory fault that a write of MD leaves
 abbrev pub faultWritten : Bool → ℕ → Bool
 faultWritten fault word = if clearsFault fault word then false else fault
 
@@ -31,6 +32,7 @@ faultWritten fault word = if clearsFault fault word then false else fault
 abbrev pub requestWritten : Bool → ℕ → Request
 requestWritten fault word = if clearsFault fault word then Manual else requestOf word
 
+-- both, with the open count and the pins as they were
 unfoldable pub conditionsWritten : Conditions → ℕ → Conditions
 conditionsWritten c word =
     record { request = requestWritten (c .fault) word; fault = faultWritten (c .fault) word; opencount = c .opencount; pins = c .pins }
@@ -46,6 +48,7 @@ userBitsWritten userbits word = record { user1 = bit word 6; user2 = bit word 7;
 -- ---- "9 not exactly one of MD bits 13, 12, 11; 10 bit 11 with the Remote pin 0; 11 bit 12 or 11 when a cause would
 -- remain."
 
+-- of three bits
 abbrev pub exactlyOne : Bool → Bool → Bool → Bool
 exactlyOne a b c = a && not b && not c || not a && b && not c || not a && not b && c
 
@@ -53,6 +56,7 @@ exactlyOne a b c = a && not b && not c || not a && b && not c || not a && not b 
 abbrev pub causeRemains : Conditions → ℕ → Bool
 causeRemains c word = isCause (faultWritten (c .fault) word) (c .opencount)
 
+-- the three tests by their numbers
 unfoldable pub mdTests : Conditions → ℕ → List (Bool × ℕ)
 mdTests c word =
     (not (exactlyOne (bit word 13) (bit word 12) (bit word 11)), 9)

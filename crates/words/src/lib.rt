@@ -80,6 +80,7 @@ fn ds_bit_4(mode: Mode) -> bool
     }
 }
 
+// MD bits 15 to 8.
 fn md_high(mode: Mode, c: Conditions) -> u16
     ensures { λ r. ⌜ (r ≡ mdHigh mode c) × (r ≤ 255) ⌝ }
 {
@@ -98,6 +99,7 @@ fn md_high(mode: Mode, c: Conditions) -> u16
     )
 }
 
+// MD bits 7 to 0.
 fn md_low(userbits: UserBits, indications: Indications) -> u16
     ensures { λ r. ⌜ (r ≡ mdLow userbits indications) × (r ≤ 255) ⌝ }
 {
@@ -124,6 +126,7 @@ pub fn md(mode: Mode, c: Conditions, userbits: UserBits, indications: Indication
     256 * high + low
 }
 
+// DS bits 7 to 0.
 fn ds_low(mode: Mode, c: Conditions, userbits: UserBits, indications: Indications) -> u16
     ensures { λ r. ⌜ (r ≡ dsLow mode c userbits indications) × (r ≤ 255) ⌝ }
 {

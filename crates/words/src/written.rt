@@ -10,6 +10,7 @@ use modes::Request;
 use signals::Refusal;
 use signals::Verdict;
 
+// The request that a word with exactly one of its three bits set asks for.
 fn request_of(word: u16) -> Request
     ensures { λ r. ⌜ r ≡ requestOf word ⌝ }
 {
@@ -31,6 +32,7 @@ fn clears_fault(fault: bool, word: u16) -> bool
     fault & !signals::bit(word, bits::FAULT)
 }
 
+// The memory fault that a write of MD leaves.
 fn fault_written(fault: bool, word: u16) -> bool
     ensures { λ r. ⌜ r ≡ faultWritten fault word ⌝ }
 {
@@ -38,6 +40,7 @@ fn fault_written(fault: bool, word: u16) -> bool
     if clears { false } else { fault }
 }
 
+// The request that it leaves. The contract rules out another than Manual where the write clears a fault.
 fn request_written(fault: bool, word: u16) -> Request
     ensures { λ r. ⌜ r ≡ requestWritten fault word ⌝ }
 {
@@ -86,12 +89,14 @@ pub fn user_bits_written(userbits: UserBits, word: u16) -> UserBits
     }
 }
 
+// The contract rules out none, two and three.
 fn exactly_one(a: bool, b: bool, c: bool) -> bool
     ensures { λ r. ⌜ r ≡ exactlyOne a b c ⌝ }
 {
     (a & !b & !c) | (!a & b & !c) | (!a & !b & c)
 }
 
+// Whether a cause would stand after a write of this word. The contract rules out the fault as it was before.
 fn cause_remains(c: Conditions, word: u16) -> bool
     ensures { λ r. ⌜ r ≡ causeRemains c word ⌝ }
 {
