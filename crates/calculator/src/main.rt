@@ -1,15 +1,15 @@
 // Reads calls of the arithmetic on standard input, one to a line, and answers each with one line: a number, or `error` for a line that is no
 // call or has an argument out of its range. The gate compares its answers with a reckoner that was made apart from the code.
 mod answer;
-mod say;
+mod print;
 
 // The answer to a line. One that fills the whole buffer is too long.
 fn line_answer(line: &[u8], len: usize, out: &mut [u8], used: usize) -> usize {
     let free = lines::room(out, used);
     if len < line.len() {
-        return say::answer(out, free, answer::of_line(&line[0..len]));
+        return print::append_answer(out, free, answer::of_line(&line[0..len]));
     }
-    say::error(out, free)
+    print::append_error(out, free)
 }
 
 // Answers one line after another to the end of the input. A proved loop must end, so the lines are counted down from a number that no run uses up.

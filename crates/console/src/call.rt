@@ -191,16 +191,16 @@ fn of_numbers(controller: Controller, name: &[u8], a: Arguments) -> Step
     ensures { λ r. ⌜ Valid (r .controller) ⌝ }
 {
     let values = a.values;
-    if check::same(name, b"scan") && text::arguments::has(a, 6) {
+    if text::arguments::is_call(name, b"scan", a, 6) {
         return scan(controller, values);
     }
-    if check::same(name, b"write") && text::arguments::has(a, 2) {
+    if text::arguments::is_call(name, b"write", a, 2) {
         return write(controller, values);
     }
-    if check::same(name, b"read") && text::arguments::has(a, 1) {
+    if text::arguments::is_call(name, b"read", a, 1) {
         return read(controller, values);
     }
-    if check::same(name, b"fresh") && text::arguments::has(a, 1) {
+    if text::arguments::is_call(name, b"fresh", a, 1) {
         return fresh(controller, values);
     }
     no_call(controller)
@@ -233,11 +233,11 @@ pub fn of_line(controller: Controller, line: &[u8], len: usize, buffer: &mut [u8
     let w = text::word(call, 0);
     let from = w.from;
     let to = w.to;
-    if check::same(&call[from..to], b"restart") {
+    if text::same(&call[from..to], b"restart") {
         return of_image(controller, call, to);
     }
     let a = text::arguments::parse(call, to);
-    if check::same(&call[from..to], b"save") && text::arguments::has(a, 1) {
+    if text::arguments::is_call(&call[from..to], b"save", a, 1) {
         return crate::image::save(controller, a.values[0], buffer);
     }
     of_numbers(controller, &call[from..to], a)

@@ -13,7 +13,7 @@ use controller::Controller;
 
 mod call;
 mod image;
-mod say;
+mod print;
 
 // The controller after a line, and how much of the output is used.
 struct Answered {
@@ -38,7 +38,7 @@ fn line_answer(
     let reply = step.reply;
     Answered {
         controller: next,
-        used: say::reply(out, free, reply, &buffer),
+        used: print::append_reply(out, free, reply, &buffer),
     }
 }
 

@@ -5,12 +5,9 @@ ghost use mathlib.Core.Bool.{cond};
 ghost use Prim.Native.Nat.{_≤_, min};
 ghost use lib.Dec.{ltb};
 ghost use lib.ListN.{length};
-ghost use Rattle.lines.specs.Buffer.{buffer, append};
 ghost use Rattle.lines.specs.Lines.{Appended, started, begun, ended, Advanced, Refilled, Continued, NextLine};
 use libc::STDIN_FILENO;
 use libc::STDOUT_FILENO;
-
-pub mod hexadecimal;
 
 // Where reading and writing stand: bytes `at` to `end` of the last read are unread, `len` bytes of the line buffer are filled, `complete` says
 // whether they are a line, `more` whether the input goes on, and `used` bytes of the output are still to be written.
@@ -43,17 +40,6 @@ fn least(a: usize, b: usize) -> usize
     if a < b { a } else { b }
 }
 
-// A byte more of the line. A line that fills the whole buffer is too long.
-fn append_byte(line: &mut [u8], len: usize, b: u8) -> usize
-    ensures { λ r. ⌜ buffer (now (line .exit)) r ≡ append (buffer (now (line .entry)) len) b ⌝ }
-{
-    if len < line.len() {
-        line[len] = b;
-        return len + 1;
-    }
-    len
-}
-
 // What came of bytes: how many were used, how many bytes the line has then, and whether its end was met.
 struct Part {
     count: usize,
@@ -76,7 +62,7 @@ fn append_line(bytes: &[u8], line: &mut [u8], len: usize) -> Part
                 complete: true,
             };
         }
-        filled = append_byte(line, filled, b);
+        filled = formatting::append_byte(line, filled, b);
         i += 1;
     }
     Part {
@@ -182,41 +168,7 @@ pub fn next_line(input: &mut [u8], line: &mut [u8], out: &[u8], place: Place) ->
     finish(p)
 }
 
-// ---- answers, at the front of a buffer; what does not fit is left out
-
-pub fn push(out: &mut [u8], used: usize, b: u8) -> usize {
-    if used < out.len() {
-        out[used] = b;
-        used + 1
-    } else {
-        used
-    }
-}
-
-pub fn bytes(out: &mut [u8], used: usize, s: &[u8]) -> usize {
-    let mut n = used;
-    let mut i = 0;
-    while i < s.len() {
-        n = push(out, n, s[i]);
-        i += 1;
-    }
-    n
-}
-
-pub fn decimal(out: &mut [u8], used: usize, n: u64) -> usize {
-    let mut text = [0u8; 20];
-    let k = io::decimal(n, &mut text);
-    bytes(out, used, &text[..k])
-}
-
-pub fn signed(out: &mut [u8], used: usize, x: i64) -> usize {
-    let size = integers::magnitude(x);
-    if integers::negative(x) {
-        let n = push(out, used, b'-');
-        return decimal(out, n, size);
-    }
-    decimal(out, used, size)
-}
+// ---- standard output
 
 // Writes what is used of the output; none of it is used afterwards.
 pub fn flush(out: &[u8], used: usize) -> usize

@@ -4,3 +4,4 @@ pub mod Hexadecimal
 pub mod HexadecimalLaws
 pub mod Arguments
 pub mod ArgumentsLaws
+pub mod Digits

@@ -1,7 +1,6 @@
--- A buffer and what is appended to it.
-use mathlib.Core.Path.{_≡_, refl}
+-- An output buffer and what is appended to it.
 use mathlib.Core.Bool.{cond}
-use mathlib.Core.List.{List, [], _∷_, _++_}
+use mathlib.Core.List.{List, [], _∷_}
 use Prim.Native.Nat.{ℕ, _+_}
 use lib.Dec.{ltb}
 use lib.ListN.{length, set}
@@ -18,9 +17,3 @@ append (buffer out used) b = cond (ltb used (length out)) (buffer (set out used 
 unfoldable pub appendAll : Buffer → List ℕ → Buffer
 appendAll o [] = o
 appendAll o (b ∷ bs) = appendAll (append o b) bs
-
--- bytes behind bytes
-pub append-append : (o : Buffer) (xs ys : List ℕ) → appendAll o (xs ++ ys) ≡ appendAll (appendAll o xs) ys
-unfolding appendAll
-append-append o [] ys = refl
-append-append o (x ∷ xs) ys = append-append (append o x) xs ys

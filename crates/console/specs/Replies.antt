@@ -1,0 +1,25 @@
+-- The lines that answer calls, as bytes.
+use mathlib.Core.List.{List, _++_}
+use Prim.Native.Nat.{ℕ}
+use lib.ListN.{take}
+use Rattle.text.specs.Digits.{digits, decimal, hexadecimal}
+use Rattle.formatting.specs.Ascii.{ascii}
+use Rattle.console.specs.declared.call.Reply.{Reply}
+use Rattle.console.specs.declared.call.Reply.the-variants.{Accepted, Value, Words, Image, Refused, NoCall}
+
+-- a blank and a number
+unfoldable pub spaced : ℕ → List ℕ
+spaced n = ascii " " ++ digits n
+
+-- a line without its end; the image is the first 137 bytes of the buffer that was saved into
+unfoldable pub replyText : Reply → List ℕ → List ℕ
+replyText Accepted saved = ascii "ok"
+replyText (Value v) saved = ascii "value " ++ decimal v
+replyText (Words md ds op electrical) saved = ascii "scan" ++ spaced md ++ spaced ds ++ spaced op ++ spaced electrical
+replyText Image saved = ascii "image " ++ hexadecimal (take 137 saved)
+replyText (Refused number) saved = ascii "refused" ++ spaced number
+replyText NoCall saved = ascii "error"
+
+-- the line of a reply
+unfoldable pub replyLine : Reply → List ℕ → List ℕ
+replyLine reply saved = replyText reply saved ++ ascii "\n"
