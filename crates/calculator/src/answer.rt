@@ -142,13 +142,13 @@ fn derivative(values: [i64; 6]) -> Answer {
 
 fn of_term(name: &[u8], a: Arguments) -> Answer {
     let values = a.values;
-    if check::same(name, b"proportional") && text::arguments::has(a, 3) {
+    if text::arguments::is_call(name, b"proportional", a, 3) {
         return proportional(values);
     }
-    if check::same(name, b"integral") && text::arguments::has(a, 5) {
+    if text::arguments::is_call(name, b"integral", a, 5) {
         return integral(values);
     }
-    if check::same(name, b"derivative") && text::arguments::has(a, 6) {
+    if text::arguments::is_call(name, b"derivative", a, 6) {
         return derivative(values);
     }
     Answer::NoCall
@@ -156,19 +156,19 @@ fn of_term(name: &[u8], a: Arguments) -> Answer {
 
 fn of_call(name: &[u8], a: Arguments) -> Answer {
     let values = a.values;
-    if check::same(name, b"scale") && text::arguments::has(a, 3) {
+    if text::arguments::is_call(name, b"scale", a, 3) {
         return scale(values);
     }
-    if check::same(name, b"root") && text::arguments::has(a, 1) {
+    if text::arguments::is_call(name, b"root", a, 1) {
         return root(values);
     }
-    if check::same(name, b"ratio") && text::arguments::has(a, 2) {
+    if text::arguments::is_call(name, b"ratio", a, 2) {
         return ratio(values, false);
     }
-    if check::same(name, b"inverse") && text::arguments::has(a, 2) {
+    if text::arguments::is_call(name, b"inverse", a, 2) {
         return ratio(values, true);
     }
-    if check::same(name, b"limit") && text::arguments::has(a, 3) {
+    if text::arguments::is_call(name, b"limit", a, 3) {
         return limit(values);
     }
     of_term(name, a)

@@ -1,29 +1,20 @@
 // What a line asks of an image: a restart with one, or saving one.
 ghost use mathlib.Core.Path.{_≡_};
-ghost use Prim.Native.Nat.{_≤_};
 ghost use lib.ListN.{length};
 ghost use Rattle.controller.specs.Valid.{Valid};
 use crate::call::Reply;
 use crate::call::Step;
 use controller::Controller;
 use signals::Verdict;
-use text::hexadecimal::Count;
 
 // What each byte of the buffer is before a save: none but the image's bytes may differ from it afterwards.
 const BEFORE: u8 = 0xA5;
 
-// As many zeros as a line has room for bytes.
-fn zeros() -> [u8; 346]
+// A buffer for the bytes of a restart, as many as a line has room for, and to save into.
+pub fn buffer() -> [u8; 346]
     ensures { λ r. ⌜ 346 ≡ length r ⌝ }
 {
     [0; 346]
-}
-
-// A buffer to save into.
-pub fn buffer() -> [u8; 300]
-    ensures { λ r. ⌜ 300 ≡ length r ⌝ }
-{
-    [0; 300]
 }
 
 fn restarted(controller: Controller, image: &[u8]) -> Step
@@ -39,17 +30,15 @@ fn restarted(controller: Controller, image: &[u8]) -> Step
     }
 }
 
-// restart HEX, or - for no bytes. A line has room for 346 of them.
-pub fn restart(controller: Controller, word: &[u8]) -> Step
+// A restart with so many bytes of the buffer.
+pub fn restart(controller: Controller, count: usize, buffer: &[u8]) -> Step
     requires { ⌜ Valid controller ⌝ }
     ensures { λ r. ⌜ Valid (r .controller) ⌝ }
 {
-    let mut bytes = zeros();
-    let count = text::hexadecimal::parse(word, &mut bytes);
-    match count {
-        Count::Bytes(n) => restarted(controller, &bytes[0..n]),
-        Count::Malformed => crate::call::no_call(controller),
+    if count <= buffer.len() {
+        return restarted(controller, &buffer[0..count]);
     }
+    crate::call::unchanged(controller, Reply::NoCall)
 }
 
 fn fill(buffer: &mut [u8]) {
@@ -92,20 +81,14 @@ fn reply_to_save(verdict: Verdict, buffer: &[u8]) -> Reply {
     }
 }
 
-// save LENGTH: lends so many bytes of the buffer. All others of it must stay too.
-pub fn save(controller: Controller, value: i64, buffer: &mut [u8]) -> Step
-    requires { ⌜ Valid controller × 300 ≤ length (now buffer) ⌝ }
-    ensures { λ r. ⌜ Valid (r .controller) ⌝ }
+// Saves into so many bytes of the buffer. All others of it must stay too.
+pub fn save(controller: Controller, count: usize, buffer: &mut [u8]) -> Reply
+    requires { ⌜ Valid controller ⌝ }
 {
-    let size = text::arguments::natural_in(value, 0, 300);
-    if size.ok {
-        fill(buffer);
-        let lent = size.value as usize;
-        let verdict = controller.save(&mut buffer[0..lent]);
-        return Step {
-            controller,
-            reply: reply_to_save(verdict, buffer),
-        };
+    fill(buffer);
+    if count <= buffer.len() {
+        let verdict = controller.save(&mut buffer[0..count]);
+        return reply_to_save(verdict, buffer);
     }
-    crate::call::no_call(controller)
+    Reply::NoCall
 }

@@ -14,6 +14,7 @@ use controller::Controller;
 mod call;
 mod image;
 mod print;
+mod request;
 
 // The controller after a line, and how much of the output is used.
 struct Answered {
@@ -33,7 +34,8 @@ fn line_answer(
 {
     let free = lines::room(out, used);
     let mut buffer = image::buffer();
-    let step = call::of_line(controller, line, len, &mut buffer);
+    let request = request::parse(line, len, &mut buffer);
+    let step = call::perform(controller, request, &mut buffer);
     let next = step.controller;
     let reply = step.reply;
     Answered {

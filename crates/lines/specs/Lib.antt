@@ -1,4 +1,3 @@
-pub mod Buffer
 pub mod Lines
 pub mod LinesLaws
 pub mod ReadingLaws

@@ -5,7 +5,7 @@ use mathlib.Core.List.{List, [], _∷_, _++_}
 use Prim.Native.Nat.{ℕ, suc, _≤_}
 use lib.Dec.{eqb, ltb}
 use lib.ListN.{length, take, drop}
-use Rattle.lines.specs.Buffer.{buffer, appendAll}
+use Rattle.formatting.specs.Buffer.{buffer, appendAll}
 use Rattle.lines.specs.declared.Part.{Part}
 use Rattle.lines.specs.declared.Place.{Place}
 

@@ -8,7 +8,8 @@ use lib.Dec.{ltb}
 use lib.ListN.{length, take, drop, length-take, length-drop}
 use borrow.Author.Tests.{lt-ltb}
 use Rattle.integers.specs.Choice.{never}
-use Rattle.lines.specs.Buffer.{Buffer, buffer, appendAll, append-append}
+use Rattle.formatting.specs.Buffer.{Buffer, buffer, appendAll}
+use Rattle.formatting.specs.Laws.{append-append}
 use Rattle.lines.specs.Lines.{hasEnd, lineOf, restOf, unread, lineLength, reads, begun, ended, Appended, Advanced, Refilled, Continued, NextLine}
 use Rattle.lines.specs.LinesLaws.{lastOf, firstOf, unread-part, unread-rest, rest-behind-line, line-behind, end-behind, rest-behind, line-whole, rest-whole}
 use Rattle.lines.specs.declared.Part.{Part}

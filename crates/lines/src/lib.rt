@@ -5,7 +5,6 @@ ghost use mathlib.Core.Bool.{cond};
 ghost use Prim.Native.Nat.{_≤_, min};
 ghost use lib.Dec.{ltb};
 ghost use lib.ListN.{length};
-ghost use Rattle.lines.specs.Buffer.{buffer, append};
 ghost use Rattle.lines.specs.Lines.{Appended, started, begun, ended, Advanced, Refilled, Continued, NextLine};
 use libc::STDIN_FILENO;
 use libc::STDOUT_FILENO;
@@ -41,17 +40,6 @@ fn least(a: usize, b: usize) -> usize
     if a < b { a } else { b }
 }
 
-// A byte more of the line. A line that fills the whole buffer is too long.
-fn append_byte(line: &mut [u8], len: usize, b: u8) -> usize
-    ensures { λ r. ⌜ buffer (now (line .exit)) r ≡ append (buffer (now (line .entry)) len) b ⌝ }
-{
-    if len < line.len() {
-        line[len] = b;
-        return len + 1;
-    }
-    len
-}
-
 // What came of bytes: how many were used, how many bytes the line has then, and whether its end was met.
 struct Part {
     count: usize,
@@ -74,7 +62,7 @@ fn append_line(bytes: &[u8], line: &mut [u8], len: usize) -> Part
                 complete: true,
             };
         }
-        filled = append_byte(line, filled, b);
+        filled = formatting::append_byte(line, filled, b);
         i += 1;
     }
     Part {

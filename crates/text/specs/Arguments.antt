@@ -6,7 +6,7 @@ use lib.Dec.{eqb, ltb}
 use lib.IntN.{ℤ, pos, natAbs}
 use lib.ListN.{length, take, drop, replicate}
 use Rattle.integers.specs.Sign.{isNegative}
-use Rattle.text.specs.Words.{wordAt}
+use Rattle.text.specs.Words.{wordAt, sameBytes}
 use Rattle.text.specs.Numbers.{numberOf}
 use Rattle.text.specs.declared.Reading.{Reading}
 use Rattle.text.specs.declared.Reading.the-variants.{Number, Malformed}
@@ -51,6 +51,10 @@ argumentsFrom line at =
 -- whether all arguments are numbers and there are so many
 abbrev pub hasCount : Arguments → ℕ → Bool
 hasCount arguments count = cond (arguments .ok) (eqb (arguments .count) count) false
+
+-- whether a word is a call's name, and the call has so many arguments
+abbrev pub isCall : List ℕ → List ℕ → Arguments → ℕ → Bool
+isCall word name arguments count = cond (sameBytes word name) (hasCount arguments count) false
 
 -- an integer as a natural number from least to most
 unfoldable pub naturalIn : ℤ → ℕ → ℕ → Natural

@@ -1,7 +1,7 @@
 // The arguments of a call: the decimal numbers of a line from a position on.
 ghost use mathlib.Core.Path.{_≡_};
 ghost use Prim.Native.Nat.{_≤_, max};
-ghost use Rattle.text.specs.Arguments.{argumentsFrom, hasCount, naturalIn};
+ghost use Rattle.text.specs.Arguments.{argumentsFrom, hasCount, isCall, naturalIn};
 use crate::Reading;
 
 // The numbers in front of the first word that is none, zeros behind them; `ok` says whether all words are numbers and there are at most six.
@@ -60,6 +60,17 @@ pub fn has(arguments: Arguments, count: usize) -> bool
 {
     if arguments.ok {
         arguments.count == count
+    } else {
+        false
+    }
+}
+
+// Whether a line's first word is a call's name, and it has so many arguments, all of them numbers.
+pub fn is_call(word: &[u8], name: &[u8], arguments: Arguments, count: usize) -> bool
+    ensures { λ r. ⌜ r ≡ isCall (now (word .entry)) (now (name .entry)) arguments count ⌝ }
+{
+    if crate::same(word, name) {
+        has(arguments, count)
     } else {
         false
     }

@@ -3,7 +3,7 @@ ghost use mathlib.Core.Path.{_≡_};
 ghost use mathlib.Core.Bool.{true};
 ghost use Prim.Native.Nat.{_+_, _-_, _≤_, max};
 ghost use lib.ListN.{length, drop};
-ghost use Rattle.text.specs.Words.{fitsBlank, leading, wordAt};
+ghost use Rattle.text.specs.Words.{fitsBlank, leading, wordAt, sameBytes};
 ghost use Rattle.text.specs.Numbers.{isDigit, digitsOf, numberOf};
 
 pub mod arguments;
@@ -48,6 +48,23 @@ pub fn word(line: &[u8], at: usize) -> Span
     let from = run_end(line, at, true);
     let to = run_end(line, from, false);
     Span { from, to }
+}
+
+// Whether two words are the same. The contract rules out a word that is taken for a longer one.
+pub fn same(a: &[u8], b: &[u8]) -> bool
+    ensures { λ r. ⌜ r ≡ sameBytes (now (a .entry)) (now (b .entry)) ⌝ }
+{
+    if a.len() != b.len() {
+        return false;
+    }
+    let mut i = 0;
+    while i < a.len() {
+        if a[i] != b[i] {
+            return false;
+        }
+        i += 1;
+    }
+    true
 }
 
 fn is_digit(b: u8) -> bool

@@ -4,7 +4,7 @@ use Prim.Native.Nat.{suc, _+_, _-_, _≤_}
 use native.Mathlib.Numerals.{add-one}
 use native.Mathlib.Omega.{arith}
 use lib.ListN.{length, drop}
-use Rattle.lines.specs.Buffer.{Buffer, buffer, appendAll}
+use Rattle.formatting.specs.Buffer.{Buffer, buffer, appendAll}
 use Rattle.lines.specs.Lines.{hasEnd, lineOf, lineLength}
 use Rattle.lines.specs.LinesLaws.{line-at-feed, end-at-feed, length-at-feed, line-more, end-more, length-more, line-at-end, end-at-end, length-at-end}
 use Rattle.lines.proofs.append_line.Statement.{statement}

@@ -1,8 +1,8 @@
--- `console::call::read_input` meets its contract.
+-- `console::request::scan` is safe: each number fits its type.
 use native.Mathlib.Omega.{arith}
 use borrow.Author.Needs.{needs}
-use Rattle.console.proofs.call.read_input.Statement.{statement}
-use Rattle.console.proofs.call.read_input.Tie as tie
+use Rattle.console.proofs.request.scan.Statement.{statement}
+use Rattle.console.proofs.request.scan.Tie as tie
 
 array-copy-out-natural-in : tie.Need-array-copy-out-natural-in
 array-copy-out-natural-in c = search needs
@@ -41,31 +41,31 @@ natural-in-requires-6 : tie.Need-natural-in-requires-6
 natural-in-requires-6 c κs = search needs
 
 cast-t27 : tie.Need-cast-t27
-cast-t27 c =
-    let six = c .before .before .before .before .before .before .before in
-    let one = six .before .before .before .before .before .before .before .before .before .before in
-    omega (arith, one .natural-in .ensures .1)
+cast-t27 c = omega (arith, c .before .before .before .before .before .before .before .before .before .before .before .before .before .before .before .before .before .before .natural-in .ensures .2)
 
 cast-t28 : tie.Need-cast-t28
-cast-t28 c = search needs
+cast-t28 c = omega (arith, c .before .before .before .before .before .before .before .before .before .before .before .before .before .before .before .before .before .natural-in2 .ensures .2)
 
 cast-t29 : tie.Need-cast-t29
-cast-t29 c = search needs
+cast-t29 c = omega (arith, c .before .before .before .before .before .before .before .before .before .before .before .before .before .before .before .before .natural-in3 .ensures .2)
 
 cast-t30 : tie.Need-cast-t30
-cast-t30 c = search needs
+cast-t30 c = omega (arith, c .before .before .before .before .before .before .before .before .before .before .before .before .before .before .before .natural-in4 .ensures .2)
 
 cast-t31 : tie.Need-cast-t31
-cast-t31 c = search needs
+cast-t31 c = omega (arith, c .before .before .before .before .before .before .before .before .before .before .before .before .before .before .natural-in5 .ensures .2)
 
 cast-t32 : tie.Need-cast-t32
-cast-t32 c = search needs
+cast-t32 c = omega (arith, c .before .before .before .before .before .before .before .before .before .before .before .before .before .natural-in6 .ensures .2)
 
 returns : tie.Need-returns
 returns c = search needs
 
-pub read-input-spec : {M : Type 1} → statement M
-read-input-spec =
+returns-2 : tie.Need-returns-2
+returns-2 c = search needs
+
+pub scan-spec : {M : Type 1} → statement M
+scan-spec =
     tie.close
     (tie.spec
     array-copy-out-natural-in
@@ -86,4 +86,5 @@ read-input-spec =
     cast-t30
     cast-t31
     cast-t32
-    returns)
+    returns
+    returns-2)
