@@ -16,7 +16,7 @@ from tests.gate import tally
 from tests.repository.files import text_of, tracked
 
 # Not among them, since the checker generates fields of these names: left, taken
-RETIRED = frozenset("""bearer carried decline declined declines glyph glyphs handed judge judged judges laid lay lays lent
+RETIRED = frozenset("""bearer carried decline declined declines handed judge judged judges laid lay lays lent
 marks mend mended mending mends reckon reckoned reckoner reckoning reckons said say says shown spell spelled spells
 unsaid""".split())
 PART = re.compile(r"[A-Z]+(?![a-z])|[A-Z]?[a-z]+")
