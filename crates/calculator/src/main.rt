@@ -1,5 +1,6 @@
-// Reads calls of the arithmetic on standard input, one to a line, and answers each with one line: a number, or `error` for a line that is no
-// call or has an argument out of its range. The gate compares its answers with a reckoner that was made apart from the code.
+// Reads calls of the arithmetic on standard input, one to a line, and answers each with one line: a number, or `error`
+// for a line that is no call or has an argument out of its range. The gate compares its answers with a reckoner that
+// was made apart from the code.
 mod answer;
 mod print;
 
@@ -12,7 +13,8 @@ fn line_answer(line: &[u8], len: usize, out: &mut [u8], used: usize) -> usize {
     print::append_error(out, free)
 }
 
-// Answers one line after another to the end of the input. A proved loop must end, so the lines are counted down from a number that no run uses up.
+// Answers one line after another to the end of the input. A proved loop must end, so the lines are counted down from a
+// number that no run uses up.
 fn run(input: &mut [u8], line: &mut [u8], out: &mut [u8]) -> usize {
     let mut place = lines::start();
     let mut turns = u64::MAX;

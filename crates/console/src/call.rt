@@ -1,4 +1,5 @@
-// What comes of a request: the controller's next state, and the reply. Every controller that is handed on is valid, so that the next call may be made.
+// What comes of a request: the controller's next state, and the reply. Every controller that is handed on is valid, so
+// that the next call may be made.
 ghost use mathlib.Core.Path.{_≡_};
 ghost use Rattle.controller.specs.Valid.{Valid};
 use crate::request::Request;
@@ -109,8 +110,8 @@ fn read(controller: Controller, number: u64) -> Reply
     reply_to_read(controller.read(number))
 }
 
-// Makes the call that was asked, with the buffer that holds a restart's bytes and takes a saved image. The contract rules out a controller that the
-// next call could not take.
+// Makes the call that was asked, with the buffer that holds a restart's bytes and takes a saved image. The contract
+// rules out a controller that the next call could not take.
 pub fn perform(controller: Controller, request: Request, buffer: &mut [u8]) -> Step
     requires { ⌜ Valid controller ⌝ }
     ensures { λ r. ⌜ Valid (r .controller) ⌝ }

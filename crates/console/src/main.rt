@@ -1,11 +1,13 @@
-// Reads calls of the controller on standard input, one to a line, and answers each with one line, until the end of the input:
+// Reads calls of the controller on standard input, one to a line, and answers each with one line, until the end of the
+// input:
 //     fresh SW                               ok
 //     scan PINS S1 S2 S3 BUTTONS SENSORS     scan MD DS OP ELECTRICAL, or refused N
 //     write NUMBER VALUE                     ok, or refused N
 //     read NUMBER                            value V, or refused N
 //     restart HEX, or - for no bytes         ok, or refused N
 //     save LENGTH                            image HEX, or refused N
-// A line that is no such call gets `error` and changes nothing. Before the first `fresh` the controller is fresh with SW 0.
+// A line that is no such call gets `error` and changes nothing. Before the first `fresh` the controller is fresh with
+// SW 0.
 ghost use mathlib.Core.Path.{_≡_};
 ghost use lib.ListN.{length};
 ghost use Rattle.controller.specs.Valid.{Valid};
@@ -50,7 +52,8 @@ fn first_controller() -> Controller
     Controller::fresh(0)
 }
 
-// Answers one line after another to the end of the input. A proved loop must end, so the lines are counted down from a number that no run uses up.
+// Answers one line after another to the end of the input. A proved loop must end, so the lines are counted down from a
+// number that no run uses up.
 fn run(input: &mut [u8], line: &mut [u8], out: &mut [u8]) -> usize {
     let mut controller = first_controller();
     let mut place = lines::start();

@@ -132,7 +132,9 @@ drop-min a l = go (leb a (length l)) refl
   where
     go : (t : Bool) → leb a (length l) ≡ t → drop (min a (length l)) l ≡ drop a l
     go true h = let same : min a (length l) ≡ a = omega (arith, leb-true a (length l) h) in ap (λ (n : ℕ). drop n l) same
-    go false h = let past = leb-false a (length l) h in drop-of-length-le l {i = min a (length l)} (omega arith) ∙ sym (drop-of-length-le l {i = a} (omega arith))
+    go false h =
+        let past = leb-false a (length l) h in
+        drop-of-length-le l {i = min a (length l)} (omega arith) ∙ sym (drop-of-length-le l {i = a} (omega arith))
 
 take-drop : (a e : ℕ) (l : List ℕ) → take (e - a) (drop a l) ≡ drop a (take e l)
 take-drop zero e l = rw sub-zero

@@ -10,14 +10,17 @@ use borrow.Author.Tests.{lt-ltb}
 use Rattle.integers.specs.Choice.{never}
 use Rattle.formatting.specs.Buffer.{Buffer, buffer, appendAll}
 use Rattle.formatting.specs.Laws.{append-append}
-use Rattle.lines.specs.Lines.{hasEnd, lineOf, restOf, unread, lineLength, reads, begun, ended, Appended, Advanced, Refilled, Continued, NextLine}
-use Rattle.lines.specs.LinesLaws.{lastOf, firstOf, unread-part, unread-rest, rest-behind-line, line-behind, end-behind, rest-behind, line-whole, rest-whole}
+use Rattle.lines.specs.Lines.{hasEnd, lineOf, restOf, unread, lineLength, reads, begun, ended, Appended, Advanced, Refilled}
+use Rattle.lines.specs.Lines.{Continued, NextLine}
+use Rattle.lines.specs.LinesLaws.{lastOf, firstOf, unread-part, unread-rest, rest-behind-line, line-behind, end-behind, rest-behind}
+use Rattle.lines.specs.LinesLaws.{line-whole, rest-whole}
 use Rattle.lines.specs.declared.Part.{Part}
 use Rattle.lines.specs.declared.Place.{Place}
 
 -- ---- one step
 
-module _ (input before after : List ℕ) (place : Place) (first last : ℕ) (part : Part) (f : first ≡ firstOf input place) (l : last ≡ lastOf input place)
+module _ (input before after : List ℕ) (place : Place) (first last : ℕ) (part : Part) (f : first ≡ firstOf input place)
+    (l : last ≡ lastOf input place)
     (a : Appended (take (last - first) (drop first input)) before after (place .len) part) where
   same-part : take (last - first) (drop first input) ≡ unread input place
   same-part = rw (f, l) (unread-part input place)
@@ -53,7 +56,8 @@ pub going-starts : (line : List ℕ) (p : Place) → Going line p line p
 unfolding hasEnd appendAll
 going-starts line p = record { received = []; none = refl; filled = refl; used = refl }
 
-pub going-stops : (input before : List ℕ) (place : Place) (line : List ℕ) (p : Place) → Going before place line p → Continued input before line place (ended p)
+pub going-stops : (input before : List ℕ) (place : Place) (line : List ℕ) (p : Place) → Going before place line p → Continued input before
+    line place (ended p)
 unfolding unread
 going-stops input before place line p g =
     record {
@@ -71,7 +75,8 @@ unfolding hasEnd
 found-some input zero e = never e
 found-some input (suc n) e = lt-ltb 0 (suc n) (omega arith)
 
-module _ (input before : List ℕ) (place : Place) (line : List ℕ) (p : Place) (g : Going before place line p) (q : Place) (f : Refilled input p q)
+module _ (input before : List ℕ) (place : Place) (line : List ℕ) (p : Place) (g : Going before place line p) (q : Place)
+    (f : Refilled input p q)
     (after : List ℕ) (r : Place) (a : Advanced input line after q r) where
   goes-on : buffer after (r .len) ≡ appendAll (buffer before (place .len)) (g .received ++ lineOf (unread input q))
   goes-on =
@@ -89,7 +94,8 @@ module _ (input before : List ℕ) (place : Place) (line : List ℕ) (p : Place)
       record {
         received = g .received ++ unread input q;
         none = end-behind (g .received) (unread input q) (g .none) ∙ no-end;
-        filled = goes-on ∙ ap (λ (bs : List ℕ). appendAll (buffer before (place .len)) (g .received ++ bs)) (line-whole (unread input q) no-end);
+        filled = goes-on ∙ ap (λ (bs : List ℕ). appendAll (buffer before (place .len)) (g .received ++ bs))
+            (line-whole (unread input q) no-end);
         used = same-used;
       }
 

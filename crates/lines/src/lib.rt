@@ -1,5 +1,5 @@
-// Lines of standard input, and standard output. The contracts speak of the bytes received: a read hands over any bytes whatever, and nothing
-// is known but how many; what comes of them is stated byte by byte.
+// Lines of standard input, and standard output. The contracts speak of the bytes received: a read hands over any bytes
+// whatever, and nothing is known but how many; what comes of them is stated byte by byte.
 ghost use mathlib.Core.Path.{_≡_};
 ghost use mathlib.Core.Bool.{cond};
 ghost use Prim.Native.Nat.{_≤_, min};
@@ -9,8 +9,9 @@ ghost use Rattle.lines.specs.Lines.{Appended, started, begun, ended, Adv
 use libc::STDIN_FILENO;
 use libc::STDOUT_FILENO;
 
-// Where reading and writing stand: bytes `at` to `end` of the last read are unread, `len` bytes of the line buffer are filled, `complete` says
-// whether they are a line, `more` whether the input goes on, and `used` bytes of the output are still to be written.
+// Where reading and writing stand: bytes `at` to `end` of the last read are unread, `len` bytes of the line buffer are
+// filled, `complete` says whether they are a line, `more` whether the input goes on, and `used` bytes of the output are
+// still to be written.
 pub struct Place {
     at: usize,
     end: usize,
@@ -72,7 +73,8 @@ fn append_line(bytes: &[u8], line: &mut [u8], len: usize) -> Part
     }
 }
 
-// Appends what is unread to the line up to the first line feed: a line may have begun in an earlier read and may go on in a later one.
+// Appends what is unread to the line up to the first line feed: a line may have begun in an earlier read and may go on
+// in a later one.
 fn advance(input: &[u8], line: &mut [u8], place: Place) -> Place
     ensures { λ r. ⌜ Advanced (now (input .entry)) (now (line .entry)) (now (line .exit)) place r ⌝ }
 {
@@ -131,7 +133,8 @@ fn finish(p: Place) -> Place
     }
 }
 
-// Reads on until the line is complete or the input ends. A proved loop must end, so the turns are counted down from a number that no run uses up.
+// Reads on until the line is complete or the input ends. A proved loop must end, so the turns are counted down from a
+// number that no run uses up.
 fn read_on(input: &mut [u8], line: &mut [u8], place: Place) -> Place
     ensures { λ r. ⌜ Continued (now (input .exit)) (now (line .entry)) (now (line .exit)) place r ⌝ }
 {
@@ -152,8 +155,8 @@ fn read_on(input: &mut [u8], line: &mut [u8], place: Place) -> Place
     finish(p)
 }
 
-// The next line, in the line buffer. Where `complete` is false the input has ended. The contract rules out a line that is cut or joined with
-// the next, a byte that is lost, and waiting for input while there is something to write.
+// The next line, in the line buffer. Where `complete` is false the input has ended. The contract rules out a line that
+// is cut or joined with the next, a byte that is lost, and waiting for input while there is something to write.
 pub fn next_line(input: &mut [u8], line: &mut [u8], out: &[u8], place: Place) -> Place
     ensures { λ r. ⌜ NextLine (now (input .entry)) (now (input .exit)) (now (line .entry)) (now (line .exit)) place r ⌝ }
 {
@@ -180,8 +183,8 @@ pub fn flush(out: &[u8], used: usize) -> usize
     0
 }
 
-// Room for one more answer, which is far below 1,000 bytes: flushes where 64,000 are used. The contract rules out a count that goes on where the
-// output was written.
+// Room for one more answer, which is far below 1,000 bytes: flushes where 64,000 are used. The contract rules out a
+// count that goes on where the output was written.
 pub fn room(out: &[u8], used: usize) -> usize
     ensures { λ r. ⌜ r ≡ cond (ltb 64000 used) 0 used ⌝ }
 {

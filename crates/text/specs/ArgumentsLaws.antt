@@ -34,7 +34,8 @@ module _ (before : List ℤ) where
   gather-none : gathered before [] ≡ result true (length before) (padded before)
   unfolding gathered readOf numbersOf
   gather-none =
-      rw (take-nil {A = List ℕ} (6 - length before), append-nil before, add-zero (length before)) (simp (eq-eqb (length before) (length before) refl))
+      rw (take-nil {A = List ℕ} (6 - length before), append-nil before, add-zero (length before))
+      (simp (eq-eqb (length before) (length before) refl))
 
   -- where six were read, any further word is one too many
   gather-full : (ws : List (List ℕ)) → length before ≡ 6 → gathered before ws ≡ readOf before (6 + length ws)
@@ -85,7 +86,8 @@ gathering-starts line start =
       same = ap (readOf (numbersOf (take 6 (firstWords 7 line start)))) (sym (zero-add _));
     }
 
-module _ (line : List ℕ) (start at count : ℕ) (values : List ℤ) (g : Gathering line start values count at) (w : Span) (found : w ≡ wordAt line at) where
+module _ (line : List ℕ) (start at count : ℕ) (values : List ℤ) (g : Gathering line start values count at) (w : Span)
+    (found : w ≡ wordAt line at) where
   before-count : length (take count values) ≡ count
   before-count = length-take-le count values (omega (arith, g .most, g .six))
 

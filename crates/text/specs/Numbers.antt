@@ -48,7 +48,8 @@ unfolding numberOf digitsOf
 none-read s h = rw (no-bytes s h)
 
 module _ (minus : Bool) (v : ℕ) (s : List ℕ) (i : ℕ) where
-  pub read-more : i < length s → isDigit (getD s i 0) ≡ true → readOn minus v (drop i s) ≡ readOn minus (v * 10 + (getD s i 0 - 48)) (drop (suc i) s)
+  pub read-more : i < length s → isDigit (getD s i 0) ≡ true → readOn minus v (drop i s) ≡ readOn minus (v * 10 + (getD s i 0 - 48))
+      (drop (suc i) s)
   unfolding readOn
   read-more inside e = rw (drop-cons s i 0) (simp e)
 

@@ -39,7 +39,8 @@ pub leading-most : (blank : Bool) (bs : List ℕ) → leading blank bs ≤ lengt
 unfolding leading
 leading-most blank [] = omega arith
 leading-most blank (b ∷ bs) =
-    by-cases (λ n. n ≤ suc (length bs)) (fitsBlank blank b) (suc (leading blank bs)) 0 (λ e. omega (arith, leading-most blank bs)) (λ e. omega arith)
+    by-cases (λ n. n ≤ suc (length bs)) (fitsBlank blank b) (suc (leading blank bs)) 0 (λ e. omega (arith, leading-most blank bs))
+    (λ e. omega arith)
 
 module _ (blank : Bool) (s : List ℕ) (i : ℕ) (inside : i < length s) where
   pub leading-more : fitsBlank blank (getD s i 0) ≡ true → i + leading blank (drop i s) ≡ suc i + leading blank (drop (suc i) s)
@@ -59,7 +60,8 @@ unfolding sameBytes
 same-unequal [] [] h = absurd (h refl)
 same-unequal [] (y ∷ ys) h = refl
 same-unequal (x ∷ xs) [] h = refl
-same-unequal (x ∷ xs) (y ∷ ys) h = by-cases (λ t. t ≡ false) (eqb x y) (sameBytes xs ys) false (λ e. same-unequal xs ys (λ l. h (ap suc l))) (λ e. refl)
+same-unequal (x ∷ xs) (y ∷ ys) h = by-cases (λ t. t ≡ false) (eqb x y) (sameBytes xs ys) false
+    (λ e. same-unequal xs ys (λ l. h (ap suc l))) (λ e. refl)
 
 module _ (a b : List ℕ) (i : ℕ) where
   module _ (h : i < length a) (k : i < length b) where

@@ -4,7 +4,8 @@ ghost use Prim.Native.Nat.{_≤_, max};
 ghost use Rattle.text.specs.Arguments.{argumentsFrom, hasCount, isCall, naturalIn};
 use crate::Reading;
 
-// The numbers in front of the first word that is none, zeros behind them; `ok` says whether all words are numbers and there are at most six.
+// The numbers in front of the first word that is none, zeros behind them; `ok` says whether all words are numbers and
+// there are at most six.
 pub struct Arguments {
     pub ok: bool,
     pub count: usize,
@@ -23,8 +24,8 @@ fn result(ok: bool, count: usize, values: [i64; 6]) -> Arguments
     Arguments { ok, count, values }
 }
 
-// The arguments from a position on; behind the line's end there are none. The contract rules out a number that is lost, a word that is taken
-// for a number, and a seventh number that goes unnoticed.
+// The arguments from a position on; behind the line's end there are none. The contract rules out a number that is lost,
+// a word that is taken for a number, and a seventh number that goes unnoticed.
 pub fn parse(line: &[u8], start: usize) -> Arguments
     ensures { λ r. ⌜ r ≡ argumentsFrom (now (line .entry)) start ⌝ }
 {

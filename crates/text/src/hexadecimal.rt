@@ -66,9 +66,9 @@ fn write_pairs(word: &[u8], count: usize, bytes: &mut [u8])
     }
 }
 
-// The bytes of a word with two digits to a byte, or none for the word `-`, at the front of a buffer. A word with an odd number of digits, no
-// digit, another character, or more bytes than the buffer has is malformed. The contract rules out a wrong byte, a malformed word that is taken,
-// and any change of the buffer but the bytes of a word that is taken.
+// The bytes of a word with two digits to a byte, or none for the word `-`, at the front of a buffer. A word with an odd
+// number of digits, no digit, another character, or more bytes than the buffer has is malformed. The contract rules out
+// a wrong byte, a malformed word that is taken, and any change of the buffer but the bytes of a word that is taken.
 pub fn parse(word: &[u8], bytes: &mut [u8]) -> Count
     ensures { λ r. ⌜ r ≡ countIn (bytesOf (now (word .entry))) (length (now (bytes .entry))) ⌝ }
     ensures { λ r. ⌜ now (bytes .exit) ≡ bytesIn (bytesOf (now (word .entry))) (now (bytes .entry)) ⌝ }

@@ -40,7 +40,8 @@ fn run_end(line: &[u8], at: usize, blank: bool) -> usize
     i
 }
 
-// The first word at or behind a place; an empty one where there is none. The contract rules out a word cut short or one with a blank in it.
+// The first word at or behind a place; an empty one where there is none. The contract rules out a word cut short or one
+// with a blank in it.
 pub fn word(line: &[u8], at: usize) -> Span
     ensures { λ r. ⌜ r ≡ wordAt (now (line .entry)) at ⌝ }
     ensures { λ r. ⌜ (at ≤ r .from) × (r .from ≤ r .to) × (r .to ≤ max at (length (now (line .entry)))) ⌝ }
@@ -102,7 +103,8 @@ fn digits(minus: bool, s: &[u8]) -> Reading
     Reading::Number(integers::signed(minus, value))
 }
 
-// A decimal number: an optional minus and one to eighteen digits. The contract rules out a wrong value and taking what is no number.
+// A decimal number: an optional minus and one to eighteen digits. The contract rules out a wrong value and taking what
+// is no number.
 pub fn number(s: &[u8]) -> Reading
     ensures { λ r. ⌜ r ≡ numberOf (now (s .entry)) ⌝ }
 {

@@ -6,7 +6,8 @@ use Rattle.calculator.proofs.run.Statement.{statement}
 use Rattle.calculator.proofs.run.Tie as tie
 
 abbrev Inv-loop : tie.InvT-loop
-Inv-loop input₀ line₀ out₀ place₀ turns₀ input line out place turns = (length input ≡ length input₀) × (length line ≡ length line₀) × (length out ≡ length out₀)
+Inv-loop input₀ line₀ out₀ place₀ turns₀ input line out place turns = (length input ≡ length input₀) × (length line ≡ length line₀) ×
+    (length out ≡ length out₀)
 
 abbrev μ-loop : tie.MeasureT-loop
 μ-loop input₀ line₀ out₀ place₀ turns₀ input line out place turns = turns

@@ -7,7 +7,8 @@ use Rattle.console.proofs.run.Statement.{statement}
 use Rattle.console.proofs.run.Tie as tie
 
 abbrev Inv-loop : tie.InvT-loop
-Inv-loop input₀ line₀ out₀ controller₀ place₀ turns₀ input line out controller place turns = (length input ≡ length input₀) × (length line ≡ length line₀) × (length out ≡ length out₀) × Valid controller
+Inv-loop input₀ line₀ out₀ controller₀ place₀ turns₀ input line out controller place turns = (length input ≡ length input₀) ×
+    (length line ≡ length line₀) × (length out ≡ length out₀) × Valid controller
 
 abbrev μ-loop : tie.MeasureT-loop
 μ-loop input₀ line₀ out₀ controller₀ place₀ turns₀ input line out controller place turns = turns
@@ -25,10 +26,12 @@ next-line-requires : tie.Need-next-line-requires Inv-loop μ-loop
 next-line-requires c κs = tt
 
 same-length : tie.Need-same-length Inv-loop μ-loop
-same-length c = c .before .before .before .before .before .before .next-line .kept .0 ∙ c .before .before .before .before .before .before .before .before .before .before .before .loop .inv .0
+same-length c = c .before .before .before .before .before .before .next-line .kept .0 ∙
+    c .before .before .before .before .before .before .before .before .before .before .before .loop .inv .0
 
 same-length-2 : tie.Need-same-length-2 Inv-loop μ-loop
-same-length-2 c = c .before .before .before .before .before .before .next-line .kept .1 .0 ∙ c .before .before .before .before .before .before .before .before .before .before .before .loop .inv .1
+same-length-2 c = c .before .before .before .before .before .before .next-line .kept .1 .0 ∙
+    c .before .before .before .before .before .before .before .before .before .before .before .loop .inv .1
 
 same-length-3 : tie.Need-same-length-3 Inv-loop μ-loop
 same-length-3 c = c .before .before .before .before .before .before .before .before .before .before .before .loop .inv .2
@@ -37,7 +40,8 @@ returns : tie.Need-returns Inv-loop μ-loop
 returns c = tt
 
 line-answer-requires : tie.Need-line-answer-requires Inv-loop μ-loop
-line-answer-requires c κs = let l = c .before .before .before .before .before .before .before .before .before .before .before .before .before in l .loop .inv .3
+line-answer-requires c κs = let l =
+    c .before .before .before .before .before .before .before .before .before .before .before .before .before in l .loop .inv .3
 
 sub-turns : tie.Need-sub-turns Inv-loop μ-loop
 sub-turns c = omega arith
@@ -49,7 +53,7 @@ loop-again : tie.Need-loop-again Inv-loop μ-loop
 loop-again c =
     let a = c .before .before .before in
     let n = c .before .before .before .before .before .before .before .before .before .before .before .before in
-    let l = c .before .before .before .before .before .before .before .before .before .before .before .before .before .before .before .before .before in (
+    let l = n .before .before .before .before .before in (
       n .next-line .kept .0 ∙ l .loop .inv .0,
       n .next-line .kept .1 .0 ∙ l .loop .inv .1,
       a .line-answer .kept .1 .1 .1 .0 ∙ l .loop .inv .2,

@@ -34,7 +34,8 @@ add-t7 c =
     omega (
       arith,
       advance-fits
-          (s .args .input .now) (s .args .line .now) (a .last .1 .0) (s .args .place) (first .result) (last .result) (a .result) (first .ensures ∙ ap (min (s .args .place .at)) (last .ensures)) (last .ensures) (a .ensures),
+          (s .args .input .now) (s .args .line .now) (a .last .1 .0) (s .args .place) (first .result) (last .result) (a .result)
+          (first .ensures ∙ ap (min (s .args .place .at)) (last .ensures)) (last .ensures) (a .ensures),
     )
 
 same-length : tie.Need-same-length
@@ -47,7 +48,8 @@ returns c =
     let first = c .before .before .before .before .before .before .least2 in
     let last = c .before .before .before .before .before .before .before .least in
     advanced
-    (s .args .input .now) (s .args .line .now) (a .last .1 .0) (s .args .place) (first .result) (last .result) (a .result) (first .ensures ∙ ap (min (s .args .place .at)) (last .ensures)) (last .ensures) (a .ensures)
+    (s .args .input .now) (s .args .line .now) (a .last .1 .0) (s .args .place) (first .result) (last .result) (a .result)
+    (first .ensures ∙ ap (min (s .args .place .at)) (last .ensures)) (last .ensures) (a .ensures)
 
 pub advance-spec : {M : Type 1} → statement M
 advance-spec =

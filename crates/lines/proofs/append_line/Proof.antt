@@ -1,4 +1,5 @@
--- `lines::append_line` meets its contract. What is still to come of the bytes is what was to come of all, and it follows what is filled.
+-- `lines::append_line` meets its contract. What is still to come of the bytes is what was to come of all, and it
+-- follows what is filled.
 use mathlib.Core.Path.{_≡_, refl, sym, ap, _∙_}
 use Prim.Native.Nat.{suc, _+_, _-_, _≤_}
 use native.Mathlib.Numerals.{add-one}
@@ -6,7 +7,8 @@ use native.Mathlib.Omega.{arith}
 use lib.ListN.{length, drop}
 use Rattle.formatting.specs.Buffer.{Buffer, buffer, appendAll}
 use Rattle.lines.specs.Lines.{hasEnd, lineOf, lineLength}
-use Rattle.lines.specs.LinesLaws.{line-at-feed, end-at-feed, length-at-feed, line-more, end-more, length-more, line-at-end, end-at-end, length-at-end}
+use Rattle.lines.specs.LinesLaws.{line-at-feed, end-at-feed, length-at-feed, line-more, end-more, length-more, line-at-end}
+use Rattle.lines.specs.LinesLaws.{end-at-end, length-at-end}
 use Rattle.lines.proofs.append_line.Statement.{statement}
 use Rattle.lines.proofs.append_line.Tie as tie
 

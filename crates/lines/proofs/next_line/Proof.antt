@@ -7,7 +7,9 @@ use Rattle.lines.proofs.next_line.Tie as tie
 
 module _ (d : tie.After-advance) where
   begins :
-      Advanced (d .before .before .before .before .before .before .before .args .input .now) (d .before .before .before .before .before .before .before .args .line .now) (d .advance .last .1 .0) (begun (d .before .before .before .before .before .before .before .args .place)) (d .advance .result)
+      Advanced (d .before .before .before .before .before .before .before .args .input .now)
+      (d .before .before .before .before .before .before .before .args .line .now) (d .advance .last .1 .0)
+      (begun (d .before .before .before .before .before .before .before .args .place)) (d .advance .result)
   begins = rw (d .before .begin .ensures) at (d .advance .ensures)
 
 begin-requires : tie.Need-begin-requires
@@ -26,7 +28,8 @@ returns : tie.Need-returns
 returns c =
     let d = c .before .before .before in
     let s = d .before .before .before .before .before .before .before in
-    next-pending (s .args .input .now) (s .args .line .now) (d .advance .last .1 .0) (s .args .place) (d .advance .result) (begins d) (c .if1 .taken)
+    next-pending (s .args .input .now) (s .args .line .now) (d .advance .last .1 .0) (s .args .place) (d .advance .result) (begins d)
+    (c .if1 .taken)
 
 flush-requires : tie.Need-flush-requires
 flush-requires c κs = search needs
@@ -47,8 +50,10 @@ returns-2 c =
     let d = t .before .before .before .before in
     let s = d .before .before .before .before .before .before .before in
     next-read
-    (s .args .input .now) (s .args .line .now) (d .advance .last .1 .0) (s .args .place) (d .advance .result) (begins d) (t .before .if1 .left)
-    (k .before .before .before .flush .result) (k .read-on .last .0) (k .read-on .last .1 .0) (k .read-on .result) (k .before .before .before .flush .ensures) (t .if2 .taken) (k .read-on .ensures)
+    (s .args .input .now) (s .args .line .now) (d .advance .last .1 .0) (s .args .place) (d .advance .result) (begins d)
+    (t .before .if1 .left)
+    (k .before .before .before .flush .result) (k .read-on .last .0) (k .read-on .last .1 .0) (k .read-on .result)
+    (k .before .before .before .flush .ensures) (t .if2 .taken) (k .read-on .ensures)
 
 finish-requires : tie.Need-finish-requires
 finish-requires c κs = search needs
@@ -65,7 +70,8 @@ returns-3 c =
     let s = d .before .before .before .before .before .before .before in
     rw (c .finish .ensures)
     (next-ended
-    (s .args .input .now) (s .args .line .now) (d .advance .last .1 .0) (s .args .place) (d .advance .result) (begins d) (c .before .before .if1 .left)
+    (s .args .input .now) (s .args .line .now) (d .advance .last .1 .0) (s .args .place) (d .advance .result) (begins d)
+    (c .before .before .if1 .left)
     (c .before .if2 .left))
 
 pub next-line-spec : {M : Type 1} → statement M

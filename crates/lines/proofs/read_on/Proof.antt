@@ -16,7 +16,9 @@ abbrev μ-loop : tie.MeasureT-loop
 
 module _ (d : tie.After-advance Inv-loop μ-loop) where
   more : d .advance .result .complete ≡ false →
-      Going (d .before .before .before .before .before .before .before .before .before .before .before .args .line .now) (d .before .before .before .before .before .before .before .before .before .before .before .args .place) (d .advance .last .1 .0) (d .advance .result)
+      Going (d .before .before .before .before .before .before .before .before .before .before .before .args .line .now)
+      (d .before .before .before .before .before .before .before .before .before .before .before .args .place) (d .advance .last .1 .0)
+      (d .advance .result)
   more =
       let l = d .before .before .before .before .before .before .before .before in
       let s = l .before .before .before in
@@ -26,7 +28,10 @@ module _ (d : tie.After-advance Inv-loop μ-loop) where
       (refill .result) (refill .ensures) (d .advance .last .1 .0) (d .advance .result) (d .advance .ensures)
 
   done : d .advance .result .complete ≡ true →
-      Continued (d .before .before .before .before .before .refill .last .0) (d .before .before .before .before .before .before .before .before .before .before .before .args .line .now) (d .advance .last .1 .0) (d .before .before .before .before .before .before .before .before .before .before .before .args .place) (d .advance .result)
+      Continued (d .before .before .before .before .before .refill .last .0)
+      (d .before .before .before .before .before .before .before .before .before .before .before .args .line .now)
+      (d .advance .last .1 .0) (d .before .before .before .before .before .before .before .before .before .before .before .args .place)
+      (d .advance .result)
   done =
       let l = d .before .before .before .before .before .before .before .before in
       let s = l .before .before .before in
@@ -76,7 +81,8 @@ returns-2 c =
     let d = c .before .before .before .before .before in
     let s = d .before .before .before .before .before .before .before .before .before .before .before in
     rw (c .finish .ensures)
-    (going-stops (d .before .before .before .before .before .refill .last .0) (s .args .line .now) (s .args .place) (d .advance .last .1 .0) (d .advance .result) (more d (c .before .before .if1 .left)))
+    (going-stops (d .before .before .before .before .before .refill .last .0) (s .args .line .now) (s .args .place)
+    (d .advance .last .1 .0) (d .advance .result) (more d (c .before .before .if1 .left)))
 
 finish-requires-2 : tie.Need-finish-requires-2 Inv-loop μ-loop
 finish-requires-2 c κs = tt
@@ -91,7 +97,8 @@ returns-3 : tie.Need-returns-3 Inv-loop μ-loop
 returns-3 c =
     let l = c .before .before in
     let s = l .before .before .before in
-    rw (c .finish2 .ensures) (going-stops (l .loop .input) (s .args .line .now) (s .args .place) (l .loop .line) (l .loop .p) (l .loop .inv .2))
+    rw (c .finish2 .ensures) (going-stops (l .loop .input) (s .args .line .now) (s .args .place) (l .loop .line) (l .loop .p)
+    (l .loop .inv .2))
 
 pub read-on-spec : {M : Type 1} → statement M
 read-on-spec =

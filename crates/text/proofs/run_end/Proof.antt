@@ -1,4 +1,5 @@
--- `text::run_end` meets its contract. Every byte passed fits, so the run's end seen from here is the run's end seen from its start.
+-- `text::run_end` meets its contract. Every byte passed fits, so the run's end seen from here is the run's end seen
+-- from its start.
 use mathlib.Core.Path.{_≡_, refl, sym, _∙_}
 use Prim.Native.Nat.{_+_, _-_}
 use native.Mathlib.Numerals.{add-one}
@@ -28,7 +29,8 @@ returns : tie.Need-returns Inv-loop μ-loop
 returns c =
     let l = c .before .before .before .before in
     let s = l .before .before in
-    sym (leading-ends (s .args .blank) (s .args .line .now) (l .loop .i) (search needs) (sym (c .before .fits-blank .ensures) ∙ not-true _ (c .if1 .taken))) ∙ l .loop .inv
+    sym (leading-ends (s .args .blank) (s .args .line .now) (l .loop .i) (search needs)
+    (sym (c .before .fits-blank .ensures) ∙ not-true _ (c .if1 .taken))) ∙ l .loop .inv
 
 add-i : tie.Need-add-i Inv-loop μ-loop
 add-i c = search needs
@@ -40,7 +42,8 @@ loop-again : tie.Need-loop-again Inv-loop μ-loop
 loop-again c =
     let l = c .before .before .before .before in
     let s = l .before .before in
-    rw add-one (sym (leading-more (s .args .blank) (s .args .line .now) (l .loop .i) (search needs) (sym (c .before .fits-blank .ensures) ∙ not-false _ (c .if1 .left))) ∙ l .loop .inv)
+    rw add-one (sym (leading-more (s .args .blank) (s .args .line .now) (l .loop .i) (search needs)
+    (sym (c .before .fits-blank .ensures) ∙ not-false _ (c .if1 .left))) ∙ l .loop .inv)
 
 returns-2 : tie.Need-returns-2 Inv-loop μ-loop
 returns-2 c =

@@ -36,7 +36,17 @@ scale-requires c κs =
     let high = d .before .before .signed-in2 .result .value in
     let low-fits : SFits w64 low = omega (arith, d .before .before .before .before .signed-in .ensures, number low) in
     let high-fits : SFits w64 high = omega (arith, d .before .before .signed-in2 .ensures, number high) in
-    omega (arith, integers, d .before .before .before .before .signed-in .ensures, d .before .before .signed-in2 .ensures, d .natural-in .ensures, reads low-fits, reads high-fits, number low, number high)
+    omega (
+      arith,
+      integers,
+      d .before .before .before .before .signed-in .ensures,
+      d .before .before .signed-in2 .ensures,
+      d .natural-in .ensures,
+      reads low-fits,
+      reads high-fits,
+      number low,
+      number high,
+    )
 
 returns : tie.Need-returns
 returns c = tt

@@ -11,12 +11,13 @@ write-requires : tie.Need-write-requires
 write-requires c κs = search needs
 
 reply-to-verdict-requires : tie.Need-reply-to-verdict-requires
-reply-to-verdict-requires c κs = search needs
+reply-to-verdict-requires c κs = tt
 
 returns : tie.Need-returns
 returns c = let write = c .before .before in
     let start = write .before in
-    subst Valid (sym (ap (λ (h : Response). h .next) (write .write .ensures))) (valid-write (start .args .controller) (start .args .number) _ (start .pre))
+    subst Valid (sym (ap (λ (h : Response). h .next) (write .write .ensures)))
+    (valid-write (start .args .controller) (start .args .number) _ (start .pre))
 
 pub write-spec : {M : Type 1} → statement M
 write-spec = tie.close (tie.spec write-requires reply-to-verdict-requires returns)

@@ -5,13 +5,13 @@ use Rattle.console.proofs.image.restart.Statement.{statement}
 use Rattle.console.proofs.image.restart.Tie as tie
 
 sub-restarted : tie.Need-sub-restarted
-sub-restarted c = search needs
+sub-restarted c = omega arith
 
 part-restarted-start : tie.Need-part-restarted-start
-part-restarted-start c = search needs
+part-restarted-start c = omega arith
 
 part-restarted-end : tie.Need-part-restarted-end
-part-restarted-end c = search needs
+part-restarted-end c = omega arith
 
 restarted-requires : tie.Need-restarted-requires
 restarted-requires c κs = search needs

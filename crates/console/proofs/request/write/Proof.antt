@@ -5,26 +5,25 @@ use lib.IntN.{pos}
 use mir.Val.{toZ, ofZ}
 use mir.Syntax.{w64}
 use native.Mathlib.Omega.{arith}
-use borrow.Author.Needs.{needs}
 use Rattle.integers.specs.Choice.{both}
 use Rattle.integers.specs.Machine.{held}
 use Rattle.console.proofs.request.write.Statement.{statement}
 use Rattle.console.proofs.request.write.Tie as tie
 
 array-copy-out-number-in : tie.Need-array-copy-out-number-in
-array-copy-out-number-in c = search needs
+array-copy-out-number-in c = omega arith
 
 number-in-requires : tie.Need-number-in-requires
-number-in-requires c κs = search needs
+number-in-requires c κs = tt
 
 array-copy-out-v : tie.Need-array-copy-out-v
-array-copy-out-v c = search needs
+array-copy-out-v c = omega arith
 
 not-above-requires : tie.Need-not-above-requires
-not-above-requires c κs = search needs
+not-above-requires c κs = tt
 
 not-above-requires-2 : tie.Need-not-above-requires-2
-not-above-requires-2 c κs = search needs
+not-above-requires-2 c κs = tt
 
 narrow-requires : tie.Need-narrow-requires
 narrow-requires c κs =
@@ -34,10 +33,10 @@ narrow-requires c κs =
     held (toZ w64 (ofZ w64 (getD (c .before .before .before .before .before .before .args .t1) 1 (pos 0)))) low high
 
 returns : tie.Need-returns
-returns c = search needs
+returns c = tt
 
 returns-2 : tie.Need-returns-2
-returns-2 c = search needs
+returns-2 c = tt
 
 pub write-spec : {M : Type 1} → statement M
 write-spec =

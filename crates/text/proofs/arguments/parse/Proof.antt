@@ -22,7 +22,8 @@ abbrev μ-loop : tie.MeasureT-loop
 
 -- the word that was read as a number
 word-read : (c : tie.After-number Inv-loop μ-loop) →
-    numberOf (part (c .before .before .before .before .before .before .before .args .line .now) (c .before .before .before .word .result .from) (c .before .before .before .word .result .to)) ≡ c .number .result
+    numberOf (part (c .before .before .before .before .before .before .before .args .line .now)
+    (c .before .before .before .word .result .from) (c .before .before .before .word .result .to)) ≡ c .number .result
 unfolding part
 word-read c = sym (c .number .ensures)
 

@@ -27,8 +27,15 @@ returns-2 c =
 returns-3 : tie.Need-returns-3
 unfolding digitValue
 returns-3 c =
-    let b = c .before .before .before .before .before .before .args .b in
-    (simp (above 48 57 b (omega arith) (omega arith), above 65 70 b (omega arith) (omega arith), inside 97 102 b (omega arith) (omega arith)), omega arith)
+    let b = c .before .before .before .before .before .before .args .b in (
+      simp (
+        above 48 57 b (omega arith) (omega arith),
+        above 65 70 b (omega arith) (omega arith),
+        inside 97 102 b (omega arith)
+            (omega arith),
+      ),
+      omega arith,
+    )
 
 returns-4 : tie.Need-returns-4
 unfolding digitValue
@@ -51,8 +58,15 @@ returns-6 c =
 returns-7 : tie.Need-returns-7
 unfolding digitValue
 returns-7 c =
-    let b = c .before .before .before .before .before .before .args .b in
-    (simp (above 48 57 b (omega arith) (omega arith), above 65 70 b (omega arith) (omega arith), above 97 102 b (omega arith) (omega arith)), omega arith)
+    let b = c .before .before .before .before .before .before .args .b in (
+      simp (
+        above 48 57 b (omega arith) (omega arith),
+        above 65 70 b (omega arith) (omega arith),
+        above 97 102 b (omega arith)
+            (omega arith),
+      ),
+      omega arith,
+    )
 
 pub digit-value-spec : {M : Type 1} → statement M
 digit-value-spec =

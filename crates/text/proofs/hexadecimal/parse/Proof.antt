@@ -8,18 +8,22 @@ use native.Mathlib.Omega.{arith}
 use lib.ListN.{length}
 use borrow.Author.Needs.{needs}
 use Rattle.text.specs.Hexadecimal.{isDash, pairs, bytesOf}
-use Rattle.text.specs.HexadecimalLaws.{dash-read, empty-read, odd-read, digits-read, others-read, none-in, too-many, all-in, length-pairs}
+use Rattle.text.specs.HexadecimalLaws.{dash-read, empty-read, odd-read, digits-read, others-read, none-in, too-many, all-in}
+use Rattle.text.specs.HexadecimalLaws.{length-pairs}
 use Rattle.text.proofs.hexadecimal.parse.Statement.{statement}
 use Rattle.text.proofs.hexadecimal.parse.Tie as tie
 
 other : (c : tie.Else1) → isDash (c .before .before .before .before .args .word .now) ≡ false
 other c = sym (c .before .is-dash .ensures) ∙ c .if1 .left
 
-read : (c : tie.Then4) → bytesOf (c .before .before .before .before .before .before .before .before .args .word .now) ≡ some (pairs (c .before .before .before .before .before .before .before .before .args .word .now) (length (c .before .before .before .before .before .before .before .before .args .word .now) / 2))
+read : (c : tie.Then4) → bytesOf (c .before .before .before .before .before .before .before .before .args .word .now) ≡ some
+    (pairs (c .before .before .before .before .before .before .before .before .args .word .now)
+    (length (c .before .before .before .before .before .before .before .before .args .word .now) / 2))
 read c =
     let s = c .before .before .before .before .before .before .before .before in
     let odd = c .before .before in
-    digits-read (s .args .word .now) (other (odd .before .before)) (odd .before .if2 .left) (odd .if3 .left) (sym (c .before .all-digits .ensures) ∙ c .if4 .taken)
+    digits-read (s .args .word .now) (other (odd .before .before)) (odd .before .if2 .left) (odd .if3 .left)
+    (sym (c .before .all-digits .ensures) ∙ c .if4 .taken)
 
 is-dash-requires : tie.Need-is-dash-requires
 is-dash-requires c κs = tt
@@ -27,7 +31,8 @@ is-dash-requires c κs = tt
 returns : tie.Need-returns
 returns c =
     let s = c .before .before .before .before in
-    all-in (s .args .bytes .now) [] 0 (dash-read (s .args .word .now) (sym (c .before .is-dash .ensures) ∙ c .if1 .taken)) refl (omega arith)
+    all-in (s .args .bytes .now) [] 0 (dash-read (s .args .word .now) (sym (c .before .is-dash .ensures) ∙ c .if1 .taken)) refl
+    (omega arith)
 
 returns-2 : tie.Need-returns-2
 returns-2 c =
@@ -63,7 +68,8 @@ returns-5 c =
     let word = s .args .word .now in
     let count = length word / 2 in
     let fits : count ≤ length (s .args .bytes .now) = omega arith in
-    let whole = all-in (s .args .bytes .now) (pairs word count) count (read (c .before .before .before .before .before)) (length-pairs word count) fits in
+    let whole = all-in (s .args .bytes .now) (pairs word count) count (read (c .before .before .before .before .before))
+    (length-pairs word count) fits in
     (whole .0, c .before .before .write-pairs .ensures ∙ whole .1)
 
 returns-6 : tie.Need-returns-6
@@ -71,7 +77,8 @@ returns-6 c =
     let s = c .before .before .before .before .before .before .before .before in
     let e = c .before .before .before .before in
     let no-digits = sym (c .before .all-digits .ensures) ∙ c .if4 .left in
-    none-in (s .args .bytes .now) (others-read (s .args .word .now) (other e) (c .before .before .before .if2 .left) (c .before .before .if3 .left) no-digits)
+    none-in (s .args .bytes .now) (others-read (s .args .word .now) (other e) (c .before .before .before .if2 .left)
+    (c .before .before .if3 .left) no-digits)
 
 pub parse-spec : {M : Type 1} → statement M
 parse-spec =

@@ -1,4 +1,5 @@
--- `text::hexadecimal::write_pairs` meets its contract. The bytes in front of `n` are the first pairs, and the others as they were.
+-- `text::hexadecimal::write_pairs` meets its contract. The bytes in front of `n` are the first pairs, and the others as
+-- they were.
 use mathlib.Core.Path.{_≡_, refl, sym, ap, _∙_}
 use mathlib.Core.List.{List, _++_}
 use Prim.Native.Nat.{ℕ, _-_, _≤_}
@@ -57,7 +58,8 @@ loop-again c =
       omega arith,
       simp length-set (l .loop .inv .1),
       ap (λ (b : List ℕ). set b (l .loop .n) (c .pair-value .result)) (l .loop .inv .2) ∙
-          ap (set (pairs (s .args .word .now) (l .loop .n) ++ drop (l .loop .n) (s .args .bytes .now)) (l .loop .n)) (c .pair-value .ensures) ∙
+          ap (set (pairs (s .args .word .now) (l .loop .n) ++ drop (l .loop .n) (s .args .bytes .now)) (l .loop .n))
+          (c .pair-value .ensures) ∙
           pairs-more (s .args .word .now) (s .args .bytes .now) (l .loop .n) (omega arith),
     )
 

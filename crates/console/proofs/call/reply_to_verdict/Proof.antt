@@ -1,0 +1,23 @@
+-- `console::call::reply_to_verdict` meets its contract.
+use native.Mathlib.Omega.{arith}
+use Rattle.console.proofs.call.reply_to_verdict.Statement.{statement}
+use Rattle.console.proofs.call.reply_to_verdict.Tie as tie
+
+enum-told : tie.Need-enum-told
+enum-told c = omega arith
+
+enum-known-verdict : tie.Need-enum-known-verdict
+enum-known-verdict c = omega arith
+
+number-requires : tie.Need-number-requires
+number-requires c κs = tt
+
+returns : tie.Need-returns
+returns c = tt
+
+returns-2 : tie.Need-returns-2
+returns-2 c = tt
+
+pub reply-to-verdict-spec : {M : Type 1} → statement M
+reply-to-verdict-spec =
+    tie.close (tie.spec enum-told enum-known-verdict number-requires returns returns-2)

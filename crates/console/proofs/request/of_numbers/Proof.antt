@@ -1,0 +1,98 @@
+-- `console::request::of_numbers` meets its contract.
+use mathlib.Core.Path.{refl}
+use native.Mathlib.Omega.{arith}
+use Rattle.console.proofs.request.of_numbers.Statement.{statement}
+use Rattle.console.proofs.request.of_numbers.Tie as tie
+
+slice-aggregate-is-call : tie.Need-slice-aggregate-is-call
+slice-aggregate-is-call c = refl
+
+is-call-requires : tie.Need-is-call-requires
+is-call-requires c κs = tt
+
+scan-requires : tie.Need-scan-requires
+scan-requires c κs = tt
+
+returns : tie.Need-returns
+returns c = tt
+
+slice-aggregate-is-call-2 : tie.Need-slice-aggregate-is-call-2
+slice-aggregate-is-call-2 c = refl
+
+is-call-requires-2 : tie.Need-is-call-requires-2
+is-call-requires-2 c κs = tt
+
+write-requires : tie.Need-write-requires
+write-requires c κs = tt
+
+returns-2 : tie.Need-returns-2
+returns-2 c = tt
+
+slice-aggregate-is-call-3 : tie.Need-slice-aggregate-is-call-3
+slice-aggregate-is-call-3 c = refl
+
+is-call-requires-3 : tie.Need-is-call-requires-3
+is-call-requires-3 c κs = tt
+
+array-copy-out-number-in : tie.Need-array-copy-out-number-in
+array-copy-out-number-in c = omega arith
+
+number-in-requires : tie.Need-number-in-requires
+number-in-requires c κs = tt
+
+returns-3 : tie.Need-returns-3
+returns-3 c = tt
+
+slice-aggregate-is-call-4 : tie.Need-slice-aggregate-is-call-4
+slice-aggregate-is-call-4 c = refl
+
+is-call-requires-4 : tie.Need-is-call-requires-4
+is-call-requires-4 c κs = tt
+
+fresh-requires : tie.Need-fresh-requires
+fresh-requires c κs = tt
+
+returns-4 : tie.Need-returns-4
+returns-4 c = tt
+
+slice-aggregate-is-call-5 : tie.Need-slice-aggregate-is-call-5
+slice-aggregate-is-call-5 c = refl
+
+is-call-requires-5 : tie.Need-is-call-requires-5
+is-call-requires-5 c κs = tt
+
+save-requires : tie.Need-save-requires
+save-requires c κs = tt
+
+returns-5 : tie.Need-returns-5
+returns-5 c = tt
+
+returns-6 : tie.Need-returns-6
+returns-6 c = tt
+
+pub of-numbers-spec : {M : Type 1} → statement M
+of-numbers-spec =
+    tie.close
+    (tie.spec
+    slice-aggregate-is-call
+    is-call-requires
+    scan-requires
+    returns
+    slice-aggregate-is-call-2
+    is-call-requires-2
+    write-requires
+    returns-2
+    slice-aggregate-is-call-3
+    is-call-requires-3
+    array-copy-out-number-in
+    number-in-requires
+    returns-3
+    slice-aggregate-is-call-4
+    is-call-requires-4
+    fresh-requires
+    returns-4
+    slice-aggregate-is-call-5
+    is-call-requires-5
+    save-requires
+    returns-5
+    returns-6)
