@@ -132,13 +132,13 @@ module _ (line : List ℕ) (start at count : ℕ) (values : List ℤ) (g : Gathe
       pub gathering-more :
           (v : ℤ) → numberOf (part line (w .from) (w .to)) ≡ Number v → Gathering line start (set values count v) (count + 1) (w .to)
       gathering-more v e =
-          let took = take-suc-set values count v (omega (arith, g .six)) in
+          let front = take-suc-set values count v (omega (arith, g .six)) in
           let k : 7 - suc count ≡ 6 - count = omega arith in
           let small : length (take count values) < 6 = omega (arith, before-count) in
           let stored = padded-more (take count values) count v before-count inside in
           record {
             most = omega arith;
             six = length-set values count v ∙ g .six;
-            zeros = rw (add-one, took) (ap (λ (l : List ℤ). set l count v) (g .zeros) ∙ stored);
-            same = g .same ∙ rw (add-one, took, k, first) (gather-number (take count values) _ _ v small e);
+            zeros = rw (add-one, front) (ap (λ (l : List ℤ). set l count v) (g .zeros) ∙ stored);
+            same = g .same ∙ rw (add-one, front, k, first) (gather-number (take count values) _ _ v small e);
           }
