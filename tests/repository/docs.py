@@ -21,6 +21,7 @@ TEXTS = ("crates/**/*.rt", "crates/**/*.antt", "crates/*/std*", "crates/*/must-f
 INLINE_CODE = re.compile(r"`([^`\n]+)`")
 NAME = re.compile(r"[A-Za-z][\w-]*")
 PATH = re.compile(r"(?<![\w/.-])(?:[\w.-]+/)+[\w-]+\.(?:py|antt|rt|txt|md|edit)\b")  # from the root, or from crates/
+LINK = re.compile(r"\]\(([^)#:]+)\)")
 TOOLS = {"rt", "make", "git", "omega"}  # programs and tactics of the kit and the machine
 PLACEHOLDERS = {"N", "F"}
 
@@ -52,6 +53,14 @@ def missing_paths(document):
     return [f"{document}: there is no `{path}`" for path in missing], len(cited)
 
 
+def broken_links(document):
+    """The links of a document to files that aren't there, and how many it has."""
+    folder = (ROOT / document).parent
+    cited = set(LINK.findall((ROOT / document).read_text(encoding="utf-8")))
+    missing = [path for path in sorted(cited) if not (folder / path).exists()]
+    return [f"{document}: the link to {path} leads nowhere" for path in missing], len(cited)
+
+
 def edits():
     """Must-fail edits that the trace doesn't cite, or cites and aren't there; and how many there are in all."""
     there = {f"{path.parent.parent.name}/{path.stem}" for path in ROOT.glob("crates/*/must-fail/*.edit")}
@@ -63,7 +72,7 @@ def main():
     found, looked = edits()
     names = known_names()
     for document in DOCUMENTS:
-        for more, count in (unknown_names(document, names), missing_paths(document)):
+        for more, count in (unknown_names(document, names), missing_paths(document), broken_links(document)):
             found, looked = found + more, looked + count
     return tally.report(found, looked, "every name is there")
 

@@ -18,8 +18,8 @@ use Rattle.integers.specs.Parts.{integers}
 use Rattle.signals.specs.Refusals.{refusedBy}
 use Rattle.signals.specs.Signals.{switchesOf}
 use Rattle.fields.specs.Fields.{fieldsFrom}
-use Rattle.fields.specs.Decoding.{formedFrom}
-use Rattle.fields.specs.RoundTrip.{Bytes, saved-formed, saved-values, saved-again, words-of, values-length, image-length}
+use Rattle.fields.specs.Decoding.{wellFormedFrom}
+use Rattle.fields.specs.RoundTrip.{Bytes, saved-well-formed, saved-values, saved-again, words-of, values-length, image-length}
 use Rattle.parameters.specs.Legal.{areLegal, Legal}
 use Rattle.parameters.specs.RepairedLaws.{tested-legal, legal-tested}
 use Rattle.parameters.specs.Table.{LO, HO}
@@ -62,9 +62,9 @@ module _ (c : Controller) (valid : Valid c) where
   unfolding now savedImage imageOf
   values-are = saved-values (saved now) (saved-length now) (saved-fits now now-legal (omega (arith, now-op)))
 
-  pub saved-headed : formedFrom 0 28 (savedImage c) ≡ true
+  pub saved-header : wellFormedFrom 0 28 (savedImage c) ≡ true
   unfolding now savedImage imageOf
-  saved-headed = saved-formed (saved now) (saved-length now)
+  saved-header = saved-well-formed (saved now) (saved-length now)
 
   pub saved-size : length (savedImage c) ≡ 137
   unfolding now savedImage imageOf
@@ -79,11 +79,11 @@ module _ (c : Controller) (valid : Valid c) where
   -- a saved image is sound
   pub saved-sound : isSound (savedImage c) ≡ true
   unfolding isSound now
-  saved-sound = rw (eq-eqb (length (savedImage c)) 137 saved-size, saved-headed, values-are, saved-right now, legal-values) refl
+  saved-sound = rw (eq-eqb (length (savedImage c)) 137 saved-size, saved-header, values-are, saved-right now, legal-values) refl
 
   pub saved-accepted : refusedBy (restartTests (savedImage c)) ≡ none
   unfolding restartTests refusedBy now
-  saved-accepted = rw (eq-eqb (length (savedImage c)) 137 saved-size, saved-headed, values-are, saved-right now, legal-values) refl
+  saved-accepted = rw (eq-eqb (length (savedImage c)) 137 saved-size, saved-header, values-are, saved-right now, legal-values) refl
 
   pub saved-sum : isSumRight (valuesIn (savedImage c)) ≡ true
   unfolding now
@@ -97,7 +97,7 @@ module _ (c : Controller) (valid : Valid c) where
 
 record Sound (image : List ℕ) : Type 0 where
   size : length image ≡ 137
-  formed : formedFrom 0 28 image ≡ true
+  formed : wellFormedFrom 0 28 image ≡ true
   right : isSumRight (valuesIn image) ≡ true
   legal : isLegal (valuesIn image) ≡ true
 
@@ -105,7 +105,7 @@ sound-of : (image : List ℕ) → isSound image ≡ true → Sound image
 unfolding isSound
 sound-of image e =
     let size = eqb (length image) 137 in
-    let formed = formedFrom 0 28 image in
+    let formed = wellFormedFrom 0 28 image in
     let right = isSumRight (valuesIn image) in
     let legal = isLegal (valuesIn image) in
     let first = both (size && formed && right) legal e in

@@ -8,7 +8,7 @@ use lib.ListN.{length}
 use Rattle.integers.specs.Choice.{if_then_else_}
 use Rattle.signals.specs.Refusals.{refusedBy}
 use Rattle.signals.specs.Signals.{switchesOf}
-use Rattle.fields.specs.Decoding.{formedFrom, valuesFrom}
+use Rattle.fields.specs.Decoding.{wellFormedFrom, valuesFrom}
 use Rattle.modes.specs.declared.Request.{Request}
 use Rattle.modes.specs.declared.Request.the-variants.{Manual}
 use Rattle.parameters.specs.Legal.{areLegal}
@@ -17,7 +17,7 @@ use Rattle.settings.specs.Settings.{parametersIn, settingsIn, isSumRight, areOt
 use Rattle.settings.specs.declared.Settings.{Settings}
 use Rattle.outputs.specs.Outputs.{restartInstruction}
 use Rattle.controller.specs.Answers.{Response}
-use Rattle.controller.specs.Scan.{accepts, Outcome, unless, controllerAfter, responseFrom}
+use Rattle.controller.specs.Scan.{accepts, Outcome, refusedOr, controllerAfter, responseFrom}
 use Rattle.controller.specs.State.{startCore}
 use Rattle.controller.specs.declared.Controller.{Controller}
 use Rattle.controller.specs.declared.Core.{Core}
@@ -39,13 +39,13 @@ isIllegal vs = isSumRight vs && not (isLegal vs)
 unfoldable pub restartTests : List ℕ → List (Bool × ℕ)
 restartTests image =
     (not (eqb (length image) 137), 12)
-    ∷ (not (formedFrom 0 28 image), 13)
+    ∷ (not (wellFormedFrom 0 28 image), 13)
     ∷ (isIllegal (valuesIn image), 14)
     ∷ []
 
 -- "Sound: every tag and length right, the sumcheck right, all values legal.": of 137 bytes
 unfoldable pub isSound : List ℕ → Bool
-isSound image = eqb (length image) 137 && formedFrom 0 28 image && isSumRight (valuesIn image) && isLegal (valuesIn image)
+isSound image = eqb (length image) 137 && wellFormedFrom 0 28 image && isSumRight (valuesIn image) && isLegal (valuesIn image)
 
 -- ---- what an accepted restart takes
 
@@ -79,7 +79,7 @@ restartAccepted c vs =
 
 -- a restart, refused or accepted
 unfoldable pub restartCore : Core → List ℕ → Outcome
-restartCore c image = unless (refusedBy (restartTests image)) c (restartAccepted c (valuesIn image))
+restartCore c image = refusedOr (refusedBy (restartTests image)) c (restartAccepted c (valuesIn image))
 
 -- our controller after an accepted restart
 unfoldable pub controllerRestarted : Controller → List ℕ → Controller

@@ -14,7 +14,7 @@ use Rattle.integers.specs.Listed.{listed}
 use Rattle.signals.specs.RefusalLaws.{Ascending}
 use Rattle.signals.specs.Refusals.{refusedBy}
 use Rattle.signals.specs.Signals.{switchesOf}
-use Rattle.fields.specs.Decoding.{formedFrom}
+use Rattle.fields.specs.Decoding.{wellFormedFrom}
 use Rattle.modes.specs.declared.Request.{Request}
 use Rattle.modes.specs.declared.Request.the-variants.{Manual}
 use Rattle.parameters.specs.Legal.{areLegal, Legal}
@@ -42,7 +42,7 @@ restart-ascends image = ((omega arith, (omega arith, tt)), ((omega arith, tt), (
 
 pub record Taken (image : List ℕ) : Type 0 where
   pub size : length image ≡ 137
-  pub formed : formedFrom 0 28 image ≡ true
+  pub formed : wellFormedFrom 0 28 image ≡ true
   pub legal : isIllegal (valuesIn image) ≡ false
 
 pub taken : (image : List ℕ) → refusedBy (restartTests image) ≡ none → Taken image
@@ -51,7 +51,7 @@ taken image e =
     let t = passed (restartTests image) e in
     record {
       size = eqb-true (length image) 137 (not-false (eqb (length image) 137) (t .0));
-      formed = not-false (formedFrom 0 28 image) (t .1 .0);
+      formed = not-false (wellFormedFrom 0 28 image) (t .1 .0);
       legal = t .1 .1 .0;
     }
 

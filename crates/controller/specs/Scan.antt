@@ -102,13 +102,13 @@ unfoldable pub refused : Core → ℕ → Outcome
 refused c n = record { next = c; answer = refusedWith n; instruction = record { change = keep; limits = unlimited } }
 
 -- refused with a number, or else the outcome
-abbrev pub unless : Option ℕ → Core → Outcome → Outcome
-unless none c o = o
-unless (some n) c o = refused c n
+abbrev pub refusedOr : Option ℕ → Core → Outcome → Outcome
+refusedOr none c o = o
+refusedOr (some n) c o = refused c n
 
 -- a scan, refused or accepted
 unfoldable pub scanCore : (ℕ → ℕ) → Core → Input → Outcome
-scanCore more c i = unless (refusedBy (scanTests i)) c (accepted more c i)
+scanCore more c i = refusedOr (refusedBy (scanTests i)) c (accepted more c i)
 
 -- ---- our controller's: the instruction executed in whole 1/65,536 units, OP and electrical output of
 -- the stored output

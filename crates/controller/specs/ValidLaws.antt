@@ -20,14 +20,14 @@ use Rattle.parameters.specs.LegalLaws.{defaults-legal}
 use Rattle.parameters.specs.Table.{L1, SL}
 use Rattle.parameters.specs.declared.Parameters.{Parameters}
 use Rattle.setpoints.specs.Computation.{computed}
-use Rattle.setpoints.specs.ComputationLaws.{Reading, SampleRange, computed-legal, pv-reading, setpoint-read}
+use Rattle.setpoints.specs.ComputationLaws.{InReadingRange, SampleRange, computed-legal, pv-reading, setpoint-read}
 use Rattle.setpoints.specs.ComputationLaws.{setpoint-reading, low-reading, power-reading, limited-setpoint}
 use Rattle.terms.specs.Fraction.{storedUnits}
 use Rattle.outputs.specs.Instruction.{executed, changed, limitedTo}
 use Rattle.outputs.specs.OutputLaws.{ReadingsRange, history-kept, output-stored}
 use Rattle.outputs.specs.declared.Context.{Context}
 use Rattle.controller.specs.Scan.{controllerAfter, contextOf, computedIn, coreAfter, Outcome}
-use Rattle.controller.specs.Scan.{accepted, refused, unless, scanCore, responseFrom, stepped, scan}
+use Rattle.controller.specs.Scan.{accepted, refused, refusedOr, scanCore, responseFrom, stepped, scan}
 use Rattle.controller.specs.State.{startReadings, freshParameters, freshCore, freshController}
 use Rattle.controller.specs.Valid.{Valid, Readable}
 use Rattle.controller.specs.declared.Controller.{Controller}
@@ -75,10 +75,10 @@ read c x legal s =
       sp-read = setpoint-read (c .parameters) legal (limited-setpoint (c .parameters) legal (x .switches) (x .mode) _ _ _ (x .input));
     }
 
-difference-most : (a b : ℤ) → Reading a → Reading b → natAbs (a -ℤ b) ≤ 19998
+difference-most : (a b : ℤ) → InReadingRange a → InReadingRange b → natAbs (a -ℤ b) ≤ 19998
 difference-most a b h k = omega (arith, difference a b, number a, number b, h .reading, k .reading)
 
-readable : (pv sp mp : ℤ) → Reading pv → Reading sp → Reading mp → Readable (record { pv = pv; sp = sp; er = pv -ℤ sp; mp = mp })
+readable : (pv sp mp : ℤ) → InReadingRange pv → InReadingRange sp → InReadingRange mp → Readable (record { pv = pv; sp = sp; er = pv -ℤ sp; mp = mp })
 readable pv sp mp h k l =
     record {
       pv-most = omega (arith, h .reading);
@@ -122,7 +122,7 @@ stepped-valid c i v s =
 
 -- the two ways a call can go
 pub by-verdict : (P : Outcome → Type 0) (d : Option ℕ) (c : Core) (o : Outcome) → (d ≡ none → P o) → ((n : ℕ) → P (refused c n)) →
-    P (unless d c o)
+    P (refusedOr d c o)
 by-verdict P none c o f g = f refl
 by-verdict P (some n) c o f g = g n
 

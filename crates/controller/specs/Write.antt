@@ -20,7 +20,7 @@ use Rattle.parameters.specs.declared.Parameters.{Parameters}
 use Rattle.outputs.specs.Instruction.{keep}
 use Rattle.outputs.specs.Outputs.{limitsWritten}
 use Rattle.controller.specs.Answers.{Response}
-use Rattle.controller.specs.Scan.{modeNow, accepts, Outcome, unless, controllerAfter, responseFrom}
+use Rattle.controller.specs.Scan.{modeNow, accepts, Outcome, refusedOr, controllerAfter, responseFrom}
 use Rattle.controller.specs.declared.Controller.{Controller}
 use Rattle.controller.specs.declared.Core.{Core}
 
@@ -101,7 +101,7 @@ writeAccepted c n v =
 
 -- a write, refused or accepted
 unfoldable pub writeCore : Core → ℕ → ℤ → Outcome
-writeCore c n v = unless (refusedBy (writeTests c n v)) c (writeAccepted c n v)
+writeCore c n v = refusedOr (refusedBy (writeTests c n v)) c (writeAccepted c n v)
 
 -- our controller after an accepted write
 unfoldable pub controllerWritten : Controller → ℕ → ℤ → Controller

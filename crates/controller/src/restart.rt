@@ -28,7 +28,7 @@ fn restart_verdict(image: &[u8]) -> Verdict
     if image.len() != fields::IMAGE_LENGTH {
         return Verdict::Refused(Refusal::ImageLength);
     }
-    if !fields::decoding::is_formed(image) {
+    if !fields::decoding::is_well_formed(image) {
         return Verdict::Refused(Refusal::ImageField);
     }
     let values = fields::decoding::values_of(image);

@@ -1,4 +1,5 @@
-// One scan: the steps in document 01's order, and the words that it answers.
+// One scan: document 01's steps, each a function, and the words that it answers. Steps 2 and 3 come first, as the mode
+// decides the others; step 6 comes last, as it needs what step 5 gives.
 ghost use mathlib.Core.Path.{_≡_};
 ghost use Rattle.parameters.specs.Legal.{Legal};
 ghost use Rattle.setpoints.specs.ComputationLaws.{SampleRange};

@@ -12,16 +12,16 @@ use lib.Seq.{take-all, drop-drop, take-suc-set, append-snoc}
 use borrow.Author.Tests.{eq-eqb}
 use Rattle.fields.specs.FieldLaws.{startOf, next-start, start-most}
 use Rattle.fields.specs.Fields.{tagOf, lengthOf, sum, sumOf}
-use Rattle.fields.specs.Decoding.{isHeaded, valueIn, formedFrom, valuesFrom}
-use Rattle.fields.specs.RoundTrip.{formed-more, values-more}
+use Rattle.fields.specs.Decoding.{hasHeader, valueIn, wellFormedFrom, valuesFrom}
+use Rattle.fields.specs.RoundTrip.{well-formed-more, values-more}
 
-pub headed-last : (t n : ℕ) (b : List ℕ) → getD b 0 0 ≡ t → getD b 1 0 ≡ 0 → eqb (getD b 2 0) n ≡ isHeaded t n b
-unfolding isHeaded
-headed-last t n b e0 e1 = simp (eq-eqb _ _ e0, eq-eqb _ _ e1)
+pub header-last : (t n : ℕ) (b : List ℕ) → getD b 0 0 ≡ t → getD b 1 0 ≡ 0 → eqb (getD b 2 0) n ≡ hasHeader t n b
+unfolding hasHeader
+header-last t n b e0 e1 = simp (eq-eqb _ _ e0, eq-eqb _ _ e1)
 
-formed-not : (place many : ℕ) (b : List ℕ) → isHeaded (tagOf place) (lengthOf place) b ≡ false → formedFrom place (suc many) b ≡ false
-unfolding formedFrom
-formed-not place many b h = rw h
+well-formed-not : (place many : ℕ) (b : List ℕ) → hasHeader (tagOf place) (lengthOf place) b ≡ false → wellFormedFrom place (suc many) b ≡ false
+unfolding wellFormedFrom
+well-formed-not place many b h = rw h
 
 -- the part that is passed on is all that lies behind
 part-is : (b : List ℕ) (start : ℕ) → take (length b - start) (drop start b) ≡ drop start b
@@ -39,37 +39,37 @@ begun-next start place n g h en =
 
 -- ---- every tag and length right
 
-pub record Formed (b : List ℕ) (start place : ℕ) : Type 0 where
+pub record WellFormed (b : List ℕ) (start place : ℕ) : Type 0 where
   pub begun : Begun start place
-  pub formed : formedFrom 0 28 b ≡ formedFrom place (28 - place) (drop start b)
+  pub formed : wellFormedFrom 0 28 b ≡ wellFormedFrom place (28 - place) (drop start b)
 
-pub formed-next : (b : List ℕ) (start place t n : ℕ) → Formed b start place → place < 28 → t ≡ tagOf place → n ≡ lengthOf place →
-    isHeaded t n (take (length b - start) (drop start b)) ≡ true → Formed b (start + 3 + n) (place + 1)
-formed-next b start place t n g h et en hh =
+pub well-formed-next : (b : List ℕ) (start place t n : ℕ) → WellFormed b start place → place < 28 → t ≡ tagOf place → n ≡ lengthOf place →
+    hasHeader t n (take (length b - start) (drop start b)) ≡ true → WellFormed b (start + 3 + n) (place + 1)
+well-formed-next b start place t n g h et en hh =
     let p : take (length b - start) (drop start b) ≡ drop start b = part-is b start in
     let m : 28 - place ≡ suc (28 - (place + 1)) = omega arith in
     let s : suc place ≡ place + 1 = omega arith in
     let d : drop (3 + n) (drop start b) ≡ drop (start + (3 + n)) b = drop-drop (3 + n) start b in
     let a : start + (3 + n) ≡ start + 3 + n = omega arith in
-    let hd : isHeaded (tagOf place) (lengthOf place) (drop start b) ≡ true = cc in
+    let hd : hasHeader (tagOf place) (lengthOf place) (drop start b) ≡ true = cc in
     record {
       begun = begun-next start place n (g .begun) h en;
-      formed = cc (g .formed, formed-more place (28 - (place + 1)) (drop start b) hd);
+      formed = cc (g .formed, well-formed-more place (28 - (place + 1)) (drop start b) hd);
     }
 
-pub formed-wrong : (b : List ℕ) (start place t n : ℕ) → Formed b start place → place < 28 → t ≡ tagOf place → n ≡ lengthOf place →
-    isHeaded t n (take (length b - start) (drop start b)) ≡ false → formedFrom 0 28 b ≡ false
-formed-wrong b start place t n g h et en hh =
+pub well-formed-wrong : (b : List ℕ) (start place t n : ℕ) → WellFormed b start place → place < 28 → t ≡ tagOf place → n ≡ lengthOf place →
+    hasHeader t n (take (length b - start) (drop start b)) ≡ false → wellFormedFrom 0 28 b ≡ false
+well-formed-wrong b start place t n g h et en hh =
     let p : take (length b - start) (drop start b) ≡ drop start b = part-is b start in
     let m : 28 - place ≡ suc (28 - (place + 1)) = omega arith in
-    let hd : isHeaded (tagOf place) (lengthOf place) (drop start b) ≡ false = cc in
-    cc (g .formed, formed-not place (28 - (place + 1)) (drop start b) hd)
+    let hd : hasHeader (tagOf place) (lengthOf place) (drop start b) ≡ false = cc in
+    cc (g .formed, well-formed-not place (28 - (place + 1)) (drop start b) hd)
 
-pub formed-all : (b : List ℕ) (start place : ℕ) → Formed b start place → 28 ≤ place → true ≡ formedFrom 0 28 b
-unfolding formedFrom
-formed-all b start place g h =
+pub well-formed-all : (b : List ℕ) (start place : ℕ) → WellFormed b start place → 28 ≤ place → true ≡ wellFormedFrom 0 28 b
+unfolding wellFormedFrom
+well-formed-all b start place g h =
     let z : 28 - place ≡ 0 = omega arith in
-    let f : formedFrom place 0 (drop start b) ≡ true = refl in
+    let f : wellFormedFrom place 0 (drop start b) ≡ true = refl in
     cc (g .formed)
 
 -- ---- the values

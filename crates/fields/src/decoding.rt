@@ -2,12 +2,12 @@
 ghost use mathlib.Core.Path.{_≡_};
 ghost use Prim.Native.Nat.{_+_, _≤_, _<_};
 ghost use lib.ListN.{length};
-ghost use Rattle.fields.specs.Decoding.{isHeaded, valueIn, formedFrom, valuesFrom};
+ghost use Rattle.fields.specs.Decoding.{hasHeader, valueIn, wellFormedFrom, valuesFrom};
 
 // Whether the part begins with a field of this tag and length.
-fn is_headed(part: &[u8], tag: u8, size: u8) -> bool
+fn has_header(part: &[u8], tag: u8, size: u8) -> bool
     requires { ⌜ 3 ≤ length (now part) ⌝ }
-    ensures { λ r. ⌜ r ≡ isHeaded tag size (now (part .entry)) ⌝ }
+    ensures { λ r. ⌜ r ≡ hasHeader tag size (now (part .entry)) ⌝ }
 {
     if part[0] != tag {
         return false;
@@ -37,15 +37,15 @@ fn value_in(part: &[u8], size: u8) -> u16
 }
 
 // Whether every tag and length is right. The contract rules out a field that isn't looked at.
-pub fn is_formed(image: &[u8]) -> bool
+pub fn is_well_formed(image: &[u8]) -> bool
     requires { ⌜ length (now image) ≡ 137 ⌝ }
-    ensures { λ r. ⌜ r ≡ formedFrom 0 28 (now (image .entry)) ⌝ }
+    ensures { λ r. ⌜ r ≡ wellFormedFrom 0 28 (now (image .entry)) ⌝ }
 {
     let mut start: usize = 0;
     let mut place: usize = 0;
     while place < crate::FIELD_COUNT {
         let size = crate::length_of(place);
-        if !is_headed(&image[start..], crate::tag_of(place), size) {
+        if !has_header(&image[start..], crate::tag_of(place), size) {
             return false;
         }
         start = start + crate::HEADER_LENGTH + (size as usize);

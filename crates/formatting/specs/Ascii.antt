@@ -11,5 +11,5 @@ abbrev pub ascii : String → List ℕ
 ascii no-text = []
 ascii (c before s) = code c ∷ ascii s
 
-sample : ascii "ok\n" ≡ 111 ∷ 107 ∷ 10 ∷ []
-sample = refl
+ascii-example : ascii "ok\n" ≡ 111 ∷ 107 ∷ 10 ∷ []
+ascii-example = refl

@@ -15,7 +15,7 @@ use Rattle.controller.specs.Answers.{replyBy, Response}
 use Rattle.controller.specs.Restart.{valuesIn, restartTests, restartAccepted, restartCore, restart}
 use Rattle.controller.specs.RestartLaws.{restart-ascends}
 use Rattle.controller.specs.Scan as rules
-use Rattle.controller.specs.Scan.{Outcome, unless, statusOf, scanCore, responseFrom}
+use Rattle.controller.specs.Scan.{Outcome, refusedOr, statusOf, scanCore, responseFrom}
 use Rattle.controller.specs.ValidLaws.{Passed, passed}
 use Rattle.controller.specs.Write.{writeTests, writeAccepted, writeCore, write}
 use Rattle.controller.specs.WriteLaws.{write-ascends}
@@ -52,14 +52,14 @@ lowest ts a = go (refusedBy ts) refl
 
 -- of an outcome that is no refusal, unless a test refuses the call
 refusal-is : (c : Controller) (v : Option ℕ) (o : Outcome) → refusalIn (responseFrom c o .answer) ≡ none →
-    refusalIn (responseFrom c (unless v (c .core) o) .answer) ≡ v
+    refusalIn (responseFrom c (refusedOr v (c .core) o) .answer) ≡ v
 unfolding responseFrom rules.refused
 refusal-is c none o e = e
 refusal-is c (some n) o e = refl
 
 -- a call that the first of its tests that holds refuses
 wins : (c : Controller) (ts : List (Bool × ℕ)) (o : Outcome) (h : Response) → Ascending ts → refusalIn (responseFrom c o .answer) ≡ none →
-    h ≡ responseFrom c (unless (refusedBy ts) (c .core) o) → Lowest ts (refusalIn (h .answer))
+    h ≡ responseFrom c (refusedOr (refusedBy ts) (c .core) o) → Lowest ts (refusalIn (h .answer))
 wins c ts o h a passes e =
     subst (Lowest ts) (sym (ap (λ (k : Response). refusalIn (k .answer)) e ∙ refusal-is c (refusedBy ts) o passes)) (lowest ts a)
 

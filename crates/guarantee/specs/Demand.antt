@@ -1,4 +1,4 @@
--- Demand 3, the long guarantee, as README.md has it: after these calls, with these controllers and
+-- Demand 3, the long guarantee, as docs/GUARANTEE.md has it: after these calls, with these controllers and
 -- answers returned, of the controller c.
 use mathlib.Core.Path.{_≡_}
 use mathlib.Core.Bool.{false}

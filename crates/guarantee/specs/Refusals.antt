@@ -32,7 +32,7 @@ pub data Lowest (tests : List (Bool × ℕ)) : Option ℕ → Type 0 where
   accepted : ((m : ℕ) → Holds m tests → ⊥) → Lowest tests none
   refused : {n : ℕ} → Holds n tests → ((m : ℕ) → Holds m tests → n ≤ m) → Lowest tests (some n)
 
--- of every call, whatever the controller and the arguments
+-- of every scan, write, restart and save, whatever the controller and the arguments
 pub record LowestNumberWins : Type 0 where
   pub scans : (c : Controller) (i : Input) (r : ScanResult) → ScanEnsures c i r →
       Lowest (scanTests i) (refusalIn (replyOf (r .answer)))

@@ -35,8 +35,8 @@ module _ (n d : ℕ) (some : 0 < d) where
 
   -- ---- the tests as the code makes them: the remainder against what it lacks of d
 
-  pub over-fits : n % d ≤ d
-  over-fits = omega (arith, left-over n d some)
+  pub remainder-fits : n % d ≤ d
+  remainder-fits = omega (arith, left-over n d some)
 
   -- past a half d is at least 2, so the quotient leaves room for one more
   pub room : d - n % d ≤ n % d → n / d + 1 ≤ n

@@ -101,8 +101,12 @@ pub fn nearest_up(n: u64, d: u64) -> u64
     requires { ⌜ 0 < d ⌝ }
     ensures { λ r. ⌜ r ≡ halfUp n d ⌝ }
 {
-    let over = n % d;
-    if over < d - over { n / d } else { n / d + 1 }
+    let remainder = n % d;
+    if remainder < d - remainder {
+        n / d
+    } else {
+        n / d + 1
+    }
 }
 
 // n / d to the nearest whole number, an exact half going to the even neighbour. The contract rules out
@@ -111,12 +115,12 @@ pub fn nearest_even(n: u64, d: u64) -> u64
     requires { ⌜ 0 < d ⌝ }
     ensures { λ r. ⌜ r ≡ halfEven n d ⌝ }
 {
-    let over = n % d;
+    let remainder = n % d;
     let quotient = n / d;
-    if over < d - over {
+    if remainder < d - remainder {
         return quotient;
     }
-    if d - over < over {
+    if d - remainder < remainder {
         return quotient + 1;
     }
     if quotient % 2 == 0 {

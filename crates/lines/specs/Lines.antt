@@ -83,8 +83,8 @@ reads input place = not (hasEnd (unread input place)) && place .more
 
 -- The next line is made of the bytes that were pending and of those received since: it stands at the front of the line
 -- buffer, cut where the buffer ends, no other byte of which changes, and what follows its line feed is pending. A last
--- line may lack its line feed. Nothing is read while a line is pending, and what there was to write is written before
--- anything is read.
+-- line may lack its line feed. Nothing is read while a line is pending, and before anything is read the output is
+-- flushed, so none of it is used.
 pub record NextLine (input₀ input before after : List ℕ) (place r : Place) : Type 0 where
   pub received : List ℕ
   pub filled : buffer after (r .len) ≡ appendAll (buffer before 0) (lineOf (unread input₀ place ++ received))

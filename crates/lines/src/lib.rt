@@ -155,8 +155,9 @@ fn read_on(input: &mut [u8], line: &mut [u8], place: Place) -> Place
     finish(p)
 }
 
-// The next line, in the line buffer. Where `complete` is false the input has ended. The contract rules out a line that
-// is cut or joined with the next, a byte that is lost, and waiting for input while there is something to write.
+// The next line, in the line buffer. Where `complete` is false the input has ended. Of the bytes that
+// were pending and those received the contract rules out a line that is cut or joined with the next, and a byte that is
+// lost. Which bytes a read received no contract can tell.
 pub fn next_line(input: &mut [u8], line: &mut [u8], out: &[u8], place: Place) -> Place
     ensures { λ r. ⌜ NextLine (now (input .entry)) (now (input .exit)) (now (line .entry)) (now (line .exit)) place r ⌝ }
 {
@@ -173,7 +174,8 @@ pub fn next_line(input: &mut [u8], line: &mut [u8], out: &[u8], place: Place) ->
 
 // ---- standard output
 
-// Writes what is used of the output; none of it is used afterwards.
+// Writes what is used of the output; none of it is used afterwards. What was written no contract can tell, and a failed
+// write is not told apart.
 pub fn flush(out: &[u8], used: usize) -> usize
     ensures { λ r. ⌜ r ≡ 0 ⌝ }
 {

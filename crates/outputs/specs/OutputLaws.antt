@@ -21,12 +21,12 @@ use Rattle.parameters.specs.Legal.{Legal}
 use Rattle.parameters.specs.LegalLaws.{ranges, value-most}
 use Rattle.parameters.specs.Table.{H1, L1, HO, LO, XP}
 use Rattle.parameters.specs.declared.Parameters.{Parameters}
-use Rattle.setpoints.specs.ComputationLaws.{Reading}
+use Rattle.setpoints.specs.ComputationLaws.{InReadingRange}
 use Rattle.setpoints.specs.declared.Readings.{Readings}
 use Rattle.terms.specs.Fraction.{Fraction, Positive, storedUnits, limitedStored}
 use Rattle.terms.specs.TermLaws.{term-size}
 use Rattle.terms.specs.Terms.{storedTerm, TuningRange}
-use Rattle.outputs.specs.Deviation.{deviation, earlierSetpoint, changeOfDeviation, secondDifference, tuningOf}
+use Rattle.outputs.specs.ControlDifference.{controlDifference, earlierSetpoint, changeOfDifference, secondDifference, tuningOf}
 use Rattle.outputs.specs.History.{remembered, historyAfter, recalled}
 use Rattle.outputs.specs.Instruction.{unlimited, between, storedArithmetic, changed, limitedTo, executed}
 use Rattle.outputs.specs.Outputs.{changeIn, limitsIn, minimumOf, instructionOf, restartedTo, restartInstruction}
@@ -37,19 +37,19 @@ use Rattle.outputs.specs.declared.Context.{Context}
 
 -- PV and SP of a scan lie in -9999..9999
 pub record ReadingsRange (r : Readings) : Type 0 where
-  pub pv-read : Reading (r .pv)
-  pub sp-read : Reading (r .sp)
+  pub pv-read : InReadingRange (r .pv)
+  pub sp-read : InReadingRange (r .sp)
 
 -- so do those that are remembered
 abbrev pub HistoryRange : History → Type 0
 HistoryRange Nothing = Unit
-HistoryRange (One pv sp) = Reading pv × Reading sp
-HistoryRange (Two pv sp before) = Reading pv × Reading sp × Reading before
+HistoryRange (One pv sp) = InReadingRange pv × InReadingRange sp
+HistoryRange (Two pv sp before) = InReadingRange pv × InReadingRange sp × InReadingRange before
 
 pub record PastRange (past : Past) : Type 0 where
-  pub pv-read : Reading (past .pv)
-  pub sp-read : Reading (past .sp)
-  pub before-read : Reading (past .before)
+  pub pv-read : InReadingRange (past .pv)
+  pub sp-read : InReadingRange (past .sp)
+  pub before-read : InReadingRange (past .before)
 
 -- a stored output lies in 0..9999 units
 pub record OutputRange (x : ℤ) : Type 0 where
@@ -74,32 +74,32 @@ history-kept h isopen r k n = by-cases HistoryRange isopen Nothing (remembered h
 
 -- ---- c, c - c1 and D
 
-pub deviation-most : (inverse : Bool) (sp pv : ℤ) → Reading sp → Reading pv → natAbs (deviation inverse sp pv) ≤ 19998
-unfolding deviation
-deviation-most inverse sp pv h k =
+pub control-difference-most : (inverse : Bool) (sp pv : ℤ) → InReadingRange sp → InReadingRange pv → natAbs (controlDifference inverse sp pv) ≤ 19998
+unfolding controlDifference
+control-difference-most inverse sp pv h k =
     by-cases (λ (z : ℤ). natAbs z ≤ 19998) inverse (pv -ℤ sp) (sp -ℤ pv)
     (λ e. omega (arith, difference pv sp, number pv, number sp, h .reading, k .reading))
     (λ e. omega (arith, difference sp pv, number pv, number sp, h .reading, k .reading))
 
 pub earlier-reading : (s : Switches) (mode : Mode) (r : Readings) (past : Past) → ReadingsRange r → PastRange past →
-    Reading (earlierSetpoint s mode r past)
+    InReadingRange (earlierSetpoint s mode r past)
 unfolding earlierSetpoint
 earlier-reading s mode r past n k =
-    by-cases Reading (isAutoOrFallback mode && not (s .balanceoff)) (r .sp) (past .sp) (λ e. n .sp-read) (λ e. k .sp-read)
+    by-cases InReadingRange (isAutoOrFallback mode && not (s .balanceoff)) (r .sp) (past .sp) (λ e. n .sp-read) (λ e. k .sp-read)
 
 pub change-most : (s : Switches) (mode : Mode) (r : Readings) (past : Past) → ReadingsRange r → PastRange past →
-    natAbs (changeOfDeviation s mode r past) ≤ 39996
-unfolding changeOfDeviation
+    natAbs (changeOfDifference s mode r past) ≤ 39996
+unfolding changeOfDifference
 change-most s mode r past n k =
-    let now = deviation (s .inverseoutput) (r .sp) (r .pv) in
-    let earlier = deviation (s .inverseoutput) (earlierSetpoint s mode r past) (past .pv) in
+    let now = controlDifference (s .inverseoutput) (r .sp) (r .pv) in
+    let earlier = controlDifference (s .inverseoutput) (earlierSetpoint s mode r past) (past .pv) in
     omega (
       arith,
       difference now earlier,
       number now,
       number earlier,
-      deviation-most (s .inverseoutput) (r .sp) (r .pv) (n .sp-read) (n .pv-read),
-      deviation-most (s .inverseoutput) (earlierSetpoint s mode r past) (past .pv) (earlier-reading s mode r past n k) (k .pv-read),
+      control-difference-most (s .inverseoutput) (r .sp) (r .pv) (n .sp-read) (n .pv-read),
+      control-difference-most (s .inverseoutput) (earlierSetpoint s mode r past) (past .pv) (earlier-reading s mode r past n k) (k .pv-read),
     )
 
 pub twice : (z : ℤ) → z +ℤ z ≡ pos 2 *ℤ z
@@ -191,11 +191,11 @@ sum-most {x} {y} h k = omega (arith, sum-size x y, h .size, k .size)
 pub difference-most : {x y : ℤ} {m n : ℕ} → Size x m → Size y n → Size (x -ℤ y) (m + n)
 difference-most {x} {y} h k = omega (arith, difference-size x y, h .size, k .size)
 
-pub reading-size : {z : ℤ} → Reading z → Size z 9999
+pub reading-size : {z : ℤ} → InReadingRange z → Size z 9999
 reading-size {z} h = sized z (h .reading)
 
-pub deviation-size : (inverse : Bool) {sp pv : ℤ} → Reading sp → Reading pv → Size (deviation inverse sp pv) 19998
-deviation-size inverse {sp} {pv} h k = sized (deviation inverse sp pv) (deviation-most inverse sp pv h k)
+pub control-difference-size : (inverse : Bool) {sp pv : ℤ} → InReadingRange sp → InReadingRange pv → Size (controlDifference inverse sp pv) 19998
+control-difference-size inverse {sp} {pv} h k = sized (controlDifference inverse sp pv) (control-difference-most inverse sp pv h k)
 
 pub stored-size : {x : ℤ} → OutputRange x → Size x 655294464
 stored-size {x} h = sized x (stored-most x h)

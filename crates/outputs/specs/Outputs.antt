@@ -14,7 +14,7 @@ use Rattle.parameters.specs.Table.{isFrom, HO, LO}
 use Rattle.parameters.specs.declared.Parameters.{Parameters}
 use Rattle.setpoints.specs.declared.Readings.{Readings}
 use Rattle.terms.specs.Terms.{proportionalTerm, integralTerm, derivativeTerm}
-use Rattle.outputs.specs.Deviation.{deviation, changeOfDeviation, secondDifference, tuningOf}
+use Rattle.outputs.specs.ControlDifference.{controlDifference, changeOfDifference, secondDifference, tuningOf}
 use Rattle.outputs.specs.History.{recalled}
 use Rattle.outputs.specs.Instruction.{Change, keep, setTo, moveBy, addTerms, Limits, unlimited, between, Instruction}
 use Rattle.outputs.specs.declared.History.{History}
@@ -43,8 +43,8 @@ unfoldable pub termsOf : Parameters → Context → Readings → History → Cha
 termsOf p x r h =
     let t = tuningOf p (x .switches) in
     let past = recalled h r in
-    addTerms (proportionalTerm t (changeOfDeviation (x .switches) (x .mode) r past))
-    (integralTerm t (deviation (x .switches .inverseoutput) (r .sp) (r .pv)))
+    addTerms (proportionalTerm t (changeOfDifference (x .switches) (x .mode) r past))
+    (integralTerm t (controlDifference (x .switches .inverseoutput) (r .sp) (r .pv)))
     (derivativeTerm t (secondDifference r past))
 
 -- "Automatic and open: kept. Automatic otherwise, an automatic scan: the three terms are added."

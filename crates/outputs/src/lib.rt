@@ -7,7 +7,7 @@ ghost use Rattle.integers.specs.Machine.{Small};
 ghost use Rattle.terms.specs.Fraction.{storedUnits, limitedStored};
 ghost use Rattle.parameters.specs.Legal.{Legal};
 ghost use Rattle.parameters.specs.Table.{HO, LO};
-ghost use Rattle.outputs.specs.Deviation.{deviation, earlierSetpoint, changeOfDeviation, secondDifference, tuningOf};
+ghost use Rattle.outputs.specs.ControlDifference.{controlDifference, earlierSetpoint, changeOfDifference, secondDifference, tuningOf};
 ghost use Rattle.outputs.specs.History.{remembered, historyAfter, recalled};
 ghost use Rattle.outputs.specs.Instruction.{storedArithmetic, changed, limitedTo, executed};
 ghost use Rattle.outputs.specs.OutputLaws.{ReadingsRange, HistoryRange, PastRange, OutputRange};
@@ -90,14 +90,14 @@ fn recalled(h: History, r: Readings) -> Past
     }
 }
 
-// c, or c1 of earlier values.
-fn deviation(inverse: bool, sp: i64, pv: i64) -> i64
+// c, the control difference, or c1 of earlier values.
+fn control_difference(inverse: bool, sp: i64, pv: i64) -> i64
     requires { ⌜ Small sp × Small pv ⌝ }
-    ensures { λ n. ⌜ n ≡ deviation inverse sp pv ⌝ }
+    ensures { λ n. ⌜ n ≡ controlDifference inverse sp pv ⌝ }
 {
-    let turned = integers::minus(pv, sp);
-    let straight = integers::minus(sp, pv);
-    integers::choose(inverse, turned, straight)
+    let reverse = integers::minus(pv, sp);
+    let direct = integers::minus(sp, pv);
+    integers::choose(inverse, reverse, direct)
 }
 
 fn earlier_setpoint(s: Switches, mode: Mode, r: Readings, past: Past) -> i64
@@ -107,13 +107,13 @@ fn earlier_setpoint(s: Switches, mode: Mode, r: Readings, past: Past) -> i64
     integers::choose(balanced & !s.balanceoff, r.sp, past.sp)
 }
 
-fn change_of_deviation(s: Switches, mode: Mode, r: Readings, past: Past) -> i64
+fn change_of_difference(s: Switches, mode: Mode, r: Readings, past: Past) -> i64
     requires { ⌜ ReadingsRange r × PastRange past ⌝ }
-    ensures { λ n. ⌜ n ≡ changeOfDeviation s mode r past ⌝ }
+    ensures { λ n. ⌜ n ≡ changeOfDifference s mode r past ⌝ }
 {
-    let now = deviation(s.inverseoutput, r.sp, r.pv);
+    let now = control_difference(s.inverseoutput, r.sp, r.pv);
     let sp = earlier_setpoint(s, mode, r, past);
-    let earlier = deviation(s.inverseoutput, sp, past.pv);
+    let earlier = control_difference(s.inverseoutput, sp, past.pv);
     integers::minus(now, earlier)
 }
 
@@ -154,8 +154,8 @@ fn with_terms(p: Parameters, x: Context, r: Readings, h: History, output: i64) -
     let mode = x.mode;
     let t = tuning_of(p, s);
     let past = recalled(h, r);
-    let change = change_of_deviation(s, mode, r, past);
-    let c = deviation(s.inverseoutput, r.sp, r.pv);
+    let change = change_of_difference(s, mode, r, past);
+    let c = control_difference(s.inverseoutput, r.sp, r.pv);
     let d = second_difference(r, past);
     let one = integers::plus(output, terms::proportional(t, change));
     let two = integers::plus(one, terms::integral(t, c));

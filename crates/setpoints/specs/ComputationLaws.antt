@@ -43,7 +43,7 @@ first-most p sample h =
     by-cases (λ (s : ℕ). s ≤ 10000) (eqb (natAbs (IC p)) 1) (rootOf sample) sample (λ e. root-most sample) (λ e. h)
 
 -- a number in -9999..9999
-pub record Reading (z : ℤ) : Type 0 where
+pub record InReadingRange (z : ℤ) : Type 0 where
   pub reading : natAbs z ≤ 9999
 
 -- of a channel whose ends are in range and apart
@@ -61,7 +61,7 @@ module _ (p : Parameters) (legal : Legal p) where
   pub range3 : (sample : ℕ) → sample ≤ 10000 → ChannelRange (L3 p) (H3 p) sample
   range3 = let r = ranges p legal in channel-range (r .channel3) (r .span3)
 
-pub scaled-reading : {low high : ℤ} {sample : ℕ} → ChannelRange low high sample → Reading (scaled low high sample)
+pub scaled-reading : {low high : ℤ} {sample : ℕ} → ChannelRange low high sample → InReadingRange (scaled low high sample)
 scaled-reading {low} {high} {sample} c =
     let w = scaled-within c in
     let z = scaled low high sample in
@@ -69,12 +69,12 @@ scaled-reading {low} {high} {sample} c =
 
 -- ---- small enough to be added and subtracted
 
-pub reading-small : (z : ℤ) → Reading z → Small z
+pub reading-small : (z : ℤ) → InReadingRange z → Small z
 reading-small z r = record { small = omega (arith, r .reading) }
 
 -- between two limits of -9999..9999
 pub inside-reading : (least low v high most : ℤ) → Ordered least low high most → negℤ (pos 9999) ≤ℤ least → most ≤ℤ pos 9999 →
-    Inside low v high → Reading v
+    Inside low v high → InReadingRange v
 inside-reading least low v high most o a b i =
     record { reading = omega (arith, integers, o .not-below, o .not-above, i .not-below, i .not-above, number v, apart v) }
 
@@ -83,10 +83,10 @@ added-small ratioswitch trim h = by-cases Small ratioswitch (pos 0) trim (λ e. 
 
 module _ (p : Parameters) (legal : Legal p) where
   -- every parameter is such a number
-  parameter-reading : (n : ℕ) → 1 ≤ n → n ≤ 23 → Reading (value p n)
+  parameter-reading : (n : ℕ) → 1 ≤ n → n ≤ 23 → InReadingRange (value p n)
   parameter-reading n a b = record { reading = value-most p legal n a b }
 
-  pub setpoint-reading : Reading (SL p)
+  pub setpoint-reading : InReadingRange (SL p)
   setpoint-reading = parameter-reading 20 (omega arith) (omega arith)
 
   pub setpoint-small : Small (SL p)
@@ -98,10 +98,10 @@ module _ (p : Parameters) (legal : Legal p) where
   pub deviation-small : Small (LD p)
   deviation-small = reading-small (LD p) (parameter-reading 14 (omega arith) (omega arith))
 
-  pub low-reading : Reading (L1 p)
+  pub low-reading : InReadingRange (L1 p)
   low-reading = parameter-reading 2 (omega arith) (omega arith)
 
-  pub high-reading : Reading (H1 p)
+  pub high-reading : InReadingRange (H1 p)
   high-reading = parameter-reading 1 (omega arith) (omega arith)
 
   pub bias-small : Small (RB p)
@@ -159,37 +159,37 @@ module _ (p : Parameters) (legal : Legal p) where
   unfolding setpointOf
   limited-setpoint s mode sl rs trim i = setpoint-limited _
 
-  pub setpoint-read : {v : ℤ} → Inside (LS p) v (HS p) → Reading v
+  pub setpoint-read : {v : ℤ} → Inside (LS p) v (HS p) → InReadingRange v
   setpoint-read {v} h =
       let r = ranges p legal in inside-reading _ _ v _ _ (r .setpoints) (omega (arith, integers)) (omega (arith, integers)) h
 
-  pub ratio-read : {v : ℤ} → Inside (LR p) v (HR p) → Reading v
+  pub ratio-read : {v : ℤ} → Inside (LR p) v (HR p) → InReadingRange v
   ratio-read {v} h = let r = ranges p legal in inside-reading _ _ v _ _ (r .ratios) (omega (arith, integers)) (omega (arith, integers)) h
 
   -- ---- readings
 
   module _ (i : Input) (sampled : SampleRange i) where
-    pub pv-reading : Reading (processVariable p i)
+    pub pv-reading : InReadingRange (processVariable p i)
     unfolding processVariable
     pv-reading =
-        by-cases Reading (isOpen i) (L1 p) (scaled (L1 p) (H1 p) (firstSample p (i .sample1)))
+        by-cases InReadingRange (isOpen i) (L1 p) (scaled (L1 p) (H1 p) (firstSample p (i .sample1)))
         (λ e. low-reading p legal)
         (λ e. scaled-reading (range1 p legal _ (first-most p (i .sample1) (sampled .first))))
 
-    third-reading : Reading (thirdChannel p i)
+    third-reading : InReadingRange (thirdChannel p i)
     unfolding thirdChannel
     third-reading = scaled-reading (range3 p legal _ (sampled .third))
 
-    pub trim-reading : (measuredpower : Bool) (mode : Mode) → Reading (trimOf p measuredpower mode i)
+    pub trim-reading : (measuredpower : Bool) (mode : Mode) → InReadingRange (trimOf p measuredpower mode i)
     unfolding trimOf
     trim-reading measuredpower mode =
-        by-cases Reading (isTrack mode || measuredpower) (pos 0) (thirdChannel p i) (λ e. record { reading = omega arith })
+        by-cases InReadingRange (isTrack mode || measuredpower) (pos 0) (thirdChannel p i) (λ e. record { reading = omega arith })
         (λ e. third-reading)
 
-    pub power-reading : (measuredpower : Bool) → Reading (measuredPower p measuredpower i)
+    pub power-reading : (measuredpower : Bool) → InReadingRange (measuredPower p measuredpower i)
     unfolding measuredPower
     power-reading measuredpower =
-        by-cases Reading measuredpower (thirdChannel p i) (pos 0) (λ e. third-reading) (λ e. record { reading = omega arith })
+        by-cases InReadingRange measuredpower (thirdChannel p i) (pos 0) (λ e. third-reading) (λ e. record { reading = omega arith })
 
     -- q, and s of any sum
     pub ratio-range : (sum : ℤ) → RatioRange (scaled (L2 p) (H2 p) (i .sample2)) (natAbs (limited (LR p) (HR p) sum))
@@ -226,5 +226,5 @@ computed-legal p s measuredpower mode i legal =
     (is-within _ _ _ (ratio-inside p legal mode i))
 
 -- a reading is read back from the machine as it is
-pub reading-back : {z : ℤ} → Reading z → toZ w64 (ofZ w64 z) ≡ z
+pub reading-back : {z : ℤ} → InReadingRange z → toZ w64 (ofZ w64 z) ≡ z
 reading-back {z} h = back w64 z (omega (arith, h .reading, number z))

@@ -29,7 +29,7 @@ pub const LOWER: u16 = 7;
 
 pub const RAISE: u16 = 6;
 
-pub const ZERO: u16 = 5;
+pub const RESERVED: u16 = 5;
 
 pub const MEASURED_POWER: u16 = 4;
 

@@ -217,7 +217,7 @@ pub fn scan_verdict(input: Input) -> Verdict
     let sample = (GREATEST_SAMPLE < input.sample1)
         | (GREATEST_SAMPLE < input.sample2)
         | (GREATEST_SAMPLE < input.sample3);
-    let buttons = bit(input.buttons as u16, bits::ZERO)
+    let buttons = bit(input.buttons as u16, bits::RESERVED)
         | bit(input.buttons as u16, bits::MEASURED_POWER);
     let sensors = GREATEST_SENSORS < input.sensors;
     if sample {

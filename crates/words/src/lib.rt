@@ -86,7 +86,7 @@ fn md_high(mode: Mode, c: Conditions) -> u16
 {
     let n = mode_bit(mode);
     let p = signals::pins_of(c.pins);
-    let late = modes::is_open_cause(c.opencount);
+    let opencause = modes::is_open_cause(c.opencount);
     byte(
         n == bits::HOLD,
         n == bits::TRACK,
@@ -94,7 +94,7 @@ fn md_high(mode: Mode, c: Conditions) -> u16
         n == bits::AUTO,
         n == bits::REMOTE,
         p.remote,
-        late,
+        opencause,
         c.fault,
     )
 }

@@ -30,7 +30,7 @@ pub model-restarts-hold : AllHold modelRestarts
 unfolding modelRestarts r.restart r.restartCore r.restartTests r.restartAccepted r.restoredSettings r.repairedSettings
     r.isLegal v.savedImage v.settingsNow v.settingsOf startReadings opOf s.responseFrom s.controllerAfter s.refused
     refusedBy switchesOf f.fieldsFrom f.fieldBytes f.valueBytes f.tagOf f.lengthOf f.withSumcheck f.sumOf f.sum
-    f.saveTests f.savedIn g.formedFrom g.valuesFrom g.valueIn g.isHeaded areLegal every m.repaired
+    f.saveTests f.savedIn g.wellFormedFrom g.valuesFrom g.valueIn g.hasHeader areLegal every m.repaired
     m.setpointAndRatioLimited m.byPairs m.pairedValue m.byRange m.rangedValue m.widestOutput limitedAnew value
     withValue ruleOf t.imageOf t.valuesOf t.valueAt t.userBitsNumber t.userBitsIn t.parameterIn t.parametersIn
     t.settingsIn t.isSumRight t.areOthersLegal t.legalUserBits listed asWord fromWord limited atLeast atMost

@@ -10,7 +10,7 @@ use Rattle.modes.specs.Modes.{counted, openCountAfter}
 use Rattle.parameters.specs.Table.{value, withValue}
 use Rattle.setpoints.specs.Computation as r
 use Rattle.setpoints.specs.Setpoints as p
-use Rattle.outputs.specs.Deviation as d
+use Rattle.outputs.specs.ControlDifference as d
 use Rattle.outputs.specs.Instruction as o
 use Rattle.outputs.specs.Outputs as u
 use Rattle.controller.specs.Answers as a
@@ -33,7 +33,7 @@ unfolding s.scan s.scanCore s.accepted s.responseFrom s.controllerAfter s.contex
     adjustmentOf m.counted m.openCountAfter m.conditionsAfter m.modeOf m.goesToMinimum byteOf mdHigh mdLow MD dsLow DS
     value withValue r.computed r.lowAlarm r.highAlarm p.firstSample p.processVariable p.thirdChannel p.movedByHand
     p.ratioAfter p.setpointMoved p.setpointAfter p.trimOf p.localSetpoint p.setpointIn p.setpointOf p.measuredPower
-    scaled halfUp Limit.limited Limit.atLeast Limit.atMost d.deviation d.earlierSetpoint d.changeOfDeviation
+    scaled halfUp Limit.limited Limit.atLeast Limit.atMost d.controlDifference d.earlierSetpoint d.changeOfDifference
     d.secondDifference d.tuningOf o.storedArithmetic o.changed o.limitedTo o.executed u.termsOf u.byTerms u.limitsIn
     u.instructionOf proportionalTerm integralTerm derivativeTerm limitedTerm storedTerm whole atLeast atMost limited
     stored storedUnits limitedStored nearestEven halfEven p.remoteSetpoint p.ratioSetpoint greatestTo rootOf u.byHand

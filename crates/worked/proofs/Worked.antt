@@ -24,7 +24,7 @@ use Rattle.setpoints.specs.Computation as r
 use Rattle.setpoints.specs.Setpoints as p
 use Rattle.terms.specs.Fraction.{whole, plus, atLeast, atMost, limited, stored, storedUnits, limitedStored}
 use Rattle.terms.specs.Terms.{proportionalTerm, integralTerm, derivativeTerm, limitedTerm, storedTerm}
-use Rattle.outputs.specs.Deviation as d
+use Rattle.outputs.specs.ControlDifference as d
 use Rattle.outputs.specs.Instruction as o
 use Rattle.outputs.specs.Outputs as u
 use Rattle.controller.specs.Answers as a
@@ -51,7 +51,7 @@ unfolding s.scan s.scanCore s.accepted s.responseFrom s.controllerAfter s.contex
     m.goesToMinimum byteOf mdHigh mdLow MD dsLow DS value withValue r.computed r.lowAlarm r.highAlarm p.firstSample
     p.processVariable p.thirdChannel p.movedByHand p.ratioAfter p.setpointMoved p.setpointAfter p.trimOf
     p.localSetpoint p.setpointIn p.setpointOf p.measuredPower scaled halfUp Limit.limited Limit.atLeast Limit.atMost
-    d.deviation d.earlierSetpoint d.changeOfDeviation d.secondDifference d.tuningOf o.storedArithmetic o.changed
+    d.controlDifference d.earlierSetpoint d.changeOfDifference d.secondDifference d.tuningOf o.storedArithmetic o.changed
     o.limitedTo o.executed u.termsOf u.byTerms u.limitsIn u.instructionOf proportionalTerm integralTerm derivativeTerm
     limitedTerm storedTerm whole atLeast atMost limited stored storedUnits limitedStored nearestEven halfEven
 scan-figure = refl

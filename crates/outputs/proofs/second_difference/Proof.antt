@@ -7,7 +7,7 @@ use mir.Syntax.{w64}
 use Rattle.outputs.specs.OutputLaws.{twice, small-of, sum-most, difference-most, reading-size}
 use Rattle.setpoints.specs.ComputationLaws.{reading-back, reading-small}
 use Rattle.integers.specs.Machine.{back}
-use Rattle.outputs.specs.Deviation.{secondDifference}
+use Rattle.outputs.specs.ControlDifference.{secondDifference}
 use Rattle.outputs.proofs.second_difference.Statement.{statement}
 use Rattle.outputs.proofs.second_difference.Tie as tie
 

@@ -3,7 +3,7 @@ use mir.Syntax.{w64}
 use borrow.Author.Needs.{needs}
 use Rattle.setpoints.specs.ComputationLaws.{reading-small, low-reading, high-reading}
 use Rattle.integers.specs.Machine.{back}
-use Rattle.outputs.specs.Deviation.{tuningOf}
+use Rattle.outputs.specs.ControlDifference.{tuningOf}
 use Rattle.outputs.proofs.tuning_of.Statement.{statement}
 use Rattle.outputs.proofs.tuning_of.Tie as tie
 

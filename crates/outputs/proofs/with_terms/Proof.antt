@@ -13,11 +13,11 @@ use Rattle.terms.specs.TermLaws.{proportional-positive, integral-positive, deri
 use Rattle.terms.specs.declared.Tuning.{Tuning}
 use Rattle.setpoints.specs.ComputationLaws.{reading-back, reading-small}
 use Rattle.outputs.specs.declared.Past.{Past}
-use Rattle.outputs.specs.Deviation.{deviation, changeOfDeviation, secondDifference, tuningOf}
+use Rattle.outputs.specs.ControlDifference.{controlDifference, changeOfDifference, secondDifference, tuningOf}
 use Rattle.outputs.specs.History.{recalled}
 use Rattle.outputs.specs.Instruction.{changed, storedArithmetic}
 use Rattle.outputs.specs.Outputs.{termsOf}
-use Rattle.outputs.specs.OutputLaws.{PastRange, recalled-read, deviation-most, change-most, second-most}
+use Rattle.outputs.specs.OutputLaws.{PastRange, recalled-read, control-difference-most, change-most, second-most}
 use Rattle.outputs.specs.OutputLaws.{tuning-range, stored-size, stored-small, term-sized, small-of, sum-most}
 use Rattle.outputs.proofs.with_terms.Statement.{statement}
 use Rattle.outputs.proofs.with_terms.Tie as tie
@@ -36,11 +36,11 @@ past-read c =
     let start = c .before .before .before in
     rw (past-is c) (recalled-read (start .args .h) (start .args .r) (start .pre .2) (start .pre .1))
 
-change-of-deviation-requires : tie.Need-change-of-deviation-requires
-change-of-deviation-requires c κs = (c .before .before .before .pre .1, past-read c)
+change-of-difference-requires : tie.Need-change-of-difference-requires
+change-of-difference-requires c κs = (c .before .before .before .pre .1, past-read c)
 
-deviation-requires : tie.Need-deviation-requires
-deviation-requires c κs =
+control-difference-requires : tie.Need-control-difference-requires
+control-difference-requires c κs =
     let read = c .before .before .before .before .before .before .pre .1 in
     simp (reading-back (read .sp-read), reading-back (read .pv-read)) (reading-small _ (read .sp-read), reading-small _ (read .pv-read))
 
@@ -75,21 +75,21 @@ module _ (c : tie.After-second-difference) where
   past-known = recalled-read (start .args .h) (start .args .r) (start .pre .2) (start .pre .1)
 
   change : ℤ
-  change = changeOfDeviation (start .args .x .switches) (start .args .x .mode) (start .args .r) past
+  change = changeOfDifference (start .args .x .switches) (start .args .x .mode) (start .args .r) past
 
-  change-is : let call = c .before .before .before .before .change-of-deviation in toZ w64 (ofZ w64 (call .result)) ≡ change
+  change-is : let call = c .before .before .before .before .change-of-difference in toZ w64 (ofZ w64 (call .result)) ≡ change
   unfolding change past start
   change-is =
-      let call = c .before .before .before .before .change-of-deviation in
+      let call = c .before .before .before .before .change-of-difference in
       back w64 (call .result) (call .ok) ∙ call .ensures ∙ simp (past-is (c .before .before .before .before .before))
 
   now : ℤ
-  now = deviation inverse (start .args .r .sp) (start .args .r .pv)
+  now = controlDifference inverse (start .args .r .sp) (start .args .r .pv)
 
-  now-is : let call = c .before .deviation in toZ w64 (ofZ w64 (call .result)) ≡ now
+  now-is : let call = c .before .control-difference in toZ w64 (ofZ w64 (call .result)) ≡ now
   unfolding now inverse start
   now-is =
-      let call = c .before .deviation in
+      let call = c .before .control-difference in
       let read = start .pre .1 in
       back w64 (call .result) (call .ok) ∙ call .ensures ∙ simp (reading-back (read .sp-read), reading-back (read .pv-read))
 
@@ -133,7 +133,7 @@ unfolding start now
 integral-requires c κs =
     let b = c .before .before in
     let read = start b .pre .1 in
-    simp (tuning-is b, now-is b) (tuned b, deviation-most _ _ _ (read .sp-read) (read .pv-read))
+    simp (tuning-is b, now-is b) (tuned b, control-difference-most _ _ _ (read .sp-read) (read .pv-read))
 
 integral-is : (c : tie.After-integral) → let b = c .before .before .before in
     toZ w64 (ofZ w64 (c .integral .result)) ≡ storedTerm (integralTerm (tuning b) (now b))
@@ -191,8 +191,8 @@ with-terms-spec =
     (tie.spec
     tuning-of-requires
     recalled-requires
-    change-of-deviation-requires
-    deviation-requires
+    change-of-difference-requires
+    control-difference-requires
     second-difference-requires
     proportional-requires
     plus-requires

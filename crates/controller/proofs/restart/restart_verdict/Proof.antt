@@ -12,12 +12,12 @@ returns : tie.Need-returns
 unfolding refusedBy restartTests
 returns c = simp (ne-eqb _ _ (c .if1 .taken))
 
-is-formed-requires : tie.Need-is-formed-requires
-is-formed-requires c κs = c .if1 .left
+is-well-formed-requires : tie.Need-is-well-formed-requires
+is-well-formed-requires c κs = c .if1 .left
 
 returns-2 : tie.Need-returns-2
 unfolding refusedBy restartTests
-returns-2 c = simp (eq-eqb _ _ (c .before .before .if1 .left), sym (c .before .is-formed .ensures) ∙ not-true _ (c .if2 .taken))
+returns-2 c = simp (eq-eqb _ _ (c .before .before .if1 .left), sym (c .before .is-well-formed .ensures) ∙ not-true _ (c .if2 .taken))
 
 values-of-requires : tie.Need-values-of-requires
 values-of-requires c κs = search needs
@@ -38,14 +38,14 @@ returns-3 : tie.Need-returns-3
 unfolding refusedBy restartTests
 returns-3 c =
     let b = c .before .before .before .before in
-    let formed = sym (b .before .is-formed .ensures) ∙ not-false _ (b .if2 .left) in
+    let formed = sym (b .before .is-well-formed .ensures) ∙ not-false _ (b .if2 .left) in
     simp (eq-eqb _ _ (b .before .before .if1 .left), formed, illegal (c .before) ∙ c .if3 .taken)
 
 returns-4 : tie.Need-returns-4
 unfolding refusedBy restartTests
 returns-4 c =
     let b = c .before .before .before .before in
-    let formed = sym (b .before .is-formed .ensures) ∙ not-false _ (b .if2 .left) in
+    let formed = sym (b .before .is-well-formed .ensures) ∙ not-false _ (b .if2 .left) in
     simp (eq-eqb _ _ (b .before .before .if1 .left), formed, illegal (c .before) ∙ c .if3 .left)
 
 pub restart-verdict-spec : {M : Type 1} → statement M
@@ -53,7 +53,7 @@ restart-verdict-spec =
     tie.close
     (tie.spec
     returns
-    is-formed-requires
+    is-well-formed-requires
     returns-2
     values-of-requires
     is-sum-right-requires

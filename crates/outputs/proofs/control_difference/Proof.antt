@@ -1,11 +1,11 @@
--- `outputs::deviation` meets its contract.
+-- `outputs::control_difference` meets its contract.
 use mir.Facts.{toZ-ofZ}
 use mir.Syntax.{w64}
 use borrow.Author.Needs.{needs}
 use Rattle.integers.specs.Machine.{back}
-use Rattle.outputs.specs.Deviation.{deviation}
-use Rattle.outputs.proofs.deviation.Statement.{statement}
-use Rattle.outputs.proofs.deviation.Tie as tie
+use Rattle.outputs.specs.ControlDifference.{controlDifference}
+use Rattle.outputs.proofs.control_difference.Statement.{statement}
+use Rattle.outputs.proofs.control_difference.Tie as tie
 
 minus-requires : tie.Need-minus-requires
 minus-requires c κs = search needs
@@ -17,7 +17,7 @@ choose-requires : tie.Need-choose-requires
 choose-requires c κs = search needs
 
 returns : tie.Need-returns
-unfolding deviation
+unfolding controlDifference
 returns c =
     let choose = c .choose in
     let minus2 = c .before .minus2 in
@@ -29,5 +29,5 @@ returns c =
     (simp (minus2 .ensures, toZ-ofZ (start .fits .sp), toZ-ofZ (start .fits .pv))
     (simp (minus .ensures, toZ-ofZ (start .fits .sp), toZ-ofZ (start .fits .pv)))))
 
-pub deviation-spec : {M : Type 1} → statement M
-deviation-spec = tie.close (tie.spec minus-requires minus-requires-2 choose-requires returns)
+pub control-difference-spec : {M : Type 1} → statement M
+control-difference-spec = tie.close (tie.spec minus-requires minus-requires-2 choose-requires returns)

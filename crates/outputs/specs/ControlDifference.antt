@@ -12,17 +12,17 @@ use Rattle.setpoints.specs.declared.Readings.{Readings}
 use Rattle.outputs.specs.declared.Past.{Past}
 
 -- "c is SP - PV, or PV - SP with S2.4 ON"
-unfoldable pub deviation : Bool → ℤ → ℤ → ℤ
-deviation inverse sp pv = if inverse then pv -ℤ sp else sp -ℤ pv
+unfoldable pub controlDifference : Bool → ℤ → ℤ → ℤ
+controlDifference inverse sp pv = if inverse then pv -ℤ sp else sp -ℤ pv
 
 -- the SP within c1: the previous one, "but .. the present SP in Auto and Fall-back if S1.1 is OFF"
 unfoldable pub earlierSetpoint : Switches → Mode → Readings → Past → ℤ
 earlierSetpoint s mode r past = if isAutoOrFallback mode && not (s .balanceoff) then r .sp else past .sp
 
 -- c - c1; "c1 is c with the previous PV and SP, but with the present SP in Auto and Fall-back if S1.1 is OFF"
-unfoldable pub changeOfDeviation : Switches → Mode → Readings → Past → ℤ
-changeOfDeviation s mode r past =
-    deviation (s .inverseoutput) (r .sp) (r .pv) -ℤ deviation (s .inverseoutput) (earlierSetpoint s mode r past) (past .pv)
+unfoldable pub changeOfDifference : Switches → Mode → Readings → Past → ℤ
+changeOfDifference s mode r past =
+    controlDifference (s .inverseoutput) (r .sp) (r .pv) -ℤ controlDifference (s .inverseoutput) (earlierSetpoint s mode r past) (past .pv)
 
 -- "D is PV - 2 × previous PV + the one before."
 unfoldable pub secondDifference : Readings → Past → ℤ
