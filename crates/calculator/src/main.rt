@@ -1,6 +1,6 @@
 // Reads calls of the arithmetic on standard input, one to a line, and answers each with one line: a number, or `error`
-// for a line that is no call or has an argument out of its range. The gate compares its answers with a reference model that
-// was made apart from the code.
+// for a line that is no call or has an argument out of its range. The gate compares its answers with a reference model
+// that was made apart from the code.
 mod answer;
 mod print;
 

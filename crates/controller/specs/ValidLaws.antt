@@ -78,7 +78,8 @@ read c x legal s =
 difference-most : (a b : ℤ) → InReadingRange a → InReadingRange b → natAbs (a -ℤ b) ≤ 19998
 difference-most a b h k = omega (arith, difference a b, number a, number b, h .reading, k .reading)
 
-readable : (pv sp mp : ℤ) → InReadingRange pv → InReadingRange sp → InReadingRange mp → Readable (record { pv = pv; sp = sp; er = pv -ℤ sp; mp = mp })
+readable : (pv sp mp : ℤ) → InReadingRange pv → InReadingRange sp → InReadingRange mp →
+    Readable (record { pv = pv; sp = sp; er = pv -ℤ sp; mp = mp })
 readable pv sp mp h k l =
     record {
       pv-most = omega (arith, h .reading);

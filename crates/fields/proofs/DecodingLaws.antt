@@ -19,7 +19,8 @@ pub header-last : (t n : ℕ) (b : List ℕ) → getD b 0 0 ≡ t → getD b 1 0
 unfolding hasHeader
 header-last t n b e0 e1 = simp (eq-eqb _ _ e0, eq-eqb _ _ e1)
 
-well-formed-not : (place many : ℕ) (b : List ℕ) → hasHeader (tagOf place) (lengthOf place) b ≡ false → wellFormedFrom place (suc many) b ≡ false
+well-formed-not : (place many : ℕ) (b : List ℕ) → hasHeader (tagOf place) (lengthOf place) b ≡ false →
+    wellFormedFrom place (suc many) b ≡ false
 unfolding wellFormedFrom
 well-formed-not place many b h = rw h
 

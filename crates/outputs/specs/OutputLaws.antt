@@ -74,7 +74,8 @@ history-kept h isopen r k n = by-cases HistoryRange isopen Nothing (remembered h
 
 -- ---- c, c - c1 and D
 
-pub control-difference-most : (inverse : Bool) (sp pv : ℤ) → InReadingRange sp → InReadingRange pv → natAbs (controlDifference inverse sp pv) ≤ 19998
+pub control-difference-most : (inverse : Bool) (sp pv : ℤ) → InReadingRange sp → InReadingRange pv →
+    natAbs (controlDifference inverse sp pv) ≤ 19998
 unfolding controlDifference
 control-difference-most inverse sp pv h k =
     by-cases (λ (z : ℤ). natAbs z ≤ 19998) inverse (pv -ℤ sp) (sp -ℤ pv)
@@ -99,7 +100,8 @@ change-most s mode r past n k =
       number now,
       number earlier,
       control-difference-most (s .inverseoutput) (r .sp) (r .pv) (n .sp-read) (n .pv-read),
-      control-difference-most (s .inverseoutput) (earlierSetpoint s mode r past) (past .pv) (earlier-reading s mode r past n k) (k .pv-read),
+      control-difference-most (s .inverseoutput) (earlierSetpoint s mode r past) (past .pv)
+          (earlier-reading s mode r past n k) (k .pv-read),
     )
 
 pub twice : (z : ℤ) → z +ℤ z ≡ pos 2 *ℤ z
@@ -194,7 +196,8 @@ difference-most {x} {y} h k = omega (arith, difference-size x y, h .size, k .siz
 pub reading-size : {z : ℤ} → InReadingRange z → Size z 9999
 reading-size {z} h = sized z (h .reading)
 
-pub control-difference-size : (inverse : Bool) {sp pv : ℤ} → InReadingRange sp → InReadingRange pv → Size (controlDifference inverse sp pv) 19998
+pub control-difference-size : (inverse : Bool) {sp pv : ℤ} → InReadingRange sp → InReadingRange pv →
+    Size (controlDifference inverse sp pv) 19998
 control-difference-size inverse {sp} {pv} h k = sized (controlDifference inverse sp pv) (control-difference-most inverse sp pv h k)
 
 pub stored-size : {x : ℤ} → OutputRange x → Size x 655294464

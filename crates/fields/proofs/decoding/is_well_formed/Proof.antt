@@ -73,7 +73,8 @@ loop-again c = let l = c .before .before .before .before .before .before .loop i
 
 returns-2 : tie.Need-returns-2 Inv-loop μ-loop
 returns-2 c =
-    let l = c .before .loop in well-formed-all (c .before .before .before .args .image .now) (l .start) (l .place) (l .inv) (c .loop-test .left)
+    let l = c .before .loop in
+    well-formed-all (c .before .before .before .args .image .now) (l .start) (l .place) (l .inv) (c .loop-test .left)
 
 pub is-well-formed-spec : {M : Type 1} → statement M
 is-well-formed-spec =
