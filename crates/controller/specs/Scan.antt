@@ -42,7 +42,7 @@ contextOf c after i =
 unfoldable pub computedIn : Core → Context → Computed
 computedIn c x = computed (c .parameters) (x .switches) (c .userbits .measuredpower) (x .mode) (x .input)
 
--- ---- what is shown until the next scan: "Alarms are the last scan's."
+-- ---- what is indicated until the next scan: "Alarms are the last scan's."
 unfoldable pub indicationsAfter : Core → Context → Readings → Indications
 indicationsAfter c x r =
     record {

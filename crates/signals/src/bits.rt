@@ -24,7 +24,7 @@ pub const TRACK_PIN: u16 = 6;
 
 pub const REMOTE_PIN: u16 = 5;
 
-// The button byte: laid out as MD bits 7 to 0, with the two of them zero that show no button.
+// The button byte, in the order of MD bits 7 to 0; the two that are no button are zero.
 pub const LOWER: u16 = 7;
 
 pub const RAISE: u16 = 6;

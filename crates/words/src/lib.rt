@@ -15,7 +15,7 @@ pub struct UserBits {
     pub measuredpower: bool,
 }
 
-// What the last scan leaves to be shown beside PV, SP, ER and MP: the button byte, the battery and the alarms.
+// What the last scan leaves to be indicated beside PV, SP, ER and MP: the button byte, the battery and the alarms.
 pub struct Indications {
     pub buttons: u8,
     pub batterylow: bool,
