@@ -10,7 +10,9 @@ import re
 
 MOST_CODE_COLUMNS, MOST_PROSE_COLUMNS = 140, 120
 COMMENT = {".rt": "//", ".antt": "--", ".py": "#", ".txt": "#", "show": "#", "Makefile": "#"}  # by suffix, or by the name
-GENERATED = re.compile(r"crates/worked/specs/Model\w*\.antt")
+# The statements are written by a program; their proofs are one `refl` each in nested pairs, and `rt fmt` would lay each
+# pair out one level deeper than the one before.
+GENERATED = re.compile(r"crates/worked/(?:specs|proofs)/Model\w*\.antt")
 LIST_ITEM = re.compile(r"(?:[-*+]|\d+\.) +")
 
 

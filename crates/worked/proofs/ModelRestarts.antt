@@ -22,7 +22,6 @@ use Rattle.controller.specs.Restart as r
 use Rattle.controller.specs.Save as v
 use Rattle.controller.specs.Scan as s
 use Rattle.controller.specs.State.{startReadings}
-use Rattle.worked.proofs.Worked.{_and_}
 use Rattle.worked.specs.Figures.{AllHold}
 use Rattle.worked.specs.ModelRestarts.{modelRestarts}
 
@@ -37,14 +36,4 @@ unfolding modelRestarts r.restart r.restartCore r.restartTests r.restartAccepted
     storedUnits limitedStored o.storedArithmetic o.changed o.limitedTo o.executed u.minimumOf u.restartedTo
     u.restartInstruction
 model-restarts-hold =
-    refl and refl and refl and refl and refl and refl and refl and refl and refl and refl and refl and refl and
-    refl and refl and refl and refl and refl and refl and refl and refl and refl and refl and refl and refl and
-    refl and refl and refl and refl and refl and refl and refl and refl and refl and refl and refl and refl and
-    refl and refl and refl and refl and refl and refl and refl and refl and refl and refl and refl and refl and
-    refl and refl and refl and refl and refl and refl and refl and refl and refl and refl and refl and refl and
-    refl and refl and refl and refl and refl and refl and refl and refl and refl and refl and refl and refl and
-    refl and refl and refl and refl and refl and refl and refl and refl and refl and refl and refl and refl and
-    refl and refl and refl and refl and refl and refl and refl and
-    (refl, refl) and (refl, refl) and (refl, refl) and (refl, refl) and (refl, refl) and
-    (refl, refl) and (refl, refl) and (refl, refl) and (refl, refl) and (refl, refl) and
-    tt
+    (refl, (refl, (refl, (refl, (refl, (refl, (refl, (refl, (refl, (refl, (refl, (refl, (refl, (refl, (refl, (refl, (refl, (refl, (refl, (refl, (refl, (refl, (refl, (refl, (refl, (refl, (refl, (refl, (refl, (refl, (refl, (refl, (refl, (refl, (refl, (refl, (refl, (refl, (refl, (refl, (refl, (refl, (refl, (refl, (refl, (refl, (refl, (refl, (refl, (refl, (refl, (refl, (refl, (refl, (refl, (refl, (refl, (refl, (refl, (refl, (refl, (refl, (refl, (refl, (refl, (refl, (refl, (refl, (refl, (refl, (refl, (refl, (refl, (refl, (refl, (refl, (refl, (refl, (refl, (refl, (refl, (refl, (refl, (refl, (refl, (refl, (refl, (refl, (refl, (refl, (refl, ((refl, refl), ((refl, refl), ((refl, refl), ((refl, refl), ((refl, refl), ((refl, refl), ((refl, refl), ((refl, refl), ((refl, refl), ((refl, refl), tt)))))))))))))))))))))))))))))))))))))))))))))))))))))))))))))))))))))))))))))))))))))))))))))))))))))

@@ -23,7 +23,6 @@ use Rattle.terms.specs.Fraction.{whole, atLeast, atMost, limited, stored, store
 use Rattle.terms.specs.Terms.{proportionalTerm, integralTerm, derivativeTerm, limitedTerm, storedTerm}
 use Rattle.scaling.specs.Root.{greatestTo, rootOf}
 use Rattle.outputs.specs.History as h
-use Rattle.worked.proofs.Worked.{_and_}
 use Rattle.worked.specs.Figures.{AllHold}
 use Rattle.worked.specs.ModelScans.{modelScans}
 
@@ -39,11 +38,4 @@ unfolding s.scan s.scanCore s.accepted s.responseFrom s.controllerAfter s.contex
     stored storedUnits limitedStored nearestEven halfEven p.remoteSetpoint p.ratioSetpoint greatestTo rootOf u.byHand
     u.minimumOf h.historyAfter ratioQuotient inverseQuotient nearestAway modelScans
 model-scans-hold =
-    refl and refl and refl and refl and refl and refl and refl and refl and refl and refl and refl and refl and
-    refl and refl and refl and refl and refl and refl and refl and refl and refl and refl and refl and refl and
-    refl and refl and refl and refl and refl and refl and refl and refl and refl and refl and refl and refl and
-    refl and refl and refl and refl and refl and refl and refl and refl and refl and refl and refl and refl and
-    refl and refl and refl and refl and refl and refl and refl and refl and refl and refl and refl and refl and
-    refl and refl and refl and refl and refl and refl and refl and refl and refl and refl and refl and refl and
-    refl and refl and refl and refl and refl and
-    tt
+    (refl, (refl, (refl, (refl, (refl, (refl, (refl, (refl, (refl, (refl, (refl, (refl, (refl, (refl, (refl, (refl, (refl, (refl, (refl, (refl, (refl, (refl, (refl, (refl, (refl, (refl, (refl, (refl, (refl, (refl, (refl, (refl, (refl, (refl, (refl, (refl, (refl, (refl, (refl, (refl, (refl, (refl, (refl, (refl, (refl, (refl, (refl, (refl, (refl, (refl, (refl, (refl, (refl, (refl, (refl, (refl, (refl, (refl, (refl, (refl, (refl, (refl, (refl, (refl, (refl, (refl, (refl, (refl, (refl, (refl, (refl, (refl, (refl, (refl, (refl, (refl, (refl, tt)))))))))))))))))))))))))))))))))))))))))))))))))))))))))))))))))))))))))))))
