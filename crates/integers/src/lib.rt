@@ -101,12 +101,8 @@ pub fn nearest_up(n: u64, d: u64) -> u64
     requires { ⌜ 0 < d ⌝ }
     ensures { λ r. ⌜ r ≡ halfUp n d ⌝ }
 {
-    let remainder = n % d;
-    if remainder < d - remainder {
-        n / d
-    } else {
-        n / d + 1
-    }
+    let rest = n % d;
+    if rest < d - rest { n / d } else { n / d + 1 }
 }
 
 // n / d to the nearest whole number, an exact half going to the even neighbour. The contract rules out
@@ -115,12 +111,12 @@ pub fn nearest_even(n: u64, d: u64) -> u64
     requires { ⌜ 0 < d ⌝ }
     ensures { λ r. ⌜ r ≡ halfEven n d ⌝ }
 {
-    let remainder = n % d;
+    let rest = n % d;
     let quotient = n / d;
-    if remainder < d - remainder {
+    if rest < d - rest {
         return quotient;
     }
-    if d - remainder < remainder {
+    if d - rest < rest {
         return quotient + 1;
     }
     if quotient % 2 == 0 {

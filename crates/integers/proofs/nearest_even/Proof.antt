@@ -5,8 +5,8 @@ use Rattle.integers.specs.RoundingLaws.{remainder-fits, room, even-below
 use Rattle.integers.proofs.nearest_even.Statement.{statement}
 use Rattle.integers.proofs.nearest_even.Tie as tie
 
-rem-remainder : tie.Need-rem-remainder
-rem-remainder c = search needs
+rem-rest : tie.Need-rem-rest
+rem-rest c = search needs
 
 div-quotient : tie.Need-div-quotient
 div-quotient c = search needs
@@ -49,7 +49,7 @@ pub nearest-even-spec : {M : Type 1} → statement M
 nearest-even-spec =
     tie.close
     (tie.spec
-    rem-remainder
+    rem-rest
     div-quotient
     sub-if1
     returns

@@ -5,8 +5,8 @@ use Rattle.integers.specs.RoundingLaws.{remainder-fits, room, up-below-h
 use Rattle.integers.proofs.nearest_up.Statement.{statement}
 use Rattle.integers.proofs.nearest_up.Tie as tie
 
-rem-remainder : tie.Need-rem-remainder
-rem-remainder c = search needs
+rem-rest : tie.Need-rem-rest
+rem-rest c = search needs
 
 sub-if1 : tie.Need-sub-if1
 sub-if1 c = remainder-fits (c .args .n) (c .args .d) (c .pre)
@@ -28,4 +28,4 @@ returns-2 c = up-from-half (c .before .args .n) (c .before .args .d) (c .before 
 
 pub nearest-up-spec : {M : Type 1} → statement M
 nearest-up-spec =
-    tie.close (tie.spec rem-remainder sub-if1 div-result div-result-2 add-result returns returns-2)
+    tie.close (tie.spec rem-rest sub-if1 div-result div-result-2 add-result returns returns-2)
