@@ -67,7 +67,7 @@ fn append_text(out: &mut [u8], used: usize, reply: Reply, saved: &[u8]) -> usize
         } => append_words(out, used, md, ds, op, electrical),
         Reply::Image => append_image(out, used, saved),
         Reply::Refused(number) => append_refused(out, used, number),
-        Reply::NoCall => formatting::append_bytes(out, used, b"error"),
+        Reply::Error => formatting::append_bytes(out, used, b"error"),
     }
 }
 
