@@ -4,7 +4,7 @@ use mathlib.Core.Bool.{Bool, true, _&&_}
 use mathlib.Core.List.{List, [], _∷_, _++_}
 use mathlib.Core.Option.{Option, some, none}
 use mathlib.Core.Path.{_≡_}
-use Prim.Native.Nat.{ℕ}
+use Prim.Native.Nat.{ℕ, _+_, _≤_}
 use lib.Dec.{eqb, leb, ltb}
 use lib.ListN.{length, take, drop, replicate}
 use Rattle.integers.specs.Choice.{if_then_else_}
@@ -13,6 +13,7 @@ use Rattle.signals.specs.declared.Verdict.{Verdict}
 use Rattle.signals.specs.declared.Verdict.the-variants as verdict
 use Rattle.fields.specs.Fields.{saveTests, savedIn}
 use Rattle.formatting.specs.Buffer.{buffer, appendAll}
+use Rattle.formatting.specs.Laws.{replaced}
 use Rattle.controller.specs.Answers as answers
 use Rattle.controller.specs.Answers.{Response, words, reading, acceptance, number}
 use Rattle.controller.specs.Read.{read}
@@ -96,12 +97,23 @@ bufferAfter c (Read n) bytes = bytes
 bufferAfter c (Restart count) bytes = bytes
 bufferAfter c Invalid bytes = bytes
 
+-- where the reply to a line begins in the output: at the front where more than 64,000 bytes were used, since those are
+-- written out first
+abbrev pub startOf : ℕ → ℕ
+startOf used = if ltb 64000 used then 0 else used
+
+-- the line of the reply to a command
+abbrev pub lineFor : Controller → Command → List ℕ → List ℕ
+lineFor c command bytes = replyLine (performed c command bytes .reply) (bufferAfter c command bytes)
+
 -- What one line comes to: a command, with the bytes that its parsing left in the buffer, is performed, and the line of
--- its reply is appended to the output, from the front where 64,000 bytes were used.
+-- its reply is appended to the output.
 pub record Performed (c next : Controller) (before after : List ℕ) (used end : ℕ) : Type 0 where
   pub command : Command
   pub bytes : List ℕ
   pub controller : next ≡ performed c command bytes .controller
-  pub output : buffer after end ≡
-      appendAll (buffer before (if ltb 64000 used then 0 else used))
-      (replyLine (performed c command bytes .reply) (bufferAfter c command bytes))
+  pub output : buffer after end ≡ appendAll (buffer before (startOf used)) (lineFor c command bytes)
+  -- the line is not cut, and no other byte of the output changes
+  pub whole : 65536 ≤ length before →
+      buffer after end
+      ≡ buffer (replaced (startOf used) (lineFor c command bytes) before) (startOf used + length (lineFor c command bytes))

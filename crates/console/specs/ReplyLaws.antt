@@ -7,7 +7,8 @@ use native.Mathlib.Nat.{pow-suc, div-lt-iff-lt-mul}
 use native.Mathlib.Omega.{arith}
 use borrow.Author.Tests.{ltb-false}
 use lib.Dec.{ltb}
-use lib.IntN.{ℤ, natAbs}
+use lib.IntN.{ℤ, pos, negsuc, natAbs}
+use lib.Signed.{mag}
 use lib.ListN.{length, take, length-append, length-take}
 use Rattle.integers.specs.Choice.{by-cases}
 use Rattle.integers.specs.Sign.{isNegative}
@@ -88,3 +89,14 @@ pub reply-fits : (reply : Reply) (saved out : List ℕ) (used : ℕ) → InRange
     ≡ buffer (replaced used (replyLine reply saved) out) (used + length (replyLine reply saved))
 reply-fits reply saved out used r few size =
     append-room (replyLine reply saved) out used (omega (arith, reply-length reply saved r))
+
+-- ---- for the proofs of functions
+
+pub start-most : (used : ℕ) → cond (ltb 64000 used) 0 used ≤ 64000
+start-most used =
+    by-cases (λ (n : ℕ). n ≤ 64000) (ltb 64000 used) 0 used (λ e. omega arith) (λ e. let l = ltb-false 64000 used e in omega arith)
+
+-- a value of 32 bits
+pub value-most : (v : ℤ) → mag v < 2147483648 → natAbs v ≤ 2147483648
+value-most (pos n) h = omega arith
+value-most (negsuc n) h = omega arith

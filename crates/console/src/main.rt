@@ -26,7 +26,7 @@ struct Answered {
 }
 
 // Performs the command of a line and appends its reply. The contract rules out a controller other than the one that a
-// command leaves, and any bytes but the line of that command's reply.
+// command leaves, any bytes but the line of that command's reply, and a line that is cut in an output of 65,536 bytes.
 fn line_answer(
     controller: Controller,
     line: &[u8],

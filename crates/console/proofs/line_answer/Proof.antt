@@ -1,6 +1,8 @@
 -- `console::line_answer` meets its contract.
-use mathlib.Core.Path.{ap}
+use mathlib.Core.Path.{ap, _∙_}
 use borrow.Author.Needs.{needs}
+use Rattle.console.specs.Calls.{startOf, performed, bufferAfter}
+use Rattle.console.specs.ReplyLaws.{start-most, reply-fits}
 use Rattle.console.specs.declared.call.Step.{Step}
 use Rattle.console.proofs.line_answer.Statement.{statement}
 use Rattle.console.proofs.line_answer.Tie as tie
@@ -36,15 +38,25 @@ returns : tie.Need-returns
 returns c =
     let a = c .before .before in
     let p = a .before .before .before .before .before in
-    let q = p .before .before .before in (
+    let q = p .before .before .before in
+    let room = q .before .before .before in
+    let start = room .before .before .before .before in
+    let controller = start .args .controller in
+    let command = q .parse .result in
+    let bytes = q .parse .last .1 .1 .0 in
+    let reply = ap (λ (s : Step). s .reply) (p .perform .ensures .0) in
+    let o = rw (room .room .ensures, reply, p .perform .ensures .1) at (a .append-reply .ensures .0) in
+    let range = rw reply at (a .append-reply .ensures .1) in (
       p .perform .ensures .2,
       record {
-        command = q .parse .result;
-        bytes = q .parse .last .1 .1 .0;
+        command = command;
+        bytes = bytes;
         controller = ap (λ (s : Step). s .controller) (p .perform .ensures .0);
-        output =
-            rw (q .before .before .before .room .ensures, ap (λ (s : Step). s .reply) (p .perform .ensures .0), p .perform .ensures .1) at
-            (a .append-reply .ensures);
+        output = o;
+        whole = λ size.
+            o ∙
+            reply-fits (performed controller command bytes .reply) (bufferAfter controller command bytes) (start .args .out .now)
+            (startOf (start .args .used)) range (start-most (start .args .used)) size;
       },
     )
 

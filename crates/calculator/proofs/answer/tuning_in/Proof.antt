@@ -33,8 +33,7 @@ returns c =
     let three = four .before in
     let two = three .before in
     let one = two .before in
-    let start = one .before in
-    (
+    let start = one .before in (
       rw (
         ← (simp (toZ-ofZ (start .fits .xp)) at (one .natural-in .ensures .0)),
         ← (simp (toZ-ofZ (start .fits .span)) at (two .natural-in2 .ensures .0)),
