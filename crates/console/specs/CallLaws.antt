@@ -37,15 +37,10 @@ valid-performed c (Scan input) bytes v = valid-scan c input v
 valid-performed c (Write n value) bytes v = valid-write c n value v
 valid-performed c (Read n) bytes v = v
 valid-performed c (Restart count) bytes v =
-    by-cases (λ (s : Step). Valid (s .controller)) (leb count (length bytes)) (stepOf (restart c (take count bytes))) (unchangedWith c Error)
-    (λ e. valid-restart c (take count bytes) v) (λ e. v)
+    by-cases (λ (s : Step). Valid (s .controller)) (leb count (length bytes)) (stepOf (restart c (take count bytes)))
+    (unchangedWith c Error) (λ e. valid-restart c (take count bytes) v) (λ e. v)
 valid-performed c (Save count) bytes v = v
 valid-performed c Invalid bytes v = v
-
--- the same, as a function's proof has it
-pub valid-step : (c : Controller) (command : Command) (bytes : List ℕ) (s : Step) → Valid c → s ≡ performed c command bytes
-    → Valid (s .controller)
-valid-step c command bytes s v e = rw e (valid-performed c command bytes v)
 
 -- ---- filled buffers
 

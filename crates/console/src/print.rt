@@ -53,8 +53,8 @@ fn append_image(out: &mut [u8], used: usize, saved: &[u8]) -> usize
     formatting::append_hexadecimal(out, name, &saved[0..137])
 }
 
-// What a reply's line has before its end. The contract also says that the reply's numbers are such as its types hold, so
-// that a caller knows how long the line is.
+// What a reply's line has before its end. The contract also says that the reply's numbers are such as its types hold,
+// so that a caller knows how long the line is.
 fn append_text(out: &mut [u8], used: usize, reply: Reply, saved: &[u8]) -> usize
     ensures { λ r. ⌜ (buffer (now (out .exit)) r ≡ appendAll (buffer (now (out .entry)) used) (replyText reply (now (saved .entry))))
         × InRange reply ⌝ }

@@ -3,10 +3,12 @@ use mathlib.Core.Path.{_≡_, refl, ap, _∙_}
 use mir.Syntax.{w32}
 use borrow.Author.Needs.{needs}
 use Rattle.integers.specs.Machine.{back}
+use Rattle.controller.specs.Valid.{Valid}
 use Rattle.controller.specs.declared.Controller.{Controller}
-use Rattle.console.specs.CallLaws.{valid-step}
+use Rattle.console.specs.CallLaws.{valid-performed}
 use Rattle.console.specs.Calls.{replyTo, unchangedWith, performed, bufferAfter}
 use Rattle.console.specs.declared.call.Reply.the-variants.{Accepted, Error}
+use Rattle.console.specs.declared.call.Step.{Step}
 use Rattle.console.proofs.call.perform.Statement.{statement}
 use Rattle.console.proofs.call.perform.Tie as tie
 
@@ -52,41 +54,49 @@ save-requires c κs = search needs
 enum-told : tie.Need-enum-told
 enum-told c = search needs
 
+-- that a step is what the command gives
+abbrev IsStep : tie.Start → Step → Type 0
+IsStep s step = step ≡ performed (s .args .controller) (s .args .command) (s .args .buffer .now)
+
+-- such a step leaves a valid controller
+valid : (s : tie.Start) (step : Step) → IsStep s step → Valid (step .controller)
+valid s step e = rw e (valid-performed (s .args .controller) (s .args .command) (s .args .buffer .now) (s .pre))
+
 returns : tie.Need-returns
 unfolding performed bufferAfter
 returns c =
     let s = c .before .before .before .before .before in
     let e = c .before .before .command .given .1 in
-    let r : unchangedWith (c .fresh .result) Accepted ≡ performed (s .args .controller) (s .args .command) (s .args .buffer .now) =
+    let r : IsStep s (unchangedWith (c .fresh .result) Accepted) =
     rw e (ap (λ (x : Controller). unchangedWith x Accepted) (c .fresh .ensures)) in
-    (r, rw e refl, valid-step (s .args .controller) (s .args .command) (s .args .buffer .now) _ (s .pre) r)
+    (r, rw e refl, valid s _ r)
 
 returns-2 : tie.Need-returns-2
 unfolding performed bufferAfter
 returns-2 c =
     let s = c .before .before .before .before .before in
     let e = c .before .before .command2 .given .1 in
-    let r : c .scan .result ≡ performed (s .args .controller) (s .args .command) (s .args .buffer .now) =
+    let r : IsStep s (c .scan .result) =
     rw e (c .scan .ensures) in
-    (r, rw e refl, valid-step (s .args .controller) (s .args .command) (s .args .buffer .now) _ (s .pre) r)
+    (r, rw e refl, valid s _ r)
 
 returns-3 : tie.Need-returns-3
 unfolding performed bufferAfter
 returns-3 c =
     let s = c .before .before .before .before .before in
     let e = c .before .before .command3 .given .1 in
-    let r : c .write .result ≡ performed (s .args .controller) (s .args .command) (s .args .buffer .now) =
+    let r : IsStep s (c .write .result) =
     rw e (rw (back w32 (c .before .before .command3 .given .0 .1 .0) (c .before .known-told3 .given .1 .0 .1)) at (c .write .ensures)) in
-    (r, rw e refl, valid-step (s .args .controller) (s .args .command) (s .args .buffer .now) _ (s .pre) r)
+    (r, rw e refl, valid s _ r)
 
 returns-4 : tie.Need-returns-4
 unfolding performed bufferAfter
 returns-4 c =
     let s = c .before .before .before .before .before .before in
     let e = c .before .before .before .command4 .given .1 in
-    let r : unchangedWith (s .args .controller) (c .reply-to-read .result) ≡ performed (s .args .controller) (s .args .command) (s .args .buffer .now) =
+    let r : IsStep s (unchangedWith (s .args .controller) (c .reply-to-read .result)) =
     rw e (ap (unchangedWith (s .args .controller)) (c .reply-to-read .ensures ∙ ap replyTo (c .before .read .ensures))) in
-    (r, rw e refl, valid-step (s .args .controller) (s .args .command) (s .args .buffer .now) _ (s .pre) r)
+    (r, rw e refl, valid s _ r)
 
 same-length : tie.Need-same-length
 same-length c = search needs
@@ -96,9 +106,9 @@ unfolding performed bufferAfter
 returns-5 c =
     let s = c .before .before .before .before .before .before in
     let e = c .before .before .before .command5 .given .1 in
-    let r : c .restart .result ≡ performed (s .args .controller) (s .args .command) (s .args .buffer .now) =
+    let r : IsStep s (c .restart .result) =
     rw e (c .restart .ensures) in
-    (r, rw e refl, valid-step (s .args .controller) (s .args .command) (s .args .buffer .now) _ (s .pre) r)
+    (r, rw e refl, valid s _ r)
 
 same-length-2 : tie.Need-same-length-2
 same-length-2 c = search needs
@@ -108,18 +118,18 @@ unfolding performed bufferAfter
 returns-6 c =
     let s = c .before .before .before .before .before .before .before .before in
     let e = c .before .before .before .before .before .command6 .given .1 in
-    let r : unchangedWith (s .args .controller) (c .before .before .save .result) ≡ performed (s .args .controller) (s .args .command) (s .args .buffer .now) =
+    let r : IsStep s (unchangedWith (s .args .controller) (c .before .before .save .result)) =
     rw e (ap (unchangedWith (s .args .controller)) (c .before .before .save .ensures .0)) in
-    (r, rw e (c .before .before .save .ensures .1), valid-step (s .args .controller) (s .args .command) (s .args .buffer .now) _ (s .pre) r)
+    (r, rw e (c .before .before .save .ensures .1), valid s _ r)
 
 returns-7 : tie.Need-returns-7
 unfolding performed bufferAfter
 returns-7 c =
     let s = c .before .before .before in
     let e = c .enum-told .given .1 in
-    let r : unchangedWith (s .args .controller) Error ≡ performed (s .args .controller) (s .args .command) (s .args .buffer .now) =
+    let r : IsStep s (unchangedWith (s .args .controller) Error) =
     rw e (refl) in
-    (r, rw e refl, valid-step (s .args .controller) (s .args .command) (s .args .buffer .now) _ (s .pre) r)
+    (r, rw e refl, valid s _ r)
 
 pub perform-spec : {M : Type 1} → statement M
 perform-spec =
