@@ -1,7 +1,9 @@
 // What a line asks, and its answer. Each argument is tested against its range before the function is called.
+ghost use mathlib.Core.Path.{_≡_};
 ghost use Prim.Native.Nat.{_≤_};
 ghost use lib.IntN.{natAbs};
 ghost use Rattle.terms.specs.Terms.{TuningRange};
+ghost use Rattle.calculator.specs.Arguments.{signedIn, tuningIn};
 use terms::Tuning;
 use text::arguments::Arguments;
 
@@ -16,8 +18,9 @@ struct Signed {
     value: i64,
 }
 
+// The contract rules out a value in range that isn't accepted, and another number in its place.
 fn signed_in(value: i64, most: u64) -> Signed
-    ensures { λ r. ⌜ natAbs (r .value) ≤ most ⌝ }
+    ensures { λ r. ⌜ (r ≡ signedIn value most) × (natAbs (r .value) ≤ most) ⌝ }
 {
     let size = integers::magnitude(value);
     if most < size {
@@ -85,8 +88,9 @@ struct Setting {
     tuning: Tuning,
 }
 
+// The contract rules out arguments that are exchanged, one that isn't tested, and legal ones that aren't accepted.
 fn tuning_in(xp: i64, span: i64, ti: i64, td: i64, minutes: i64, inverted: i64) -> Setting
-    ensures { λ r. ⌜ TuningRange (r .tuning) ⌝ }
+    ensures { λ r. ⌜ (r ≡ tuningIn xp span ti td minutes inverted) × TuningRange (r .tuning) ⌝ }
 {
     let x = text::arguments::natural_in(xp, 1, 9999);
     let w = text::arguments::natural_in(span, 1, 19998);

@@ -1,1 +1,4 @@
 pub mod Replies
+pub mod Calls
+pub mod CallLaws
+pub mod ReplyLaws

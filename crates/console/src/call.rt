@@ -1,8 +1,12 @@
-// What comes of a request: the controller's next state, and the reply. Every controller that is handed on is valid, so
-// that the next call may be made.
+// What comes of a command: the controller's next state, and the reply.
 ghost use mathlib.Core.Path.{_≡_};
+ghost use Rattle.controller.specs.Answers.{replyOf, replyOfVerdict, replyOfRead};
+ghost use Rattle.controller.specs.Read.{read};
+ghost use Rattle.controller.specs.Scan.{scan};
 ghost use Rattle.controller.specs.Valid.{Valid};
-use crate::request::Request;
+ghost use Rattle.controller.specs.Write.{write};
+ghost use Rattle.console.specs.Calls.{replyTo, stepOf, performed, bufferAfter};
+use crate::request::Command;
 use controller::Answer;
 use controller::Controller;
 use controller::ReadAnswer;
@@ -21,7 +25,8 @@ pub enum Reply {
     // the image that was saved in the buffer beside
     Image,
     Refused(u8),
-    NoCall,
+    // the line was no command
+    Error,
 }
 
 // The controller after a line, and the reply to it.
@@ -30,7 +35,10 @@ pub struct Step {
     pub reply: Reply,
 }
 
-fn reply_of(answer: Answer) -> Reply {
+// The contract rules out words that are exchanged, and another number of a refusal.
+fn reply_of(answer: Answer) -> Reply
+    ensures { λ r. ⌜ r ≡ replyTo (replyOf answer) ⌝ }
+{
     match answer {
         Answer::Words {
             md,
@@ -47,40 +55,30 @@ fn reply_of(answer: Answer) -> Reply {
     }
 }
 
-pub fn reply_to_verdict(verdict: Verdict) -> Reply {
+// The contract rules out an acceptance that is answered as a refusal, and another number.
+pub fn reply_to_verdict(verdict: Verdict) -> Reply
+    ensures { λ r. ⌜ r ≡ replyTo (replyOfVerdict verdict) ⌝ }
+{
     match verdict {
         Verdict::Accepted => Reply::Accepted,
         Verdict::Refused(refusal) => Reply::Refused(refusal.number()),
     }
 }
 
-fn reply_to_read(answer: ReadAnswer) -> Reply {
+// The contract rules out another value, and another number of a refusal.
+fn reply_to_read(answer: ReadAnswer) -> Reply
+    ensures { λ r. ⌜ r ≡ replyTo (replyOfRead answer) ⌝ }
+{
     match answer {
         ReadAnswer::Value(v) => Reply::Value(v),
         ReadAnswer::Refused(refusal) => Reply::Refused(refusal.number()),
     }
 }
 
-// A call that leaves the controller as it was.
-pub fn unchanged(controller: Controller, reply: Reply) -> Step
-    ensures { λ r. ⌜ r ≡ record { controller = controller; reply = reply } ⌝ }
-{
-    Step { controller, reply }
-}
-
-fn fresh(sw: u16) -> Step
-    ensures { λ r. ⌜ Valid (r .controller) ⌝ }
-{
-    let controller = Controller::fresh(sw);
-    Step {
-        controller,
-        reply: Reply::Accepted,
-    }
-}
-
+// The contract rules out the reply of another call, and a controller that isn't the one which the scan returned.
 fn scan(controller: Controller, input: Input) -> Step
     requires { ⌜ Valid controller ⌝ }
-    ensures { λ r. ⌜ Valid (r .controller) ⌝ }
+    ensures { λ r. ⌜ r ≡ stepOf (scan controller input) ⌝ }
 {
     let r = controller.scan(input);
     let next = r.controller;
@@ -91,9 +89,10 @@ fn scan(controller: Controller, input: Input) -> Step
     }
 }
 
+// The contract rules out the same of a write.
 fn write(controller: Controller, number: u64, value: i32) -> Step
     requires { ⌜ Valid controller ⌝ }
-    ensures { λ r. ⌜ Valid (r .controller) ⌝ }
+    ensures { λ r. ⌜ r ≡ stepOf (write controller number value) ⌝ }
 {
     let r = controller.write(number, value);
     let next = r.controller;
@@ -104,28 +103,37 @@ fn write(controller: Controller, number: u64, value: i32) -> Step
     }
 }
 
-fn read(controller: Controller, number: u64) -> Reply
+// Performs a command, with the buffer that holds a restart's bytes and takes a saved image. The contract gives the next
+// controller, the reply and every byte of the buffer, so it rules out the reply of another call, a controller that
+// isn't handed on, and a command that is always an error; and a controller that the next call could not take.
+pub fn perform(controller: Controller, command: Command, buffer: &mut [u8]) -> Step
     requires { ⌜ Valid controller ⌝ }
+    ensures { λ r. ⌜ (r ≡ performed controller command (now (buffer .entry)))
+        × (now (buffer .exit) ≡ bufferAfter controller command (now (buffer .entry)))
+        × Valid (r .controller) ⌝ }
 {
-    reply_to_read(controller.read(number))
-}
-
-// Makes the call that was asked, with the buffer that holds a restart's bytes and takes a saved image. The contract
-// rules out a controller that the next call could not take.
-pub fn perform(controller: Controller, request: Request, buffer: &mut [u8]) -> Step
-    requires { ⌜ Valid controller ⌝ }
-    ensures { λ r. ⌜ Valid (r .controller) ⌝ }
-{
-    match request {
-        Request::Fresh(sw) => fresh(sw),
-        Request::Scan(input) => scan(controller, input),
-        Request::Write(number, value) => write(controller, number, value),
-        Request::Read(number) => unchanged(controller, read(controller, number)),
-        Request::Restart(count) => crate::image::restart(controller, count, buffer),
-        Request::Save(count) => unchanged(
+    match command {
+        Command::Fresh(sw) => Step {
+            controller: Controller::fresh(sw),
+            reply: Reply::Accepted,
+        },
+        Command::Scan(input) => scan(controller, input),
+        Command::Write(number, value) => write(controller, number, value),
+        Command::Read(number) => {
+            let answer = controller.read(number);
+            Step {
+                controller,
+                reply: reply_to_read(answer),
+            }
+        }
+        Command::Restart(count) => crate::image::restart(controller, count, buffer),
+        Command::Save(count) => {
+            let reply = crate::image::save(controller, count, buffer);
+            Step { controller, reply }
+        }
+        Command::Invalid => Step {
             controller,
-            crate::image::save(controller, count, buffer),
-        ),
-        Request::NoCall => unchanged(controller, Reply::NoCall),
+            reply: Reply::Error,
+        },
     }
 }

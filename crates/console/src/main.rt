@@ -11,6 +11,7 @@
 ghost use mathlib.Core.Path.{_≡_};
 ghost use lib.ListN.{length};
 ghost use Rattle.controller.specs.Valid.{Valid};
+ghost use Rattle.console.specs.Calls.{Performed};
 use controller::Controller;
 
 mod call;
@@ -24,6 +25,8 @@ struct Answered {
     used: usize,
 }
 
+// Performs the command of a line and appends its reply. The contract rules out a controller other than the one that a
+// command leaves, any bytes but the line of that command's reply, and a line that is cut in an output of 65,536 bytes.
 fn line_answer(
     controller: Controller,
     line: &[u8],
@@ -32,12 +35,13 @@ fn line_answer(
     used: usize,
 ) -> Answered
     requires { ⌜ Valid controller ⌝ }
-    ensures { λ r. ⌜ Valid (r .controller) ⌝ }
+    ensures { λ r. ⌜ Valid (r .controller)
+        × Performed controller (r .controller) (now (out .entry)) (now (out .exit)) used (r .used) ⌝ }
 {
     let free = lines::room(out, used);
     let mut buffer = image::buffer();
-    let request = request::parse(line, len, &mut buffer);
-    let step = call::perform(controller, request, &mut buffer);
+    let command = request::parse(line, len, &mut buffer);
+    let step = call::perform(controller, command, &mut buffer);
     let next = step.controller;
     let reply = step.reply;
     Answered {

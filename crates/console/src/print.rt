@@ -2,6 +2,7 @@
 ghost use mathlib.Core.Path.{_≡_};
 ghost use mathlib.Core.List.{[]};
 ghost use Rattle.formatting.specs.Buffer.{buffer, appendAll};
+ghost use Rattle.console.specs.ReplyLaws.{InRange};
 ghost use Rattle.console.specs.Replies.{spaced, replyText, replyLine};
 ghost use Rattle.console.specs.declared.call.Reply.the-variants.{Value, Words, Image, Refused};
 use crate::call::Reply;
@@ -52,9 +53,11 @@ fn append_image(out: &mut [u8], used: usize, saved: &[u8]) -> usize
     formatting::append_hexadecimal(out, name, &saved[0..137])
 }
 
-// What a reply's line has before its end.
+// What a reply's line has before its end. The contract also says that the reply's numbers are such as its types hold,
+// so that a caller knows how long the line is.
 fn append_text(out: &mut [u8], used: usize, reply: Reply, saved: &[u8]) -> usize
-    ensures { λ r. ⌜ buffer (now (out .exit)) r ≡ appendAll (buffer (now (out .entry)) used) (replyText reply (now (saved .entry))) ⌝ }
+    ensures { λ r. ⌜ (buffer (now (out .exit)) r ≡ appendAll (buffer (now (out .entry)) used) (replyText reply (now (saved .entry))))
+        × InRange reply ⌝ }
 {
     match reply {
         Reply::Accepted => formatting::append_bytes(out, used, b"ok"),
@@ -67,14 +70,15 @@ fn append_text(out: &mut [u8], used: usize, reply: Reply, saved: &[u8]) -> usize
         } => append_words(out, used, md, ds, op, electrical),
         Reply::Image => append_image(out, used, saved),
         Reply::Refused(number) => append_refused(out, used, number),
-        Reply::NoCall => formatting::append_bytes(out, used, b"error"),
+        Reply::Error => formatting::append_bytes(out, used, b"error"),
     }
 }
 
 // The line of a reply; `saved` is the buffer that a save wrote into. The contract rules out the line of another reply,
 // and one with no end.
 pub fn append_reply(out: &mut [u8], used: usize, reply: Reply, saved: &[u8]) -> usize
-    ensures { λ r. ⌜ buffer (now (out .exit)) r ≡ appendAll (buffer (now (out .entry)) used) (replyLine reply (now (saved .entry))) ⌝ }
+    ensures { λ r. ⌜ (buffer (now (out .exit)) r ≡ appendAll (buffer (now (out .entry)) used) (replyLine reply (now (saved .entry))))
+        × InRange reply ⌝ }
 {
     let end = append_text(out, used, reply, saved);
     formatting::append_byte(out, end, b'\n')

@@ -5,7 +5,7 @@ use signals::Input;
 use text::arguments::Arguments;
 use text::hexadecimal::Count;
 
-pub enum Request {
+pub enum Command {
     Fresh(u16),
     Scan(Input),
     // a parameter's number and a value
@@ -15,20 +15,20 @@ pub enum Request {
     Restart(usize),
     // into so many bytes
     Save(usize),
-    NoCall,
+    Invalid,
 }
 
 // fresh SW
-fn fresh(values: [i64; 6]) -> Request {
+fn fresh(values: [i64; 6]) -> Command {
     let sw = text::arguments::natural_in(values[0], 0, 65535);
     if sw.ok {
-        return Request::Fresh(sw.value as u16);
+        return Command::Fresh(sw.value as u16);
     }
-    Request::NoCall
+    Command::Invalid
 }
 
 // scan PINS S1 S2 S3 BUTTONS SENSORS
-fn scan(values: [i64; 6]) -> Request {
+fn scan(values: [i64; 6]) -> Command {
     let pins = text::arguments::natural_in(values[0], 0, 255);
     let sample1 = text::arguments::natural_in(values[1], 0, 65535);
     let sample2 = text::arguments::natural_in(values[2], 0, 65535);
@@ -36,7 +36,7 @@ fn scan(values: [i64; 6]) -> Request {
     let buttons = text::arguments::natural_in(values[4], 0, 255);
     let sensors = text::arguments::natural_in(values[5], 0, 255);
     if pins.ok & sample1.ok & sample2.ok & sample3.ok & buttons.ok & sensors.ok {
-        return Request::Scan(Input {
+        return Command::Scan(Input {
             pins: pins.value as u8,
             sample1: sample1.value as u16,
             sample2: sample2.value as u16,
@@ -45,7 +45,7 @@ fn scan(values: [i64; 6]) -> Request {
             sensors: sensors.value as u8,
         });
     }
-    Request::NoCall
+    Command::Invalid
 }
 
 // The number of a parameter, as a line has it: one below zero is no parameter's, and 0 stands for it.
@@ -55,26 +55,26 @@ fn number_in(value: i64) -> u64 {
 }
 
 // write NUMBER VALUE: a value that 32 bits don't hold is no call
-fn write(values: [i64; 6]) -> Request {
+fn write(values: [i64; 6]) -> Command {
     let number = number_in(values[0]);
     let v = values[1];
     if integers::not_above(-2147483648, v) & integers::not_above(v, 2147483647) {
-        return Request::Write(number, integers::narrow(v));
+        return Command::Write(number, integers::narrow(v));
     }
-    Request::NoCall
+    Command::Invalid
 }
 
 // save LENGTH
-fn save(values: [i64; 6]) -> Request {
+fn save(values: [i64; 6]) -> Command {
     let size = text::arguments::natural_in(values[0], 0, 300);
     if size.ok {
-        return Request::Save(size.value as usize);
+        return Command::Save(size.value as usize);
     }
-    Request::NoCall
+    Command::Invalid
 }
 
 // A call whose arguments are numbers.
-fn of_numbers(word: &[u8], a: Arguments) -> Request {
+fn of_numbers(word: &[u8], a: Arguments) -> Command {
     let values = a.values;
     if text::arguments::is_call(word, b"scan", a, 6) {
         return scan(values);
@@ -83,7 +83,7 @@ fn of_numbers(word: &[u8], a: Arguments) -> Request {
         return write(values);
     }
     if text::arguments::is_call(word, b"read", a, 1) {
-        return Request::Read(number_in(values[0]));
+        return Command::Read(number_in(values[0]));
     }
     if text::arguments::is_call(word, b"fresh", a, 1) {
         return fresh(values);
@@ -91,11 +91,11 @@ fn of_numbers(word: &[u8], a: Arguments) -> Request {
     if text::arguments::is_call(word, b"save", a, 1) {
         return save(values);
     }
-    Request::NoCall
+    Command::Invalid
 }
 
 // restart HEX, or - for no bytes: one argument, which is no number
-fn restart(line: &[u8], start: usize, bytes: &mut [u8]) -> Request
+fn restart(line: &[u8], start: usize, bytes: &mut [u8]) -> Command
     requires { ⌜ start ≤ length (now line) ⌝ }
 {
     let w = text::word(line, start);
@@ -103,19 +103,19 @@ fn restart(line: &[u8], start: usize, bytes: &mut [u8]) -> Request
     let to = w.to;
     let behind = text::word(line, to);
     if behind.from < behind.to {
-        return Request::NoCall;
+        return Command::Invalid;
     }
     let count = text::hexadecimal::parse(&line[from..to], bytes);
     match count {
-        Count::Bytes(n) => Request::Restart(n),
-        Count::Malformed => Request::NoCall,
+        Count::Bytes(n) => Command::Restart(n),
+        Count::Malformed => Command::Invalid,
     }
 }
 
 // What a line asks, with a buffer for the bytes of a restart. A line that fills its whole buffer is too long.
-pub fn parse(line: &[u8], len: usize, bytes: &mut [u8]) -> Request {
+pub fn parse(line: &[u8], len: usize, bytes: &mut [u8]) -> Command {
     if line.len() <= len {
-        return Request::NoCall;
+        return Command::Invalid;
     }
     let call = &line[0..len];
     let w = text::word(call, 0);

@@ -1,12 +1,33 @@
 -- Laws of the eight modes: what a computed test finds of each of them holds of any.
-use mathlib.Core.Path.{_≡_, refl}
+use mathlib.Core.Path.{_≡_, refl, sym, ap, _∙_}
 use mathlib.Core.Bool.{Bool, true, false, not, _&&_, _||_, Bool·beq, and-false}
-use mathlib.Core.List.{List}
+use mathlib.Core.List.{List, [], _∷_}
 use Prim.Native.Nat.{ℕ}
+use lib.ListN.{getD}
 use mir.Val.{hasKey}
 use types.Run.{OneOf, miss}
+use Rattle.modes.specs.Modes.{modeIndex}
 use Rattle.modes.specs.declared.Mode.{Mode}
 use Rattle.modes.specs.declared.Mode.the-variants.{Hold, Track, Forced, Manual, Auto, Remote, Ratio, Fallback}
+
+-- the mode with an index
+modeAt : ℕ → Mode
+modeAt n = getD (Hold ∷ Track ∷ Forced ∷ Manual ∷ Auto ∷ Remote ∷ Ratio ∷ Fallback ∷ []) n Hold
+
+at-index : (mode : Mode) → modeAt (modeIndex mode) ≡ mode
+unfolding modeAt
+at-index Hold = refl
+at-index Track = refl
+at-index Forced = refl
+at-index Manual = refl
+at-index Auto = refl
+at-index Remote = refl
+at-index Ratio = refl
+at-index Fallback = refl
+
+-- two modes with the same index are the same mode
+pub index-apart : (a b : Mode) → modeIndex a ≡ modeIndex b → a ≡ b
+index-apart a b e = sym (at-index a) ∙ ap modeAt e ∙ at-index b
 
 -- whether the test holds of every mode
 abbrev pub everyMode : (Mode → Bool) → Bool

@@ -80,21 +80,21 @@ modeOf c ratioswitch =
 
 -- ---- properties of a mode
 
--- its place in the priority order: no two modes have the same
-abbrev pub placeOf : Mode → ℕ
-placeOf Hold = 0
-placeOf Track = 1
-placeOf Forced = 2
-placeOf Manual = 3
-placeOf Auto = 4
-placeOf Remote = 5
-placeOf Ratio = 6
-placeOf Fallback = 7
+-- an index for each mode, no two alike
+abbrev pub modeIndex : Mode → ℕ
+modeIndex Hold = 0
+modeIndex Track = 1
+modeIndex Forced = 2
+modeIndex Manual = 3
+modeIndex Auto = 4
+modeIndex Remote = 5
+modeIndex Ratio = 6
+modeIndex Fallback = 7
 
 -- whether the mode is one of these
 abbrev pub isOneOf : List Mode → Mode → Bool
 isOneOf [] mode = false
-isOneOf (one ∷ others) mode = eqb (placeOf one) (placeOf mode) || isOneOf others mode
+isOneOf (one ∷ others) mode = eqb (modeIndex one) (modeIndex mode) || isOneOf others mode
 
 -- "Auto, Remote, Ratio and Fall-back are automatic."
 abbrev pub isAutomatic : Mode → Bool

@@ -1,38 +1,64 @@
 -- `console::line_answer` meets its contract.
-use native.Mathlib.Omega.{arith}
+use mathlib.Core.Path.{ap, _∙_}
 use borrow.Author.Needs.{needs}
+use Rattle.console.specs.Calls.{startOf, performed, bufferAfter}
+use Rattle.console.specs.ReplyLaws.{start-most, reply-fits}
+use Rattle.console.specs.declared.call.Step.{Step}
 use Rattle.console.proofs.line_answer.Statement.{statement}
 use Rattle.console.proofs.line_answer.Tie as tie
 
 room-requires : tie.Need-room-requires
-room-requires c κs = tt
+room-requires c κs = search needs
 
 buffer-requires : tie.Need-buffer-requires
-buffer-requires c κs = tt
+buffer-requires c κs = search needs
 
 slice-aggregate-parse : tie.Need-slice-aggregate-parse
-slice-aggregate-parse c = omega arith
+slice-aggregate-parse c = search needs
 
 parse-requires : tie.Need-parse-requires
-parse-requires c κs = tt
+parse-requires c κs = search needs
 
 slice-aggregate-perform : tie.Need-slice-aggregate-perform
-slice-aggregate-perform c = omega arith
+slice-aggregate-perform c = search needs
 
 perform-requires : tie.Need-perform-requires
 perform-requires c κs = search needs
 
 slice-aggregate-append-reply : tie.Need-slice-aggregate-append-reply
-slice-aggregate-append-reply c = omega arith
+slice-aggregate-append-reply c = search needs
 
 append-reply-requires : tie.Need-append-reply-requires
-append-reply-requires c κs = tt
+append-reply-requires c κs = search needs
 
 same-length : tie.Need-same-length
-same-length c = omega arith
+same-length c = search needs
 
 returns : tie.Need-returns
-returns c = search needs
+returns c =
+    let a = c .before .before in
+    let p = a .before .before .before .before .before in
+    let q = p .before .before .before in
+    let room = q .before .before .before in
+    let start = room .before .before .before .before in
+    let controller = start .args .controller in
+    let command = q .parse .result in
+    let bytes = q .parse .last .1 .1 .0 in
+    let reply = ap (λ (s : Step). s .reply) (p .perform .ensures .0) in
+    let o = rw (room .room .ensures, reply, p .perform .ensures .1) at (a .append-reply .ensures .0) in
+    let range = rw reply at (a .append-reply .ensures .1) in (
+      p .perform .ensures .2,
+      record {
+        command = command;
+        bytes = bytes;
+        controller = ap (λ (s : Step). s .controller) (p .perform .ensures .0);
+        output = o;
+        whole = λ size.
+            o ∙
+            reply-fits (performed controller command bytes .reply) (bufferAfter controller command bytes) (start .args .out .now)
+            (startOf (start .args .used)) range (start-most (start .args .used)) size;
+      },
+    )
 
 pub line-answer-spec : {M : Type 1} → statement M
 line-answer-spec =

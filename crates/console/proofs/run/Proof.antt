@@ -57,7 +57,7 @@ loop-again c =
       n .next-line .kept .0 ∙ l .loop .inv .0,
       n .next-line .kept .1 .0 ∙ l .loop .inv .1,
       a .line-answer .kept .1 .1 .1 .0 ∙ l .loop .inv .2,
-      a .line-answer .ensures,
+      a .line-answer .ensures .0,
     )
 
 same-length-4 : tie.Need-same-length-4 Inv-loop μ-loop

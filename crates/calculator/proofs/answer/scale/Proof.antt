@@ -34,13 +34,13 @@ scale-requires c κs =
     let d = c .before .before .before .before .before .before .before .before in
     let low = d .before .before .before .before .signed-in .result .value in
     let high = d .before .before .signed-in2 .result .value in
-    let low-fits : SFits w64 low = omega (arith, d .before .before .before .before .signed-in .ensures, number low) in
-    let high-fits : SFits w64 high = omega (arith, d .before .before .signed-in2 .ensures, number high) in
+    let low-fits : SFits w64 low = omega (arith, d .before .before .before .before .signed-in .ensures .1, number low) in
+    let high-fits : SFits w64 high = omega (arith, d .before .before .signed-in2 .ensures .1, number high) in
     omega (
       arith,
       integers,
-      d .before .before .before .before .signed-in .ensures,
-      d .before .before .signed-in2 .ensures,
+      d .before .before .before .before .signed-in .ensures .1,
+      d .before .before .signed-in2 .ensures .1,
       d .natural-in .ensures,
       reads low-fits,
       reads high-fits,

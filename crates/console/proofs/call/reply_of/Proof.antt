@@ -1,4 +1,5 @@
 -- `console::call::reply_of` meets its contract.
+use mathlib.Core.Path.{refl}
 use native.Mathlib.Omega.{arith}
 use Rattle.console.proofs.call.reply_of.Statement.{statement}
 use Rattle.console.proofs.call.reply_of.Tie as tie
@@ -13,10 +14,10 @@ number-requires : tie.Need-number-requires
 number-requires c κs = tt
 
 returns : tie.Need-returns
-returns c = tt
+returns c = rw (c .before .answer .given .1) refl
 
 returns-2 : tie.Need-returns-2
-returns-2 c = tt
+returns-2 c = rw (c .before .before .answer2 .given .1, c .number .ensures) refl
 
 pub reply-of-spec : {M : Type 1} → statement M
 reply-of-spec =

@@ -1,4 +1,5 @@
 -- `console::call::reply_to_verdict` meets its contract.
+use mathlib.Core.Path.{refl}
 use native.Mathlib.Omega.{arith}
 use Rattle.console.proofs.call.reply_to_verdict.Statement.{statement}
 use Rattle.console.proofs.call.reply_to_verdict.Tie as tie
@@ -13,10 +14,10 @@ number-requires : tie.Need-number-requires
 number-requires c κs = tt
 
 returns : tie.Need-returns
-returns c = tt
+returns c = rw (c .enum-told .given .1) refl
 
 returns-2 : tie.Need-returns-2
-returns-2 c = tt
+returns-2 c = rw (c .before .before .verdict .given .1, c .number .ensures) refl
 
 pub reply-to-verdict-spec : {M : Type 1} → statement M
 reply-to-verdict-spec =

@@ -1,9 +1,8 @@
 -- `console::call::write` meets its contract.
-use mathlib.Core.Path.{sym, ap, subst}
+use mathlib.Core.Path.{ap}
+use mir.Facts.{toZ-ofZ}
 use borrow.Author.Needs.{needs}
-use Rattle.controller.specs.WriteLaws.{valid-write}
-use Rattle.controller.specs.Valid.{Valid}
-use Rattle.controller.specs.Answers.{Response}
+use Rattle.console.specs.Calls.{stepOf}
 use Rattle.console.proofs.call.write.Statement.{statement}
 use Rattle.console.proofs.call.write.Tie as tie
 
@@ -14,10 +13,9 @@ reply-to-verdict-requires : tie.Need-reply-to-verdict-requires
 reply-to-verdict-requires c κs = tt
 
 returns : tie.Need-returns
-returns c = let write = c .before .before in
-    let start = write .before in
-    subst Valid (sym (ap (λ (h : Response). h .next) (write .write .ensures)))
-    (valid-write (start .args .controller) (start .args .number) _ (start .pre))
+returns c =
+    let w = c .before .before in
+    rw (c .reply-to-verdict .ensures) (rw (toZ-ofZ (w .before .fits .value)) at (ap stepOf (w .write .ensures)))
 
 pub write-spec : {M : Type 1} → statement M
 write-spec = tie.close (tie.spec write-requires reply-to-verdict-requires returns)

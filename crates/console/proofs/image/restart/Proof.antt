@@ -1,38 +1,43 @@
 -- `console::image::restart` meets its contract.
-use native.Mathlib.Omega.{arith}
+use mathlib.Core.Path.{refl, ap}
+use native.Mathlib.Nat.{sub-zero}
 use borrow.Author.Needs.{needs}
+use borrow.Author.Tests.{le-leb, lt-leb}
+use Rattle.console.specs.Calls.{stepOf}
 use Rattle.console.proofs.image.restart.Statement.{statement}
 use Rattle.console.proofs.image.restart.Tie as tie
 
-sub-restarted : tie.Need-sub-restarted
-sub-restarted c = omega arith
+sub-restart : tie.Need-sub-restart
+sub-restart c = search needs
 
-part-restarted-start : tie.Need-part-restarted-start
-part-restarted-start c = omega arith
+part-restart-start : tie.Need-part-restart-start
+part-restart-start c = search needs
 
-part-restarted-end : tie.Need-part-restarted-end
-part-restarted-end c = omega arith
+part-restart-end : tie.Need-part-restart-end
+part-restart-end c = search needs
 
-restarted-requires : tie.Need-restarted-requires
-restarted-requires c κs = search needs
+restart-requires : tie.Need-restart-requires
+restart-requires c κs = search needs
+
+reply-to-verdict-requires : tie.Need-reply-to-verdict-requires
+reply-to-verdict-requires c κs = search needs
 
 returns : tie.Need-returns
-returns c = search needs
-
-unchanged-requires : tie.Need-unchanged-requires
-unchanged-requires c κs = tt
+returns c =
+    rw (le-leb _ _ (c .before .before .before .before .if1 .taken), c .reply-to-verdict .ensures)
+    (rw sub-zero at (ap stepOf (c .before .before .restart .ensures)))
 
 returns-2 : tie.Need-returns-2
-returns-2 c = rw (c .unchanged .ensures) (c .before .before .before .pre)
+returns-2 c = rw (lt-leb _ _ (c .if1 .left)) refl
 
 pub restart-spec : {M : Type 1} → statement M
 restart-spec =
     tie.close
     (tie.spec
-    sub-restarted
-    part-restarted-start
-    part-restarted-end
-    restarted-requires
+    sub-restart
+    part-restart-start
+    part-restart-end
+    restart-requires
+    reply-to-verdict-requires
     returns
-    unchanged-requires
     returns-2)

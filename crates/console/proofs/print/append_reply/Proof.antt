@@ -20,8 +20,10 @@ unfolding replyLine
 returns c =
     let e = c .before .before in
     let t = e .before .before .before .before in
-    let s = t .before .before .before .before in
-    then (buffer (s .args .out .now) (s .args .used)) _ _ (t .append-text .ensures) (e .append-byte .ensures)
+    let s = t .before .before .before .before in (
+      then (buffer (s .args .out .now) (s .args .used)) _ _ (t .append-text .ensures .0) (e .append-byte .ensures),
+      t .append-text .ensures .1,
+    )
 
 pub append-reply-spec : {M : Type 1} → statement M
 append-reply-spec =

@@ -3,6 +3,7 @@ use mathlib.Core.Path.{refl}
 use mir.Syntax.{w32}
 use Rattle.integers.specs.Machine.{back}
 use Rattle.console.specs.Replies.{replyText}
+use Rattle.console.specs.ReplyLaws.{value-most}
 use Rattle.console.proofs.print.append_text.Statement.{statement}
 use Rattle.console.proofs.print.append_text.Tie as tie
 
@@ -53,7 +54,9 @@ same-length c = c .before .before .append-bytes .kept .0
 
 returns : tie.Need-returns
 unfolding replyText
-returns c = rw (c .before .before .before .before .before .enum-told .given .1) (c .before .before .append-bytes .ensures)
+returns c =
+    let e = c .before .before .before .before .before .enum-told .given .1 in
+    (rw e (c .before .before .append-bytes .ensures), rw e tt)
 
 same-length-2 : tie.Need-same-length-2
 same-length-2 c = c .before .before .append-value .kept .0
@@ -63,35 +66,47 @@ unfolding replyText
 returns-2 c =
     let k = c .before .before .before .before in
     let v = k .before .reply .given in
-    rw (v .1) (rw (back w32 (v .0 .0) (k .known-told .given .0 .1)) at (c .before .before .append-value .ensures))
+    let range = k .known-told .given .0 .1 in
+    (rw (v .1) (rw (back w32 (v .0 .0) range) at (c .before .before .append-value .ensures)), rw (v .1) (value-most (v .0 .0) range))
 
 same-length-3 : tie.Need-same-length-3
 same-length-3 c = c .before .before .append-words .kept .0
 
 returns-3 : tie.Need-returns-3
 unfolding replyText
-returns-3 c = rw (c .before .before .before .before .before .reply2 .given .1) (c .before .before .append-words .ensures)
+returns-3 c =
+    let k = c .before .before .before .before in
+    let e = k .before .reply2 .given .1 in
+    let g = k .known-told2 .given in
+    (rw e (c .before .before .append-words .ensures), rw e (g .0 .1, g .1 .0 .1, g .1 .1 .0 .1, g .1 .1 .1 .0 .1))
 
 same-length-4 : tie.Need-same-length-4
 same-length-4 c = c .before .before .append-image .kept .0
 
 returns-4 : tie.Need-returns-4
 unfolding replyText
-returns-4 c = rw (c .before .before .before .before .enum-told2 .given .1) (c .before .before .append-image .ensures)
+returns-4 c =
+    let e = c .before .before .before .before .enum-told2 .given .1 in
+    (rw e (c .before .before .append-image .ensures), rw e tt)
 
 same-length-5 : tie.Need-same-length-5
 same-length-5 c = c .before .before .append-refused .kept .0
 
 returns-5 : tie.Need-returns-5
 unfolding replyText
-returns-5 c = rw (c .before .before .before .before .before .reply3 .given .1) (c .before .before .append-refused .ensures)
+returns-5 c =
+    let k = c .before .before .before .before in
+    let e = k .before .reply3 .given .1 in
+    (rw e (c .before .before .append-refused .ensures), rw e (k .known-told3 .given .0 .1))
 
 same-length-6 : tie.Need-same-length-6
 same-length-6 c = c .before .before .append-bytes2 .kept .0
 
 returns-6 : tie.Need-returns-6
 unfolding replyText
-returns-6 c = rw (c .before .before .before .before .before .enum-told3 .given .1) (c .before .before .append-bytes2 .ensures)
+returns-6 c =
+    let e = c .before .before .before .before .before .enum-told3 .given .1 in
+    (rw e (c .before .before .append-bytes2 .ensures), rw e tt)
 
 pub append-text-spec : {M : Type 1} → statement M
 append-text-spec =
