@@ -11,7 +11,7 @@ use lib.Seq.{drop-cons, drop-drop, take-all, take-nil, drop-nil}
 use borrow.Author.Tests.{eq-eqb, ne-eqb, leb-true, leb-false}
 use Rattle.integers.specs.Choice.{by-cases, never}
 use Rattle.lines.specs.Lines.{hasEnd, lineOf, restOf, unread, lineLength}
-use Rattle.lines.specs.declared.Place.{Place}
+use Rattle.lines.specs.declared.ReaderState.{ReaderState}
 
 -- ---- a line byte by byte
 
@@ -142,7 +142,7 @@ take-drop (suc a) zero l = rw zero-sub
 take-drop (suc a) (suc e) [] = take-nil (suc e - suc a)
 take-drop (suc a) (suc e) (x ∷ xs) = rw suc-sub-suc (take-drop a e xs)
 
-module _ (input : List ℕ) (place : Place) where
+module _ (input : List ℕ) (place : ReaderState) where
   abbrev pub lastOf : ℕ
   lastOf = min (place .end) (length input)
 

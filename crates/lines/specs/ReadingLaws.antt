@@ -14,12 +14,12 @@ use Rattle.lines.specs.Lines.{hasEnd, lineOf, restOf, unread, lineLength
 use Rattle.lines.specs.Lines.{Continued, NextLine}
 use Rattle.lines.specs.LinesLaws.{lastOf, firstOf, unread-part, unread-rest, rest-behind-line, line-behind, end-behind, rest-behind}
 use Rattle.lines.specs.LinesLaws.{line-whole, rest-whole}
-use Rattle.lines.specs.declared.Part.{Part}
-use Rattle.lines.specs.declared.Place.{Place}
+use Rattle.lines.specs.declared.AppendResult.{AppendResult}
+use Rattle.lines.specs.declared.ReaderState.{ReaderState}
 
 -- ---- one step
 
-module _ (input before after : List ℕ) (place : Place) (first last : ℕ) (part : Part) (f : first ≡ firstOf input place)
+module _ (input before after : List ℕ) (place : ReaderState) (first last : ℕ) (part : AppendResult) (f : first ≡ firstOf input place)
     (l : last ≡ lastOf input place)
     (a : Appended (take (last - first) (drop first input)) before after (place .len) part) where
   same-part : take (last - first) (drop first input) ≡ unread input place
@@ -46,17 +46,18 @@ module _ (input before after : List ℕ) (place : Place) (first last : ℕ) (par
 -- ---- reads one after another
 
 -- what was received so far has no line feed, and stands in the line buffer
-pub record Going (before : List ℕ) (place : Place) (line : List ℕ) (p : Place) : Type 0 where
+pub record Going (before : List ℕ) (place : ReaderState) (line : List ℕ) (p : ReaderState) : Type 0 where
   pub received : List ℕ
   pub none : hasEnd received ≡ false
   pub filled : buffer line (p .len) ≡ appendAll (buffer before (place .len)) received
   pub used : p .used ≡ place .used
 
-pub going-starts : (line : List ℕ) (p : Place) → Going line p line p
+pub going-starts : (line : List ℕ) (p : ReaderState) → Going line p line p
 unfolding hasEnd appendAll
 going-starts line p = record { received = []; none = refl; filled = refl; used = refl }
 
-pub going-stops : (input before : List ℕ) (place : Place) (line : List ℕ) (p : Place) → Going before place line p → Continued input before
+pub going-stops : (input before : List ℕ) (place : ReaderState) (line : List ℕ) (p : ReaderState) → Going before place line p →
+    Continued input before
     line place (ended p)
 unfolding unread
 going-stops input before place line p g =
@@ -75,18 +76,18 @@ unfolding hasEnd
 found-some input zero e = never e
 found-some input (suc n) e = lt-ltb 0 (suc n) (omega arith)
 
-module _ (input before : List ℕ) (place : Place) (line : List ℕ) (p : Place) (g : Going before place line p) (q : Place)
+module _ (input before : List ℕ) (place : ReaderState) (line : List ℕ) (p : ReaderState) (g : Going before place line p) (q : ReaderState)
     (f : Refilled input p q)
-    (after : List ℕ) (r : Place) (a : Advanced input line after q r) where
+    (after : List ℕ) (r : ReaderState) (a : Advanced input line after q r) where
   goes-on : buffer after (r .len) ≡ appendAll (buffer before (place .len)) (g .received ++ lineOf (unread input q))
   goes-on =
       a .filled ∙
-      ap (λ (n : ℕ). appendAll (buffer line n) (lineOf (unread input q))) (ap (λ (s : Place). s .len) (f .same)) ∙
+      ap (λ (n : ℕ). appendAll (buffer line n) (lineOf (unread input q))) (ap (λ (s : ReaderState). s .len) (f .same)) ∙
       ap (λ (o : Buffer). appendAll o (lineOf (unread input q))) (g .filled) ∙
       sym (append-append (buffer before (place .len)) (g .received) (lineOf (unread input q)))
 
   same-used : r .used ≡ place .used
-  same-used = a .used ∙ ap (λ (s : Place). s .used) (f .same) ∙ g .used
+  same-used = a .used ∙ ap (λ (s : ReaderState). s .used) (f .same) ∙ g .used
 
   pub going-more : r .complete ≡ false → Going before place after r
   going-more e =
@@ -101,7 +102,7 @@ module _ (input before : List ℕ) (place : Place) (line : List ℕ) (p : Place)
 
   found-new : hasEnd (unread input q) ≡ true → ltb 0 (f .count) ≡ true
   unfolding unread
-  found-new h = found-some input (f .count) (sym (ap (λ (s : Place). hasEnd (unread input s)) (f .same)) ∙ h)
+  found-new h = found-some input (f .count) (sym (ap (λ (s : ReaderState). hasEnd (unread input s)) (f .same)) ∙ h)
 
   pub going-complete : r .complete ≡ true → Continued input before after place r
   going-complete e =
@@ -112,21 +113,21 @@ module _ (input before : List ℕ) (place : Place) (line : List ℕ) (p : Place)
         filled = goes-on ∙ ap (appendAll (buffer before (place .len))) (sym (line-behind (g .received) (unread input q) (g .none)));
         complete = rw (e, has);
         pending = a .pending ∙ sym (rest-behind (g .received) (unread input q) (g .none));
-        more = a .more ∙ ap (λ (s : Place). s .more) (f .same) ∙ found-new found ∙ sym has;
+        more = a .more ∙ ap (λ (s : ReaderState). s .more) (f .same) ∙ found-new found ∙ sym has;
         used = same-used;
       }
 
 -- ---- the next line
 
 -- with another count of bytes to be written
-abbrev pub withUsed : ℕ → Place → Place
+abbrev pub withUsed : ℕ → ReaderState → ReaderState
 withUsed used p = record { at = p .at; end = p .end; len = p .len; complete = p .complete; more = p .more; used = used }
 
 and-true : (t : Bool) → t && true ≡ t
 and-true true = refl
 and-true false = refl
 
-module _ (input before line : List ℕ) (place p : Place) (a : Advanced input before line (begun place) p) where
+module _ (input before line : List ℕ) (place p : ReaderState) (a : Advanced input before line (begun place) p) where
   -- it was pending
   pub next-pending : p .complete ≡ true → NextLine input input before line place p
   unfolding unread reads
@@ -170,7 +171,7 @@ module _ (input before line : List ℕ) (place p : Place) (a : Advanced input be
 
     -- it was read
     pub next-read :
-        (used : ℕ) (later after : List ℕ) (r : Place) → used ≡ 0 → p .more ≡ true → Continued later line after (withUsed used p) r →
+        (used : ℕ) (later after : List ℕ) (r : ReaderState) → used ≡ 0 → p .more ≡ true → Continued later line after (withUsed used p) r →
         NextLine input later before after place r
     unfolding reads
     next-read used later after r written m k =

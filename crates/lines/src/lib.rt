@@ -12,7 +12,7 @@ use libc::STDOUT_FILENO;
 // Where reading and writing stand: bytes `at` to `end` of the last read are unread, `len` bytes of the line buffer are
 // filled, `complete` says whether they are a line, `more` whether the input goes on, and `used` bytes of the output are
 // still to be written.
-pub struct Place {
+pub struct ReaderState {
     at: usize,
     end: usize,
     pub len: usize,
@@ -22,10 +22,10 @@ pub struct Place {
 }
 
 // Nothing read, nothing written.
-pub fn start() -> Place
+pub fn start() -> ReaderState
     ensures { λ r. ⌜ r ≡ started ⌝ }
 {
-    Place {
+    ReaderState {
         at: 0,
         end: 0,
         len: 0,
@@ -42,14 +42,14 @@ fn least(a: usize, b: usize) -> usize
 }
 
 // What came of bytes: how many were used, how many bytes the line has then, and whether its end was met.
-struct Part {
+struct AppendResult {
     count: usize,
     len: usize,
     complete: bool,
 }
 
 // Appends bytes to the line up to the first line feed.
-fn append_line(bytes: &[u8], line: &mut [u8], len: usize) -> Part
+fn append_line(bytes: &[u8], line: &mut [u8], len: usize) -> AppendResult
     ensures { λ r. ⌜ Appended (now (bytes .entry)) (now (line .entry)) (now (line .exit)) len r ⌝ }
 {
     let mut filled = len;
@@ -57,7 +57,7 @@ fn append_line(bytes: &[u8], line: &mut [u8], len: usize) -> Part
     while i < bytes.len() {
         let b = bytes[i];
         if b == b'\n' {
-            return Part {
+            return AppendResult {
                 count: i + 1,
                 len: filled,
                 complete: true,
@@ -66,7 +66,7 @@ fn append_line(bytes: &[u8], line: &mut [u8], len: usize) -> Part
         filled = formatting::append_byte(line, filled, b);
         i += 1;
     }
-    Part {
+    AppendResult {
         count: i,
         len: filled,
         complete: false,
@@ -75,13 +75,13 @@ fn append_line(bytes: &[u8], line: &mut [u8], len: usize) -> Part
 
 // Appends what is unread to the line up to the first line feed: a line may have begun in an earlier read and may go on
 // in a later one.
-fn advance(input: &[u8], line: &mut [u8], place: Place) -> Place
+fn advance(input: &[u8], line: &mut [u8], place: ReaderState) -> ReaderState
     ensures { λ r. ⌜ Advanced (now (input .entry)) (now (line .entry)) (now (line .exit)) place r ⌝ }
 {
     let end = least(place.end, input.len());
     let at = least(place.at, end);
     let part = append_line(&input[at..end], line, place.len);
-    Place {
+    ReaderState {
         at: at + part.count,
         end,
         len: part.len,
@@ -92,12 +92,12 @@ fn advance(input: &[u8], line: &mut [u8], place: Place) -> Place
 }
 
 // Reads more; at the end of the input, or where it cannot be read, there is no more.
-fn refill(input: &mut [u8], place: Place) -> Place
+fn refill(input: &mut [u8], place: ReaderState) -> ReaderState
     ensures { λ r. ⌜ Refilled (now (input .exit)) place r ⌝ }
 {
     let got = libc::read(STDIN_FILENO, input);
     let count = io::count(got, input);
-    Place {
+    ReaderState {
         at: 0,
         end: count,
         len: place.len,
@@ -107,10 +107,10 @@ fn refill(input: &mut [u8], place: Place) -> Place
     }
 }
 
-fn begin(p: Place) -> Place
+fn begin(p: ReaderState) -> ReaderState
     ensures { λ r. ⌜ r ≡ begun p ⌝ }
 {
-    Place {
+    ReaderState {
         at: p.at,
         end: p.end,
         len: 0,
@@ -120,10 +120,10 @@ fn begin(p: Place) -> Place
     }
 }
 
-fn finish(p: Place) -> Place
+fn finish(p: ReaderState) -> ReaderState
     ensures { λ r. ⌜ r ≡ ended p ⌝ }
 {
-    Place {
+    ReaderState {
         at: 0,
         end: 0,
         len: p.len,
@@ -135,7 +135,7 @@ fn finish(p: Place) -> Place
 
 // Reads on until the line is complete or the input ends. A proved loop must end, so the turns are counted down from a
 // number that no run uses up.
-fn read_on(input: &mut [u8], line: &mut [u8], place: Place) -> Place
+fn read_on(input: &mut [u8], line: &mut [u8], place: ReaderState) -> ReaderState
     ensures { λ r. ⌜ Continued (now (input .exit)) (now (line .entry)) (now (line .exit)) place r ⌝ }
 {
     let mut p = place;
@@ -158,7 +158,7 @@ fn read_on(input: &mut [u8], line: &mut [u8], place: Place) -> Place
 // The next line, in the line buffer. Where `complete` is false the input has ended. Of the bytes that
 // were pending and those received the contract rules out a line that is cut or joined with the next, and a byte that is
 // lost. Which bytes a read received no contract can tell.
-pub fn next_line(input: &mut [u8], line: &mut [u8], out: &[u8], place: Place) -> Place
+pub fn next_line(input: &mut [u8], line: &mut [u8], out: &[u8], place: ReaderState) -> ReaderState
     ensures { λ r. ⌜ NextLine (now (input .entry)) (now (input .exit)) (now (line .entry)) (now (line .exit)) place r ⌝ }
 {
     let mut p = advance(input, line, begin(place));

@@ -8,8 +8,8 @@ use lib.ListN.{length, take, drop, replicate}
 use Rattle.integers.specs.Sign.{isNegative}
 use Rattle.text.specs.Words.{wordAt, sameBytes}
 use Rattle.text.specs.Numbers.{numberOf}
-use Rattle.text.specs.declared.Reading.{Reading}
-use Rattle.text.specs.declared.Reading.the-variants.{Number, Malformed}
+use Rattle.text.specs.declared.ParsedNumber.{ParsedNumber}
+use Rattle.text.specs.declared.ParsedNumber.the-variants.{Number, Malformed}
 use Rattle.text.specs.declared.arguments.Arguments.{Arguments}
 use Rattle.text.specs.declared.arguments.Natural.{Natural}
 
@@ -25,7 +25,7 @@ firstWords (suc most) line at =
     cond (eqb (w .from) (w .to)) [] (part line (w .from) (w .to) ∷ firstWords most line (w .to))
 
 -- a number in front of others; what is no number ends them
-unfoldable pub inFront : Reading → List ℤ → List ℤ
+unfoldable pub inFront : ParsedNumber → List ℤ → List ℤ
 inFront (Number value) others = value ∷ others
 inFront Malformed others = []
 

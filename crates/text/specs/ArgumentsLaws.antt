@@ -14,7 +14,7 @@ use borrow.Author.Tests.{eq-eqb, ne-eqb}
 use Rattle.text.specs.Words.{wordAt}
 use Rattle.text.specs.Numbers.{numberOf}
 use Rattle.text.specs.Arguments.{part, firstWords, inFront, numbersOf, padded, readOf, argumentsFrom}
-use Rattle.text.specs.declared.Reading.the-variants.{Number, Malformed}
+use Rattle.text.specs.declared.ParsedNumber.the-variants.{Number, Malformed}
 use Rattle.text.specs.declared.Span.{Span}
 use Rattle.text.specs.declared.arguments.Arguments.{Arguments}
 

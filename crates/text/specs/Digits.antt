@@ -11,8 +11,8 @@ use lib.ListN.{length, drop, getD, length-append, length-drop, List·getD-append
 use borrow.Author.Tests.{ltb-true, ltb-false, lt-ltb, le-ltb, le-leb, ne-eqb}
 use Rattle.integers.specs.Sign.{fromSign, isNegative}
 use Rattle.text.specs.Numbers.{isDigit, readOn, digitsOf, numberOf, digit-range}
-use Rattle.text.specs.declared.Reading.{Reading}
-use Rattle.text.specs.declared.Reading.the-variants.{Number, Malformed}
+use Rattle.text.specs.declared.ParsedNumber.{ParsedNumber}
+use Rattle.text.specs.declared.ParsedNumber.the-variants.{Number, Malformed}
 
 -- the decimal digits of n, where `more` divisions by ten are enough to reach its first
 unfoldable pub digitsWithin : ℕ → ℕ → List ℕ
@@ -132,7 +132,7 @@ decimal-read (negsuc n) h = digits-read true (suc n) h
 -- ---- nothing shorter reads so
 
 -- a choice that gave a number took its first arm
-number-of : (t : Bool) (x : Reading) (z : ℤ) → cond t x Malformed ≡ Number z → (t ≡ true) × (x ≡ Number z)
+number-of : (t : Bool) (x : ParsedNumber) (z : ℤ) → cond t x Malformed ≡ Number z → (t ≡ true) × (x ≡ Number z)
 number-of true x z e = (refl, e)
 number-of false x z e = let w : _≡_ {A = ℕ} 0 1 = cc in absurd (omega arith)
 

@@ -2,7 +2,7 @@
 ghost use mathlib.Core.Path.{_≡_};
 ghost use Prim.Native.Nat.{_≤_, max};
 ghost use Rattle.text.specs.Arguments.{argumentsFrom, hasCount, isCall, naturalIn};
-use crate::Reading;
+use crate::ParsedNumber;
 
 // The numbers in front of the first word that is none, zeros behind them; `ok` says whether all words are numbers and
 // there are at most six.
@@ -41,10 +41,10 @@ pub fn parse(line: &[u8], start: usize) -> Arguments
         }
         let reading = crate::number(&line[from..to]);
         match reading {
-            Reading::Number(value) => {
+            ParsedNumber::Number(value) => {
                 values[count] = value;
             }
-            Reading::Malformed => {
+            ParsedNumber::Malformed => {
                 return result(false, count, values);
             }
         }

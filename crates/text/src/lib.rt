@@ -15,7 +15,7 @@ pub struct Span {
     pub to: usize,
 }
 
-pub enum Reading {
+pub enum ParsedNumber {
     Number(i64),
     Malformed,
 }
@@ -81,35 +81,35 @@ fn digit(b: u8) -> u64
     (b - b'0') as u64
 }
 
-fn digits(minus: bool, s: &[u8]) -> Reading
+fn digits(minus: bool, s: &[u8]) -> ParsedNumber
     ensures { λ r. ⌜ r ≡ digitsOf minus (now (s .entry)) ⌝ }
 {
     if s.len() == 0 {
-        return Reading::Malformed;
+        return ParsedNumber::Malformed;
     }
     if 18 < s.len() {
-        return Reading::Malformed;
+        return ParsedNumber::Malformed;
     }
     let mut value: u64 = 0;
     let mut i = 0;
     while i < s.len() {
         let b = s[i];
         if !is_digit(b) {
-            return Reading::Malformed;
+            return ParsedNumber::Malformed;
         }
         value = value * 10 + digit(b);
         i += 1;
     }
-    Reading::Number(integers::signed(minus, value))
+    ParsedNumber::Number(integers::signed(minus, value))
 }
 
 // A decimal number: an optional minus and one to eighteen digits. The contract rules out a wrong value and taking what
 // is no number.
-pub fn number(s: &[u8]) -> Reading
+pub fn number(s: &[u8]) -> ParsedNumber
     ensures { λ r. ⌜ r ≡ numberOf (now (s .entry)) ⌝ }
 {
     if s.len() == 0 {
-        return Reading::Malformed;
+        return ParsedNumber::Malformed;
     }
     if s[0] == b'-' {
         return digits(true, &s[1..]);

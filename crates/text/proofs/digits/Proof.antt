@@ -10,7 +10,7 @@ use mir.Syntax.{w64}
 use borrow.Author.Needs.{needs}
 use borrow.Author.Tests.{not-true, not-false, lt-ltb, le-leb, lt-leb}
 use Rattle.integers.specs.Machine.{back}
-use Rattle.text.specs.declared.Reading.the-variants.{Number}
+use Rattle.text.specs.declared.ParsedNumber.the-variants.{Number}
 use Rattle.text.specs.Numbers.{isDigit, readOn, digitsOf, digit-range, read-more, read-fails, read-ends, digits-more, digits-fit}
 use Rattle.text.proofs.digits.Statement.{statement}
 use Rattle.text.proofs.digits.Tie as tie
