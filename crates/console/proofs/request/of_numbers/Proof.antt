@@ -1,5 +1,10 @@
 -- `console::request::of_numbers` meets its contract.
-use mathlib.Core.Path.{refl}
+use lib.IntN.{pos}
+use lib.ListN.{getD}
+use mir.Syntax.{w64}
+use Rattle.integers.specs.Machine.{back}
+use Rattle.console.specs.Commands.{numbersCommand}
+use mathlib.Core.Path.{refl, sym, _∙_}
 use native.Mathlib.Omega.{arith}
 use Rattle.console.proofs.request.of_numbers.Statement.{statement}
 use Rattle.console.proofs.request.of_numbers.Tie as tie
@@ -14,7 +19,8 @@ scan-requires : tie.Need-scan-requires
 scan-requires c κs = tt
 
 returns : tie.Need-returns
-returns c = tt
+unfolding numbersCommand
+returns c = rw (sym (c .before .before .is-call .ensures) ∙ c .before .if1 .taken) (c .scan .ensures)
 
 slice-aggregate-is-call-2 : tie.Need-slice-aggregate-is-call-2
 slice-aggregate-is-call-2 c = refl
@@ -26,7 +32,12 @@ write-requires : tie.Need-write-requires
 write-requires c κs = tt
 
 returns-2 : tie.Need-returns-2
-returns-2 c = tt
+unfolding numbersCommand
+returns-2 c =
+    rw (
+      sym (c .before .before .before .before .before .is-call .ensures) ∙ c .before .before .before .before .if1 .left,
+      sym (c .before .before .is-call2 .ensures) ∙ c .before .if2 .taken,
+    ) (c .write .ensures)
 
 slice-aggregate-is-call-3 : tie.Need-slice-aggregate-is-call-3
 slice-aggregate-is-call-3 c = refl
@@ -41,7 +52,13 @@ number-in-requires : tie.Need-number-in-requires
 number-in-requires c κs = tt
 
 returns-3 : tie.Need-returns-3
-returns-3 c = tt
+unfolding numbersCommand
+returns-3 c =
+    rw (
+      sym (c .before .before .before .before .before .before .before .before .before .is-call .ensures) ∙ c .before .before .before .before .before .before .before .before .if1 .left,
+      sym (c .before .before .before .before .before .before .is-call2 .ensures) ∙ c .before .before .before .before .before .if2 .left,
+      sym (c .before .before .before .is-call3 .ensures) ∙ c .before .before .if3 .taken,
+    ) (rw (rw (back w64 _ (c .before .number-in-arg .given)) at (c .number-in .ensures)) refl)
 
 slice-aggregate-is-call-4 : tie.Need-slice-aggregate-is-call-4
 slice-aggregate-is-call-4 c = refl
@@ -53,7 +70,14 @@ fresh-requires : tie.Need-fresh-requires
 fresh-requires c κs = tt
 
 returns-4 : tie.Need-returns-4
-returns-4 c = tt
+unfolding numbersCommand
+returns-4 c =
+    rw (
+      sym (c .before .before .before .before .before .before .before .before .before .before .before .is-call .ensures) ∙ c .before .before .before .before .before .before .before .before .before .before .if1 .left,
+      sym (c .before .before .before .before .before .before .before .before .is-call2 .ensures) ∙ c .before .before .before .before .before .before .before .if2 .left,
+      sym (c .before .before .before .before .before .is-call3 .ensures) ∙ c .before .before .before .before .if3 .left,
+      sym (c .before .before .is-call4 .ensures) ∙ c .before .if4 .taken,
+    ) (c .fresh .ensures)
 
 slice-aggregate-is-call-5 : tie.Need-slice-aggregate-is-call-5
 slice-aggregate-is-call-5 c = refl
@@ -65,10 +89,26 @@ save-requires : tie.Need-save-requires
 save-requires c κs = tt
 
 returns-5 : tie.Need-returns-5
-returns-5 c = tt
+unfolding numbersCommand
+returns-5 c =
+    rw (
+      sym (c .before .before .before .before .before .before .before .before .before .before .before .before .before .before .is-call .ensures) ∙ c .before .before .before .before .before .before .before .before .before .before .before .before .before .if1 .left,
+      sym (c .before .before .before .before .before .before .before .before .before .before .before .is-call2 .ensures) ∙ c .before .before .before .before .before .before .before .before .before .before .if2 .left,
+      sym (c .before .before .before .before .before .before .before .before .is-call3 .ensures) ∙ c .before .before .before .before .before .before .before .if3 .left,
+      sym (c .before .before .before .before .before .is-call4 .ensures) ∙ c .before .before .before .before .if4 .left,
+      sym (c .before .before .is-call5 .ensures) ∙ c .before .if5 .taken,
+    ) (c .save .ensures)
 
 returns-6 : tie.Need-returns-6
-returns-6 c = tt
+unfolding numbersCommand
+returns-6 c =
+    rw (
+      sym (c .before .before .before .before .before .before .before .before .before .before .before .before .before .is-call .ensures) ∙ c .before .before .before .before .before .before .before .before .before .before .before .before .if1 .left,
+      sym (c .before .before .before .before .before .before .before .before .before .before .is-call2 .ensures) ∙ c .before .before .before .before .before .before .before .before .before .if2 .left,
+      sym (c .before .before .before .before .before .before .before .is-call3 .ensures) ∙ c .before .before .before .before .before .before .if3 .left,
+      sym (c .before .before .before .before .is-call4 .ensures) ∙ c .before .before .before .if4 .left,
+      sym (c .before .is-call5 .ensures) ∙ c .if5 .left,
+    ) refl
 
 pub of-numbers-spec : {M : Type 1} → statement M
 of-numbers-spec =
