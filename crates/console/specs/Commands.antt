@@ -83,6 +83,7 @@ restartImage line start =
     let behind = wordAt line (word .to) in
     if ltb (behind .from) (behind .to) then none else bytesOf (part line (word .from) (word .to))
 
+-- with that many bytes; a malformed word asks nothing
 abbrev pub restartOf : Count → Command
 restartOf (Bytes n) = Restart n
 restartOf Malformed = Invalid
@@ -107,5 +108,6 @@ commandBytes call bytes =
 unfoldable pub commandIn : List ℕ → ℕ → ℕ → Command
 commandIn line len size = if leb (length line) len then Invalid else commandOf (take len line) size
 
+-- and the buffer afterwards
 unfoldable pub bytesAfter : List ℕ → ℕ → List ℕ → List ℕ
 bytesAfter line len bytes = if leb (length line) len then bytes else commandBytes (take len line) bytes

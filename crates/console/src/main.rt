@@ -27,8 +27,8 @@ struct Answered {
 }
 
 // Performs the command of a line and appends its reply. The contract rules out another command than the line has, a
-// controller other than the one that it leaves, any bytes but the line of its reply, and a line that is cut in an output
-// of 65,536 bytes.
+// controller other than the one that it leaves, any bytes but the line of its reply, and a line that is cut in an
+// output of 65,536 bytes.
 fn line_answer(
     controller: Controller,
     line: &[u8],

@@ -22,7 +22,8 @@ pub enum Command {
     Invalid,
 }
 
-// fresh SW
+// fresh SW. This contract and those below rule out another command than the line has, an argument of another place,
+// and one in range that is refused.
 fn fresh(values: [i64; 6]) -> Command
     ensures { λ r. ⌜ r ≡ freshCommand values ⌝ }
 {
@@ -87,7 +88,7 @@ fn save(values: [i64; 6]) -> Command
     Command::Invalid
 }
 
-// A call whose arguments are numbers.
+// A call whose arguments are numbers. The contract rules out the command of another name.
 fn of_numbers(word: &[u8], a: Arguments) -> Command
     ensures { λ r. ⌜ r ≡ numbersCommand (now (word .entry)) a ⌝ }
 {
@@ -110,7 +111,8 @@ fn of_numbers(word: &[u8], a: Arguments) -> Command
     Command::Invalid
 }
 
-// restart HEX, or - for no bytes: one argument, which is no number
+// restart HEX, or - for no bytes: one argument, which is no number. The contract gives every byte of the buffer, so it
+// rules out other bytes than the line has.
 fn restart(line: &[u8], start: usize, bytes: &mut [u8]) -> Command
     requires { ⌜ start ≤ length (now line) ⌝ }
     ensures { λ r. ⌜ (r ≡ restartOf (countIn (restartImage (now (line .entry)) start) (length (now (bytes .entry)))))
@@ -130,7 +132,8 @@ fn restart(line: &[u8], start: usize, bytes: &mut [u8]) -> Command
     }
 }
 
-// What a line asks, with a buffer for the bytes of a restart. A line that fills its whole buffer is too long.
+// What a line asks, with a buffer for the bytes of a restart. A line that fills its whole buffer is too long. The
+// contract gives the command and every byte of the buffer, so it rules out a command that is taken for another or for none.
 pub fn parse(line: &[u8], len: usize, bytes: &mut [u8]) -> Command
     ensures { λ r. ⌜ (r ≡ commandIn (now (line .entry)) len (length (now (bytes .entry))))
         × (now (bytes .exit) ≡ bytesAfter (now (line .entry)) len (now (bytes .entry))) ⌝ }

@@ -1,6 +1,4 @@
 -- `console::request::of_numbers` meets its contract.
-use lib.IntN.{pos}
-use lib.ListN.{getD}
 use mir.Syntax.{w64}
 use Rattle.integers.specs.Machine.{back}
 use Rattle.console.specs.Commands.{numbersCommand}
@@ -20,7 +18,9 @@ scan-requires c κs = tt
 
 returns : tie.Need-returns
 unfolding numbersCommand
-returns c = rw (sym (c .before .before .is-call .ensures) ∙ c .before .if1 .taken) (c .scan .ensures)
+returns c =
+    let test1 = c .before in
+    rw (sym (test1 .before .is-call .ensures) ∙ test1 .if1 .taken) (c .scan .ensures)
 
 slice-aggregate-is-call-2 : tie.Need-slice-aggregate-is-call-2
 slice-aggregate-is-call-2 c = refl
@@ -34,9 +34,11 @@ write-requires c κs = tt
 returns-2 : tie.Need-returns-2
 unfolding numbersCommand
 returns-2 c =
+    let test2 = c .before in
+    let test1 = test2 .before .before .before in
     rw (
-      sym (c .before .before .before .before .before .is-call .ensures) ∙ c .before .before .before .before .if1 .left,
-      sym (c .before .before .is-call2 .ensures) ∙ c .before .if2 .taken,
+      sym (test1 .before .is-call .ensures) ∙ test1 .if1 .left,
+      sym (test2 .before .is-call2 .ensures) ∙ test2 .if2 .taken,
     ) (c .write .ensures)
 
 slice-aggregate-is-call-3 : tie.Need-slice-aggregate-is-call-3
@@ -54,10 +56,13 @@ number-in-requires c κs = tt
 returns-3 : tie.Need-returns-3
 unfolding numbersCommand
 returns-3 c =
+    let test3 = c .before .before in
+    let test2 = test3 .before .before .before in
+    let test1 = test2 .before .before .before in
     rw (
-      sym (c .before .before .before .before .before .before .before .before .before .is-call .ensures) ∙ c .before .before .before .before .before .before .before .before .if1 .left,
-      sym (c .before .before .before .before .before .before .is-call2 .ensures) ∙ c .before .before .before .before .before .if2 .left,
-      sym (c .before .before .before .is-call3 .ensures) ∙ c .before .before .if3 .taken,
+      sym (test1 .before .is-call .ensures) ∙ test1 .if1 .left,
+      sym (test2 .before .is-call2 .ensures) ∙ test2 .if2 .left,
+      sym (test3 .before .is-call3 .ensures) ∙ test3 .if3 .taken,
     ) (rw (rw (back w64 _ (c .before .number-in-arg .given)) at (c .number-in .ensures)) refl)
 
 slice-aggregate-is-call-4 : tie.Need-slice-aggregate-is-call-4
@@ -72,11 +77,15 @@ fresh-requires c κs = tt
 returns-4 : tie.Need-returns-4
 unfolding numbersCommand
 returns-4 c =
+    let test4 = c .before in
+    let test3 = test4 .before .before .before in
+    let test2 = test3 .before .before .before in
+    let test1 = test2 .before .before .before in
     rw (
-      sym (c .before .before .before .before .before .before .before .before .before .before .before .is-call .ensures) ∙ c .before .before .before .before .before .before .before .before .before .before .if1 .left,
-      sym (c .before .before .before .before .before .before .before .before .is-call2 .ensures) ∙ c .before .before .before .before .before .before .before .if2 .left,
-      sym (c .before .before .before .before .before .is-call3 .ensures) ∙ c .before .before .before .before .if3 .left,
-      sym (c .before .before .is-call4 .ensures) ∙ c .before .if4 .taken,
+      sym (test1 .before .is-call .ensures) ∙ test1 .if1 .left,
+      sym (test2 .before .is-call2 .ensures) ∙ test2 .if2 .left,
+      sym (test3 .before .is-call3 .ensures) ∙ test3 .if3 .left,
+      sym (test4 .before .is-call4 .ensures) ∙ test4 .if4 .taken,
     ) (c .fresh .ensures)
 
 slice-aggregate-is-call-5 : tie.Need-slice-aggregate-is-call-5
@@ -91,23 +100,33 @@ save-requires c κs = tt
 returns-5 : tie.Need-returns-5
 unfolding numbersCommand
 returns-5 c =
+    let test5 = c .before in
+    let test4 = test5 .before .before .before in
+    let test3 = test4 .before .before .before in
+    let test2 = test3 .before .before .before in
+    let test1 = test2 .before .before .before in
     rw (
-      sym (c .before .before .before .before .before .before .before .before .before .before .before .before .before .before .is-call .ensures) ∙ c .before .before .before .before .before .before .before .before .before .before .before .before .before .if1 .left,
-      sym (c .before .before .before .before .before .before .before .before .before .before .before .is-call2 .ensures) ∙ c .before .before .before .before .before .before .before .before .before .before .if2 .left,
-      sym (c .before .before .before .before .before .before .before .before .is-call3 .ensures) ∙ c .before .before .before .before .before .before .before .if3 .left,
-      sym (c .before .before .before .before .before .is-call4 .ensures) ∙ c .before .before .before .before .if4 .left,
-      sym (c .before .before .is-call5 .ensures) ∙ c .before .if5 .taken,
+      sym (test1 .before .is-call .ensures) ∙ test1 .if1 .left,
+      sym (test2 .before .is-call2 .ensures) ∙ test2 .if2 .left,
+      sym (test3 .before .is-call3 .ensures) ∙ test3 .if3 .left,
+      sym (test4 .before .is-call4 .ensures) ∙ test4 .if4 .left,
+      sym (test5 .before .is-call5 .ensures) ∙ test5 .if5 .taken,
     ) (c .save .ensures)
 
 returns-6 : tie.Need-returns-6
 unfolding numbersCommand
 returns-6 c =
+    let test5 = c in
+    let test4 = test5 .before .before .before in
+    let test3 = test4 .before .before .before in
+    let test2 = test3 .before .before .before in
+    let test1 = test2 .before .before .before in
     rw (
-      sym (c .before .before .before .before .before .before .before .before .before .before .before .before .before .is-call .ensures) ∙ c .before .before .before .before .before .before .before .before .before .before .before .before .if1 .left,
-      sym (c .before .before .before .before .before .before .before .before .before .before .is-call2 .ensures) ∙ c .before .before .before .before .before .before .before .before .before .if2 .left,
-      sym (c .before .before .before .before .before .before .before .is-call3 .ensures) ∙ c .before .before .before .before .before .before .if3 .left,
-      sym (c .before .before .before .before .is-call4 .ensures) ∙ c .before .before .before .if4 .left,
-      sym (c .before .is-call5 .ensures) ∙ c .if5 .left,
+      sym (test1 .before .is-call .ensures) ∙ test1 .if1 .left,
+      sym (test2 .before .is-call2 .ensures) ∙ test2 .if2 .left,
+      sym (test3 .before .is-call3 .ensures) ∙ test3 .if3 .left,
+      sym (test4 .before .is-call4 .ensures) ∙ test4 .if4 .left,
+      sym (test5 .before .is-call5 .ensures) ∙ test5 .if5 .left,
     ) refl
 
 pub of-numbers-spec : {M : Type 1} → statement M

@@ -77,33 +77,49 @@ cast-t32 c =
     omega (arith, six .natural-in6 .ensures .2)
 
 -- what each call of `natural_in` gives
-module _ (c : tie.After-natural-in6) where
+module _ (six : tie.After-natural-in6) where
+  abbrev five : tie.After-natural-in5
+  five = six .before .before
+
+  abbrev four : tie.After-natural-in4
+  four = five .before .before
+
+  abbrev three : tie.After-natural-in3
+  three = four .before .before
+
+  abbrev two : tie.After-natural-in2
+  two = three .before .before
+
+  abbrev one : tie.After-natural-in
+  one = two .before .before
+
   abbrev values : List ℤ
-  values = c .before .before .before .before .before .before .before .before .before .before .before .before .args .t1
+  values = one .before .before .args .t1
 
-  pins-is : c .before .before .before .before .before .before .before .before .before .before .natural-in .result ≡ naturalIn (argument values 0) 0 255
-  pins-is = rw (back w64 (argument values 0) (c .before .before .before .before .before .before .before .before .before .before .before .natural-in-arg .given)) at (c .before .before .before .before .before .before .before .before .before .before .natural-in .ensures .0)
+  pins-is : one .natural-in .result ≡ naturalIn (argument values 0) 0 255
+  pins-is = rw (back w64 (argument values 0) (one .before .natural-in-arg .given)) at (one .natural-in .ensures .0)
 
-  sample1-is : c .before .before .before .before .before .before .before .before .natural-in2 .result ≡ naturalIn (argument values 1) 0 65535
-  sample1-is = rw (back w64 (argument values 1) (c .before .before .before .before .before .before .before .before .before .natural-in-arg2 .given)) at (c .before .before .before .before .before .before .before .before .natural-in2 .ensures .0)
+  sample1-is : two .natural-in2 .result ≡ naturalIn (argument values 1) 0 65535
+  sample1-is = rw (back w64 (argument values 1) (two .before .natural-in-arg2 .given)) at (two .natural-in2 .ensures .0)
 
-  sample2-is : c .before .before .before .before .before .before .natural-in3 .result ≡ naturalIn (argument values 2) 0 65535
-  sample2-is = rw (back w64 (argument values 2) (c .before .before .before .before .before .before .before .natural-in-arg3 .given)) at (c .before .before .before .before .before .before .natural-in3 .ensures .0)
+  sample2-is : three .natural-in3 .result ≡ naturalIn (argument values 2) 0 65535
+  sample2-is = rw (back w64 (argument values 2) (three .before .natural-in-arg3 .given)) at (three .natural-in3 .ensures .0)
 
-  sample3-is : c .before .before .before .before .natural-in4 .result ≡ naturalIn (argument values 3) 0 65535
-  sample3-is = rw (back w64 (argument values 3) (c .before .before .before .before .before .natural-in-arg4 .given)) at (c .before .before .before .before .natural-in4 .ensures .0)
+  sample3-is : four .natural-in4 .result ≡ naturalIn (argument values 3) 0 65535
+  sample3-is = rw (back w64 (argument values 3) (four .before .natural-in-arg4 .given)) at (four .natural-in4 .ensures .0)
 
-  buttons-is : c .before .before .natural-in5 .result ≡ naturalIn (argument values 4) 0 255
-  buttons-is = rw (back w64 (argument values 4) (c .before .before .before .natural-in-arg5 .given)) at (c .before .before .natural-in5 .ensures .0)
+  buttons-is : five .natural-in5 .result ≡ naturalIn (argument values 4) 0 255
+  buttons-is = rw (back w64 (argument values 4) (five .before .natural-in-arg5 .given)) at (five .natural-in5 .ensures .0)
 
-  sensors-is : c .natural-in6 .result ≡ naturalIn (argument values 5) 0 255
-  sensors-is = rw (back w64 (argument values 5) (c .before .natural-in-arg6 .given)) at (c .natural-in6 .ensures .0)
+  sensors-is : six .natural-in6 .result ≡ naturalIn (argument values 5) 0 255
+  sensors-is = rw (back w64 (argument values 5) (six .before .natural-in-arg6 .given)) at (six .natural-in6 .ensures .0)
 
 returns : tie.Need-returns
 unfolding scanCommand
 returns c =
     let n = c .before .before .before .before .before .before .before .before .before .before .before .before .before in
-    rw (← pins-is n, ← sample1-is n, ← sample2-is n, ← sample3-is n, ← buttons-is n, ← sensors-is n, c .before .before .before .before .before .before .if1 .taken) refl
+    let test = c .before .before .before .before .before .before in
+    rw (← pins-is n, ← sample1-is n, ← sample2-is n, ← sample3-is n, ← buttons-is n, ← sensors-is n, test .if1 .taken) refl
 
 returns-2 : tie.Need-returns-2
 unfolding scanCommand
