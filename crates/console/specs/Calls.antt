@@ -23,6 +23,7 @@ use Rattle.controller.specs.Scan.{scan}
 use Rattle.controller.specs.State.{freshController}
 use Rattle.controller.specs.Write.{write}
 use Rattle.controller.specs.declared.Controller.{Controller}
+use Rattle.console.specs.Commands.{commandIn, bytesAfter}
 use Rattle.console.specs.Replies.{replyLine}
 use Rattle.console.specs.declared.call.Reply.{Reply}
 use Rattle.console.specs.declared.call.Reply.the-variants.{Accepted, Value, Words, Image, Refused, Error}
@@ -102,18 +103,28 @@ bufferAfter c Invalid bytes = bytes
 abbrev pub startOf : ℕ → ℕ
 startOf used = if ltb 64000 used then 0 else used
 
--- the line of the reply to a command
-abbrev pub lineFor : Controller → Command → List ℕ → List ℕ
-lineFor c command bytes = replyLine (performed c command bytes .reply) (bufferAfter c command bytes)
+-- ---- a line of input
 
--- What one line comes to: a command, with the bytes that its parsing left in the buffer, is performed, and the line of
--- its reply is appended to the output.
-pub record Performed (c next : Controller) (before after : List ℕ) (used end : ℕ) : Type 0 where
-  pub command : Command
-  pub bytes : List ℕ
-  pub controller : next ≡ performed c command bytes .controller
-  pub output : buffer after end ≡ appendAll (buffer before (startOf used)) (lineFor c command bytes)
+-- the command of the first `len` bytes, and the buffer after it was parsed, of 346 bytes that were 0
+abbrev pub lineCommand : List ℕ → ℕ → Command
+lineCommand line len = commandIn line len 346
+
+abbrev pub lineBytes : List ℕ → ℕ → List ℕ
+lineBytes line len = bytesAfter line len (replicate 346 0)
+
+-- the next controller and the reply
+abbrev pub lineStep : Controller → List ℕ → ℕ → Step
+lineStep c line len = performed c (lineCommand line len) (lineBytes line len)
+
+-- the line of the reply
+abbrev pub answerLine : Controller → List ℕ → ℕ → List ℕ
+answerLine c line len = replyLine (lineStep c line len .reply) (bufferAfter c (lineCommand line len) (lineBytes line len))
+
+-- What one line comes to: its command is performed, and the line of the reply is appended to the output.
+pub record Performed (c next : Controller) (line : List ℕ) (len : ℕ) (before after : List ℕ) (used end : ℕ) : Type 0 where
+  pub controller : next ≡ lineStep c line len .controller
+  pub output : buffer after end ≡ appendAll (buffer before (startOf used)) (answerLine c line len)
   -- the line is not cut, and no other byte of the output changes
   pub whole : 65536 ≤ length before →
       buffer after end
-      ≡ buffer (replaced (startOf used) (lineFor c command bytes) before) (startOf used + length (lineFor c command bytes))
+      ≡ buffer (replaced (startOf used) (answerLine c line len) before) (startOf used + length (answerLine c line len))

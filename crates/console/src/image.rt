@@ -1,7 +1,7 @@
 // What a line asks of an image: a restart with one, or saving one.
 ghost use mathlib.Core.Path.{_≡_};
 ghost use lib.Dec.{leb};
-ghost use lib.ListN.{length, take, drop};
+ghost use lib.ListN.{length, take, drop, replicate};
 ghost use Rattle.integers.specs.Choice.{if_then_else_};
 ghost use Rattle.controller.specs.Restart.{restart};
 ghost use Rattle.controller.specs.Valid.{Valid};
@@ -17,7 +17,7 @@ const FILL: u8 = 0xA5;
 
 // A buffer for the bytes of a restart, as many as a line has room for, and to save into.
 pub fn buffer() -> [u8; 346]
-    ensures { λ r. ⌜ 346 ≡ length r ⌝ }
+    ensures { λ r. ⌜ (r ≡ replicate 346 0) × (346 ≡ length r) ⌝ }
 {
     [0; 346]
 }

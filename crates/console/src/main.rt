@@ -10,6 +10,7 @@
 // SW 0.
 ghost use mathlib.Core.Path.{_≡_};
 ghost use lib.ListN.{length};
+ghost use Rattle.controller.specs.State.{freshController};
 ghost use Rattle.controller.specs.Valid.{Valid};
 ghost use Rattle.console.specs.Calls.{Performed};
 use controller::Controller;
@@ -25,8 +26,9 @@ struct Answered {
     used: usize,
 }
 
-// Performs the command of a line and appends its reply. The contract rules out a controller other than the one that a
-// command leaves, any bytes but the line of that command's reply, and a line that is cut in an output of 65,536 bytes.
+// Performs the command of a line and appends its reply. The contract rules out another command than the line has, a
+// controller other than the one that it leaves, any bytes but the line of its reply, and a line that is cut in an
+// output of 65,536 bytes.
 fn line_answer(
     controller: Controller,
     line: &[u8],
@@ -36,7 +38,7 @@ fn line_answer(
 ) -> Answered
     requires { ⌜ Valid controller ⌝ }
     ensures { λ r. ⌜ Valid (r .controller)
-        × Performed controller (r .controller) (now (out .entry)) (now (out .exit)) used (r .used) ⌝ }
+        × Performed controller (r .controller) (now (line .entry)) len (now (out .entry)) (now (out .exit)) used (r .used) ⌝ }
 {
     let free = lines::room(out, used);
     let mut buffer = image::buffer();
@@ -50,8 +52,9 @@ fn line_answer(
     }
 }
 
+// The contract rules out another switch word than 0.
 fn first_controller() -> Controller
-    ensures { λ r. ⌜ Valid r ⌝ }
+    ensures { λ r. ⌜ (r ≡ freshController 0) × Valid r ⌝ }
 {
     Controller::fresh(0)
 }

@@ -1,6 +1,10 @@
 // What a line asks: a call's name and its arguments, each within its range. A line of another form asks nothing.
+ghost use mathlib.Core.Path.{_≡_};
 ghost use Prim.Native.Nat.{_≤_};
 ghost use lib.ListN.{length};
+ghost use Rattle.text.specs.Hexadecimal.{countIn, bytesIn};
+ghost use Rattle.console.specs.Commands.{parameterNumber, freshCommand, scanCommand, writeCommand, saveCommand};
+ghost use Rattle.console.specs.Commands.{numbersCommand, restartImage, restartOf, commandIn, bytesAfter};
 use signals::Input;
 use text::arguments::Arguments;
 use text::hexadecimal::Count;
@@ -18,8 +22,11 @@ pub enum Command {
     Invalid,
 }
 
-// fresh SW
-fn fresh(values: [i64; 6]) -> Command {
+// fresh SW. This contract and those below rule out another command than the line has, an argument of another place,
+// and one in range that is refused.
+fn fresh(values: [i64; 6]) -> Command
+    ensures { λ r. ⌜ r ≡ freshCommand values ⌝ }
+{
     let sw = text::arguments::natural_in(values[0], 0, 65535);
     if sw.ok {
         return Command::Fresh(sw.value as u16);
@@ -28,7 +35,9 @@ fn fresh(values: [i64; 6]) -> Command {
 }
 
 // scan PINS S1 S2 S3 BUTTONS SENSORS
-fn scan(values: [i64; 6]) -> Command {
+fn scan(values: [i64; 6]) -> Command
+    ensures { λ r. ⌜ r ≡ scanCommand values ⌝ }
+{
     let pins = text::arguments::natural_in(values[0], 0, 255);
     let sample1 = text::arguments::natural_in(values[1], 0, 65535);
     let sample2 = text::arguments::natural_in(values[2], 0, 65535);
@@ -49,13 +58,17 @@ fn scan(values: [i64; 6]) -> Command {
 }
 
 // The number of a parameter, as a line has it: one below zero is no parameter's, and 0 stands for it.
-fn number_in(value: i64) -> u64 {
+fn number_in(value: i64) -> u64
+    ensures { λ r. ⌜ r ≡ parameterNumber value ⌝ }
+{
     let size = integers::magnitude(value);
     if integers::negative(value) { 0 } else { size }
 }
 
 // write NUMBER VALUE: a value that 32 bits don't hold is no call
-fn write(values: [i64; 6]) -> Command {
+fn write(values: [i64; 6]) -> Command
+    ensures { λ r. ⌜ r ≡ writeCommand values ⌝ }
+{
     let number = number_in(values[0]);
     let v = values[1];
     if integers::not_above(-2147483648, v) & integers::not_above(v, 2147483647) {
@@ -65,7 +78,9 @@ fn write(values: [i64; 6]) -> Command {
 }
 
 // save LENGTH
-fn save(values: [i64; 6]) -> Command {
+fn save(values: [i64; 6]) -> Command
+    ensures { λ r. ⌜ r ≡ saveCommand values ⌝ }
+{
     let size = text::arguments::natural_in(values[0], 0, 300);
     if size.ok {
         return Command::Save(size.value as usize);
@@ -73,8 +88,10 @@ fn save(values: [i64; 6]) -> Command {
     Command::Invalid
 }
 
-// A call whose arguments are numbers.
-fn of_numbers(word: &[u8], a: Arguments) -> Command {
+// A call whose arguments are numbers. The contract rules out the command of another name.
+fn of_numbers(word: &[u8], a: Arguments) -> Command
+    ensures { λ r. ⌜ r ≡ numbersCommand (now (word .entry)) a ⌝ }
+{
     let values = a.values;
     if text::arguments::is_call(word, b"scan", a, 6) {
         return scan(values);
@@ -94,9 +111,12 @@ fn of_numbers(word: &[u8], a: Arguments) -> Command {
     Command::Invalid
 }
 
-// restart HEX, or - for no bytes: one argument, which is no number
+// restart HEX, or - for no bytes: one argument, which is no number. The contract gives every byte of the buffer, so it
+// rules out other bytes than the line has.
 fn restart(line: &[u8], start: usize, bytes: &mut [u8]) -> Command
     requires { ⌜ start ≤ length (now line) ⌝ }
+    ensures { λ r. ⌜ (r ≡ restartOf (countIn (restartImage (now (line .entry)) start) (length (now (bytes .entry)))))
+        × (now (bytes .exit) ≡ bytesIn (restartImage (now (line .entry)) start) (now (bytes .entry))) ⌝ }
 {
     let w = text::word(line, start);
     let from = w.from;
@@ -112,8 +132,12 @@ fn restart(line: &[u8], start: usize, bytes: &mut [u8]) -> Command
     }
 }
 
-// What a line asks, with a buffer for the bytes of a restart. A line that fills its whole buffer is too long.
-pub fn parse(line: &[u8], len: usize, bytes: &mut [u8]) -> Command {
+// What a line asks, with a buffer for the bytes of a restart. A line that fills its whole buffer is too long. The
+// contract gives the command and every byte of the buffer, so it rules out a command that is taken for another or for none.
+pub fn parse(line: &[u8], len: usize, bytes: &mut [u8]) -> Command
+    ensures { λ r. ⌜ (r ≡ commandIn (now (line .entry)) len (length (now (bytes .entry))))
+        × (now (bytes .exit) ≡ bytesAfter (now (line .entry)) len (now (bytes .entry))) ⌝ }
+{
     if line.len() <= len {
         return Command::Invalid;
     }

@@ -7,7 +7,7 @@ fresh-requires : tie.Need-fresh-requires
 fresh-requires c κs = tt
 
 returns : tie.Need-returns
-returns c = rw (c .fresh .ensures) (valid-fresh 0)
+returns c = (c .fresh .ensures, rw (c .fresh .ensures) (valid-fresh 0))
 
 pub first-controller-spec : {M : Type 1} → statement M
 first-controller-spec = tie.close (tie.spec fresh-requires returns)

@@ -1,7 +1,7 @@
 -- `console::line_answer` meets its contract.
 use mathlib.Core.Path.{ap, _∙_}
 use borrow.Author.Needs.{needs}
-use Rattle.console.specs.Calls.{startOf, performed, bufferAfter}
+use Rattle.console.specs.Calls.{startOf, bufferAfter, lineCommand, lineBytes, lineStep}
 use Rattle.console.specs.ReplyLaws.{start-most, reply-fits}
 use Rattle.console.specs.declared.call.Step.{Step}
 use Rattle.console.proofs.line_answer.Statement.{statement}
@@ -39,24 +39,24 @@ returns c =
     let a = c .before .before in
     let p = a .before .before .before .before .before in
     let q = p .before .before .before in
-    let room = q .before .before .before in
+    let empty = q .before .before in
+    let room = empty .before in
     let start = room .before .before .before .before in
-    let controller = start .args .controller in
-    let command = q .parse .result in
-    let bytes = q .parse .last .1 .1 .0 in
-    let reply = ap (λ (s : Step). s .reply) (p .perform .ensures .0) in
-    let o = rw (room .room .ensures, reply, p .perform .ensures .1) at (a .append-reply .ensures .0) in
-    let range = rw reply at (a .append-reply .ensures .1) in (
+    let line = start .args .line .now in
+    let len = start .args .len in
+    let parsed = rw (empty .buffer .ensures .0) at (q .parse .ensures) in
+    let result = rw (parsed .0, parsed .1) at (p .perform .ensures) in
+    let reply = ap (λ (s : Step). s .reply) (result .0) in
+    let o = rw (room .room .ensures, reply, result .1) at (a .append-reply .ensures .0) in (
       p .perform .ensures .2,
       record {
-        command = command;
-        bytes = bytes;
-        controller = ap (λ (s : Step). s .controller) (p .perform .ensures .0);
+        controller = ap (λ (s : Step). s .controller) (result .0);
         output = o;
         whole = λ size.
             o ∙
-            reply-fits (performed controller command bytes .reply) (bufferAfter controller command bytes) (start .args .out .now)
-            (startOf (start .args .used)) range (start-most (start .args .used)) size;
+            reply-fits (lineStep (start .args .controller) line len .reply)
+            (bufferAfter (start .args .controller) (lineCommand line len) (lineBytes line len)) (start .args .out .now)
+            (startOf (start .args .used)) (rw reply at (a .append-reply .ensures .1)) (start-most (start .args .used)) size;
       },
     )
 

@@ -1,11 +1,15 @@
 -- `console::request::parse` meets its contract.
-use mathlib.Core.Path.{refl}
+use borrow.Author.Tests.{le-leb, lt-leb}
+use native.Mathlib.Nat.{sub-zero}
+use Rattle.console.specs.Commands.{commandOf, commandBytes, commandIn, bytesAfter}
+use mathlib.Core.Path.{refl, sym, _∙_}
 use native.Mathlib.Omega.{arith}
 use Rattle.console.proofs.request.parse.Statement.{statement}
 use Rattle.console.proofs.request.parse.Tie as tie
 
 returns : tie.Need-returns
-returns c = tt
+unfolding commandIn bytesAfter
+returns c = (rw (le-leb _ _ (c .if1 .taken)) refl, rw (le-leb _ _ (c .if1 .taken)) refl)
 
 sub-call : tie.Need-sub-call
 sub-call c = omega arith
@@ -41,7 +45,17 @@ same-length : tie.Need-same-length
 same-length c = omega arith
 
 returns-2 : tie.Need-returns-2
-returns-2 c = tt
+unfolding commandIn bytesAfter commandOf commandBytes
+returns-2 c =
+    let r = c .before .before in
+    let s = r .before .before .before in
+    let w = s .before .before .before in
+    let one = rw sub-zero at (w .word .ensures .0) in
+    let is = sym (rw sub-zero at (s .same .ensures)) ∙ r .before .before .if2 .taken in
+    let h = lt-leb _ _ (w .before .before .if1 .left) in (
+      rw (h, ← one, is) (rw sub-zero at (r .restart .ensures .0)),
+      rw (h, ← one, is) (rw sub-zero at (r .restart .ensures .1)),
+    )
 
 sub-of-numbers : tie.Need-sub-of-numbers
 sub-of-numbers c = omega arith
@@ -59,7 +73,17 @@ of-numbers-requires : tie.Need-of-numbers-requires
 of-numbers-requires c κs = tt
 
 returns-3 : tie.Need-returns-3
-returns-3 c = tt
+unfolding commandIn bytesAfter commandOf commandBytes
+returns-3 c =
+    let i = c .before .before .before in
+    let s = i .before in
+    let w = s .before .before .before in
+    let one = rw sub-zero at (w .word .ensures .0) in
+    let is = sym (rw sub-zero at (s .same .ensures)) ∙ i .if2 .left in
+    let h = lt-leb _ _ (w .before .before .if1 .left) in (
+      rw (h, ← one, is) (rw (c .before .parse .ensures, sub-zero) at (c .of-numbers .ensures)),
+      rw (h, ← one, is) refl,
+    )
 
 pub parse-spec : {M : Type 1} → statement M
 parse-spec =

@@ -1,12 +1,13 @@
--- `console::request::write` is safe: a value that is narrowed fits.
-use mathlib.Core.Path.{sym, _∙_}
+-- `console::request::write` meets its contract.
+use Rattle.console.specs.Commands.{argument, writeCommand}
+use mathlib.Core.Path.{sym, _∙_, refl}
 use lib.ListN.{getD}
 use lib.IntN.{pos}
 use mir.Val.{toZ, ofZ}
-use mir.Syntax.{w64}
+use mir.Syntax.{w64, w32}
 use native.Mathlib.Omega.{arith}
 use Rattle.integers.specs.Choice.{both}
-use Rattle.integers.specs.Machine.{held}
+use Rattle.integers.specs.Machine.{held, back}
 use Rattle.console.proofs.request.write.Statement.{statement}
 use Rattle.console.proofs.request.write.Tie as tie
 
@@ -33,10 +34,37 @@ narrow-requires c κs =
     held (toZ w64 (ofZ w64 (getD (c .before .before .before .before .before .before .args .t1) 1 (pos 0)))) low high
 
 returns : tie.Need-returns
-returns c = tt
+unfolding writeCommand
+returns c =
+    let n2 = c .before .before in
+    let n1 = n2 .before in
+    let num = n1 .before .before in
+    let values = num .before .before .args .t1 in
+    let w = back w64 (argument values 1) (n1 .before .v .given) in
+    let low = rw w at (n1 .not-above .ensures) in
+    let high = rw w at (n2 .not-above2 .ensures) in
+    let number = rw (back w64 (argument values 0) (num .before .number-in-arg .given)) at (num .number-in .ensures) in
+    rw (
+      ← low,
+      ← high,
+      c .before .if1 .taken,
+      number,
+      back w32 (c .narrow .result) (c .narrow .ok),
+      c .narrow .ensures,
+      w,
+    ) refl
 
 returns-2 : tie.Need-returns-2
-returns-2 c = tt
+unfolding writeCommand
+returns-2 c =
+    let n2 = c .before in
+    let n1 = n2 .before in
+    let num = n1 .before .before in
+    let values = num .before .before .args .t1 in
+    let w = back w64 (argument values 1) (n1 .before .v .given) in
+    let low = rw w at (n1 .not-above .ensures) in
+    let high = rw w at (n2 .not-above2 .ensures) in
+    rw (← low, ← high, c .if1 .left) refl
 
 pub write-spec : {M : Type 1} → statement M
 write-spec =
