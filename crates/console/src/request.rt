@@ -133,7 +133,8 @@ fn restart(line: &[u8], start: usize, bytes: &mut [u8]) -> Command
 }
 
 // What a line asks, with a buffer for the bytes of a restart. A line that fills its whole buffer is too long. The
-// contract gives the command and every byte of the buffer, so it rules out a command that is taken for another or for none.
+// contract gives the command and every byte of the buffer, so it rules out a command that is taken for another or for
+// none.
 pub fn parse(line: &[u8], len: usize, bytes: &mut [u8]) -> Command
     ensures { λ r. ⌜ (r ≡ commandIn (now (line .entry)) len (length (now (bytes .entry))))
         × (now (bytes .exit) ≡ bytesAfter (now (line .entry)) len (now (bytes .entry))) ⌝ }
