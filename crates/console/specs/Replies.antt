@@ -26,6 +26,6 @@ unfoldable pub replyLine : Reply → List ℕ → List ℕ
 replyLine reply saved = replyText reply saved ++ ascii "\n"
 
 -- a scan that fresh pins give: MD first, then DS, OP and electrical output
-words-sample : replyLine (Words 0x1002 0x913F 0 0) [] ≡ ascii "scan 4098 37183 0 0\n"
+words-example : replyLine (Words 0x1002 0x913F 0 0) [] ≡ ascii "scan 4098 37183 0 0\n"
 unfolding replyLine replyText spaced digits digitsWithin
-words-sample = refl
+words-example = refl
