@@ -9,7 +9,7 @@ use lib.ListN.{length, take, drop, getD}
 use lib.Signed.{leZ}
 use Rattle.integers.specs.Choice.{if_then_else_}
 use Rattle.integers.specs.Sign.{isNegative}
-use Rattle.text.specs.Arguments.{argumentsFrom, isCall, naturalIn}
+use Rattle.text.specs.Arguments.{part, argumentsFrom, isCall, naturalIn}
 use Rattle.text.specs.Hexadecimal.{bytesOf, countIn, bytesIn}
 use Rattle.text.specs.Words.{wordAt, sameBytes}
 use Rattle.text.specs.declared.arguments.Arguments.{Arguments}
@@ -71,10 +71,6 @@ numbersCommand word a =
     if isCall word (ascii "save") a 1 then saveCommand (a .values) else Invalid
 
 -- ---- a restart
-
--- the bytes of a line between two places
-abbrev pub part : List ℕ → ℕ → ℕ → List ℕ
-part line from to = take (to - from) (drop from line)
 
 -- restart HEX: the bytes of the one word behind a place
 unfoldable pub restartImage : List ℕ → ℕ → Option (List ℕ)

@@ -14,7 +14,7 @@ use Rattle.text.specs.declared.arguments.Arguments.{Arguments}
 use Rattle.text.specs.declared.arguments.Natural.{Natural}
 
 -- the bytes of a line from a position up to another
-unfoldable pub part : List ℕ → ℕ → ℕ → List ℕ
+abbrev pub part : List ℕ → ℕ → ℕ → List ℕ
 part line from to = take (to - from) (drop from line)
 
 -- the words of a line from a position on, as many as there are, but at most so many

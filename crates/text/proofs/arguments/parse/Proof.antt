@@ -24,7 +24,6 @@ abbrev μ-loop : tie.MeasureT-loop
 word-read : (c : tie.After-number Inv-loop μ-loop) →
     numberOf (part (c .before .before .before .before .before .before .before .args .line .now)
     (c .before .before .before .word .result .from) (c .before .before .before .word .result .to)) ≡ c .number .result
-unfolding part
 word-read c = sym (c .number .ensures)
 
 loop-holds : tie.Need-loop-holds Inv-loop μ-loop
