@@ -1,4 +1,5 @@
-# Two commands: `make run` proves, builds and plays figures, a drying session, two dryers and power cuts; `make test` is the gate.
+# Two commands: `make run` proves, builds and plays figures, a drying session, two dryers and power cuts; `make test` is
+# the gate.
 .PHONY: run test
 
 run:
@@ -6,4 +7,4 @@ run:
 	sh demo/show
 
 test:
-	python3 tests/gate.py
+	python3 -B -m tests.gate.gate

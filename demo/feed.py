@@ -1,10 +1,12 @@
-"""Plays two dryers through two runs of the console, the leading one's PV feeding channel 2 of the following one, and shows both side by side.
+"""Plays two dryers through two runs of the console, the leading one's PV feeding channel 2 of the following one, and
+shows both side by side.
 
-Usage: python3 demo/feed.py LEADING FOLLOWING CONSOLE
+Usage: python3 -B -m demo.feed LEADING FOLLOWING CONSOLE
 
-LEADING and FOLLOWING are sessions in the form that demo/play.py reads, with equally many scans; behind every scan of the leading dryer its PV is
-read. That PV, turned back into a sample by the leading dryer's range, becomes sample 2 of the following dryer's scan before it is played, and
-must be the one recorded. A line is shown for each scan behind which PV, SP and SL are read in both sessions.
+LEADING and FOLLOWING are sessions in the form that demo/play.py reads, with equally many scans; behind every scan of
+the leading dryer its PV is read. That PV, turned back into a sample by the leading dryer's range, becomes sample 2 of
+the following dryer's scan before it is played, and must be the one recorded. A line is shown for each scan behind which
+PV, SP and SL are read in both sessions.
 """
 
 import subprocess
@@ -12,7 +14,7 @@ import sys
 import textwrap
 from typing import NamedTuple
 
-from play import MODES, is_set, read_session
+from demo.play import MODES, is_set, read_session
 
 RATIO_SWITCH, R_BUTTON, REQUEST_BUTTONS = 15, 2, 0x07
 NUMBERS = {1: "1H", 2: "1L", 20: "SL", 21: "RS", 29: "SP", 30: "PV"}
@@ -63,7 +65,7 @@ def scans_of(calls, answers):
 
 
 def fed(calls, leading):
-    """The following dryer's calls with sample 2 made of the leading dryer's PV; and how many of them aren't as recorded."""
+    """The following dryer's calls with sample 2 made of the leading dryer's PV, and how many aren't as recorded."""
     high, low = leading[0].read["1H"], leading[0].read["1L"]
     number, different, played = 0, 0, []
     for call, comment in calls:

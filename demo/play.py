@@ -1,16 +1,18 @@
 """Plays a session through the console and shows what came of it.
 
-Usage: python3 demo/play.py SESSION CONSOLE
+Usage: python3 -B -m demo.play SESSION CONSOLE
 
-A session is a file of calls; text behind a # is a comment and heads the calls that follow. Shown of each part are its first and its last scan, and
-those at which the mode or one of the notes below changed.
+A session is a file of calls; text behind a # is a comment and heads the calls that follow. Shown of each part are its
+first and its last scan, and those at which the mode or one of the notes below changed.
 """
 
 import subprocess
 import sys
 
-MODES = ((15, "Hold"), (14, "Track"), (13, "Manual"), (12, "Auto"), (11, "Remote"))  # by the bits of MD, which show Fall-back as Auto and Ratio as Remote
-NOTES = (("MD", 9, 1, "probe open too long"), ("MD", 8, 1, "memory fault"), ("DS", 3, 0, "battery low"), ("DS", 1, 0, "low alarm"), ("DS", 0, 0, "high alarm"))
+# By the bits of MD, which show Fall-back as Auto and Ratio as Remote
+MODES = ((15, "Hold"), (14, "Track"), (13, "Manual"), (12, "Auto"), (11, "Remote"))
+NOTES = (("MD", 9, 1, "probe open too long"), ("MD", 8, 1, "memory fault"), ("DS", 3, 0, "battery low"), ("DS", 1, 0, "low alarm"),
+         ("DS", 0, 0, "high alarm"))
 BAR = 40
 
 
@@ -36,7 +38,7 @@ def standing(md, ds):
 
 
 def row(number, call, answer):
-    """One scan: its number, what the probe said, the mode, the output and a bar of it."""
+    """One scan: its number, what the probe read, the mode, the output and a bar of it."""
     _, md, ds, op, _ = answer.split()
     mode, notes = standing(int(md), int(ds))
     probe = "open" if int(call.split()[6]) & 1 else f"{int(call.split()[2]) / 100:.2f} %"
@@ -44,7 +46,7 @@ def row(number, call, answer):
     return f"  {number:5}  {probe:>8}  {mode:<13}  {int(op) / 100:6.2f} %  {bar:<20}  {notes}".rstrip()
 
 
-def shown(part):
+def rows(part):
     """The scans of one part that are worth a line."""
     before = None
     for place, (number, call, answer) in enumerate(part):
@@ -78,7 +80,7 @@ def main():
     print(f"\n{session}: {len(calls)} calls\n\n   scan     probe  mode              OP")
     for title, part in parts(calls, answers):
         print(f"\n{title}")
-        print("\n".join(shown(part)))
+        print("\n".join(rows(part)))
 
 
 if __name__ == "__main__":

@@ -1,10 +1,11 @@
-"""Plays power cuts through the console: what it saved before a cut is handed back to it afterwards.
+"""Plays power cuts through the console: with what it saved before a cut it is restarted afterwards.
 
-Usage: python3 demo/power_cut.py CONSOLE
+Usage: python3 -B -m demo.power_cut CONSOLE
 
-A dryer runs and saves an image of its settings, runs on and saves a newer one; then the console is ended, as a power cut would end it, and started anew. It
-is given the newer image, the same with the power-fail switch ON, and every mixture of the two that a cut in the midst of saving would leave. Ends with
-status 1 if a setting doesn't come back or a mixture gives settings that are neither image's.
+A dryer runs and saves an image of its settings, runs on and saves a newer one; then the console is ended, as a power
+cut would end it, and started anew. It is given the newer image, the same with the power-fail switch ON, and every
+mixture of the two that a cut in the midst of saving would leave. Ends with status 1 if a setting doesn't come back or a
+mixture gives settings that are neither image's.
 """
 
 import collections
@@ -85,7 +86,10 @@ def after_the_cut(program, switches, image):
 
 
 def mixed(program, older, newer):
-    """What becomes of each mixture, the first bytes of the newer image over the older one; a state is told by the image that it saves to."""
+    """What becomes of each mixture, the first bytes of the newer image over the older one.
+
+    A state is told by the image that it saves to.
+    """
     console, counts, faulty = Console(program, 0), collections.Counter(), None
     states = {}
     for name, image in (("the older image's settings", older), ("the newer image's settings", newer)):
@@ -99,7 +103,7 @@ def mixed(program, older, newer):
         if answer == "ok" and not is_fault:
             counts[states.get(console.save(), "UNSEEN by the sumcheck")] += 1
         else:
-            counts["the memory fault" if is_fault else "declined"] += 1
+            counts["the memory fault" if is_fault else "refused"] += 1
             faulty = faulty or (is_fault and mixture)
     console.end()
     return counts, faulty

@@ -1,41 +1,47 @@
 """Records two sessions: a leading dryer, and a following one whose channel 2 is fed with the leading dryer's PV.
 
-Usage: python3 demo/record.py [--check]
+Usage: python3 -B -m demo.record [--check]
 
-The dryers are simple drums, not measured ones; the answers that move them are the reckoner's of tests/. With --check nothing is written, and the
-test fails if the two files aren't what is recorded here; its last line is then 'N passed, M failed'.
+The dryers are simple drums, not measured ones; the answers that move them are the model's of tests/. With --check
+nothing is written, and the test fails if the two files aren't what is recorded here; its last line is then 'N passed, M
+failed'.
 """
 
 import pathlib
 import sys
 
-sys.dont_write_bytecode = True  # leave no compiled files beside the sources
-HERE = pathlib.Path(__file__).resolve().parent
-sys.path.insert(0, str(HERE.parent / "tests"))
-import loop
-import tally
-from console_lines import line_of
-from state import Stored
-from table import NUMBER
+from tests.gate import tally
+from tests.model import loop
+from tests.model.lines import line_of
+from tests.model.state import Stored
+from tests.model.table import NUMBER
 
+HERE = pathlib.Path(__file__).resolve().parent
 LEADING, FOLLOWING = HERE / "leading.txt", HERE / "following.txt"
 HEADS = {
-    LEADING: """# The leading dryer, call by call: what the console is given. Text behind a # is a comment. Made with a simple drum, not measured. PV is in
-# tenths of a degree; after each scan PV is read and feeds channel 2 of the following dryer, in following.txt. A scan is PINS S1 S2 S3
-# BUTTONS SENSORS; pins: 128 Hold at 15 V, 64 Track, 1 unit address; buttons: 2 A. Parameters: 1 1H, 2 1L, 9 HS, 17 XP, 18 TI, 20 SL, 29 SP, 30 PV.
+    LEADING: """\
+# The leading dryer, call by call: what the console is given. Text behind a # is a comment. Made with a simple drum, not
+# measured. PV is in tenths of a degree; after each scan PV is read and feeds channel 2 of the following dryer, in
+# following.txt. A scan is PINS S1 S2 S3 BUTTONS SENSORS; pins: 128 Hold at 15 V, 64 Track, 1 unit address; buttons: 2
+# A. Parameters: 1 1H, 2 1L, 9 HS, 17 XP, 18 TI, 20 SL, 29 SP, 30 PV.
 """,
-    FOLLOWING: """# The following dryer, call by call: what the console is given. Text behind a # is a comment. Made with a simple drum, not measured. Sample 2
-# of each scan is the sample that gives the PV of the leading dryer, leading.txt, in the same scan. Pins: 128 Hold at 15 V, 64 Track, 32 Remote, 2 unit
-# address; buttons: 64 Raise, 8 SP, 4 R. Parameters: 1 1H, 3 2H, 7 HR, 8 LR, 9 HS, 17 XP, 18 TI, 20 SL, 21 RS, 22 RB, 29 SP, 30 PV.
+    FOLLOWING: """\
+# The following dryer, call by call: what the console is given. Text behind a # is a comment. Made with a simple drum,
+# not measured. Sample 2 of each scan is the sample that gives the PV of the leading dryer, leading.txt, in the same
+# scan. Pins: 128 Hold at 15 V, 64 Track, 32 Remote, 2 unit address; buttons: 64 Raise, 8 SP, 4 R. Parameters: 1 1H,
+# 3 2H, 7 HR, 8 LR, 9 HS, 17 XP, 18 TI, 20 SL, 21 RS, 22 RB, 29 SP, 30 PV.
 """}
-SCANS, SHOWN_EVERY = 120, 6
+SCANS, DISPLAY_EVERY = 120, 6
 RANGE = 1200            # 0 to 120.0 degrees on channels 1 and 2
 TRACK, REMOTE, NO_REMOTE = 0xC0, 0xA2, 0x82
 A_BUTTON, R_BUTTON, SP_AND_RAISE = 0x02, 0x04, 0x48
 
 
 class Dryer:
-    """A drum and its controller. The drum's temperature, in sample units, goes toward what its burner gives, the slower the greater its lag."""
+    """A drum and its controller.
+
+    The drum's temperature, in sample units, goes toward what its burner gives, the slower the greater its lag.
+    """
 
     def __init__(self, temperature, lag):
         self.temperature, self.lag = temperature, lag
@@ -60,7 +66,7 @@ class Dryer:
 
     def show(self, number, others):
         """SP and SL are read where the player is to show a line: every few scans and at the numbers given."""
-        if number % SHOWN_EVERY == 0 or number in others:
+        if number % DISPLAY_EVERY == 0 or number in others:
             for name in ("SP", "SL"):
                 self.read(name)
 
@@ -70,17 +76,20 @@ LEADING_WRITES = {34: ("The setpoint is written: 75 degrees", {"SL": 750}), 70: 
                   100: ("The setpoint is written: 68 degrees", {"SL": 680})}
 # The parts of the following dryer's session: its first scan, SW, note and parameters.
 PARTS = {1: (0x0000, "Remote: S2.1 is OFF; the setpoint is the leading dryer's PV", {"SL": 430}),
-         45: (0x8000, "Ratio: started fresh with S2.1 ON; the setpoint is 100 x PV / RS + RB, RS in hundredths", {"SL": 520, "RS": 125, "RB": -20}),
+         45: (0x8000, "Ratio: started fresh with S2.1 ON; the setpoint is 100 x PV / RS + RB, RS in hundredths",
+              {"SL": 520, "RS": 125, "RB": -20}),
          85: (0xA000, "Inverse ratio: started fresh with S2.3 ON too; the setpoint is PV x RS / 100 + RB", {"SL": 560, "RS": 80, "RB": 30})}
-WITHOUT_REMOTE = {**dict.fromkeys(range(22, 31), "Remote"), **dict.fromkeys(range(72, 79), "Ratio"), **dict.fromkeys(range(106, 113), "Ratio")}
+WITHOUT_REMOTE = {**dict.fromkeys(range(22, 31), "Remote"), **dict.fromkeys(range(72, 79), "Ratio"),
+                  **dict.fromkeys(range(106, 113), "Ratio")}
 RAISED, RS_WRITTEN, SL_REFUSED, SL_WRITTEN = (56, 57), 64, 60, 74
-SHOWN = {1, 3, 4, 5, 21, 22, 30, 31, 45, 46, 47, 55, 56, 57, 60, 64, 71, 72, 74, 78, 79, 85, 86, 87, 105, 106, 112, 113}
+DISPLAYED = {1, 3, 4, 5, 21, 22, 30, 31, 45, 46, 47, 55, 56, 57, 60, 64, 71, 72, 74, 78, 79, 85, 86, 87, 105, 106, 112, 113}
 
 
 def lead(dryer, number):
     """One scan of the leading dryer and what comes before it; the PV that is read behind it."""
     if number == 1:
-        dryer.call("fresh", 0, note="Started fresh; a range of 0 to 120.0 degrees, setpoints up to 100.0, XP 25.0 percent, TI 0.4 s, SL 60.0 degrees")
+        dryer.call("fresh", 0, note="Started fresh; a range of 0 to 120.0 degrees, "
+                   "setpoints up to 100.0, XP 25.0 percent, TI 0.4 s, SL 60.0 degrees")
         dryer.write(channel_1H=RANGE, HS=1000, XP=250, TI=4, SL=600)
         for name in ("channel_1H", "channel_1L"):
             dryer.read(name)
@@ -93,7 +102,7 @@ def lead(dryer, number):
     else:
         dryer.scan(0x81, buttons=A_BUTTON if number == 4 else 0, note="A is pressed: Auto" if number == 4 else "")
     PV = dryer.read("PV")
-    dryer.show(number, SHOWN)
+    dryer.show(number, DISPLAYED)
     return PV
 
 
@@ -119,15 +128,18 @@ def follow(dryer, number, sample):
     if number == first:
         dryer.scan(TRACK | NO_REMOTE, sample, dryer.OP or 3000, note="Track: the output is taken over where it stands")
     elif number == first + 1:
-        dryer.scan(REMOTE, sample, buttons=R_BUTTON, note="R is pressed, the Remote pin is at 15 V: " + ("Remote" if first == 1 else "Ratio"))
+        dryer.scan(REMOTE, sample, buttons=R_BUTTON, note="R is pressed, the Remote pin is at 15 V: "
+                   + ("Remote" if first == 1 else "Ratio"))
     elif number in WITHOUT_REMOTE:
-        dryer.scan(NO_REMOTE, sample, note="The Remote pin goes to 0 V: Fall-back, the setpoint stays" if number - 1 not in WITHOUT_REMOTE else "")
+        dryer.scan(NO_REMOTE, sample, note="The Remote pin goes to 0 V: Fall-back, the setpoint stays" if number - 1 not in WITHOUT_REMOTE
+                   else "")
     else:
         back = WITHOUT_REMOTE.get(number - 1)
         raised = "SP and Raise are held: RS goes up by 12 a scan" if number == RAISED[0] else ""
-        dryer.scan(REMOTE, sample, buttons=SP_AND_RAISE if number in RAISED else 0, note=f"The Remote pin is at 15 V again: {back}" if back else raised)
+        dryer.scan(REMOTE, sample, buttons=SP_AND_RAISE if number in RAISED else 0,
+                   note=f"The Remote pin is at 15 V again: {back}" if back else raised)
     dryer.read("PV")
-    dryer.show(number, SHOWN)
+    dryer.show(number, DISPLAYED)
 
 
 def recorded():
@@ -136,13 +148,15 @@ def recorded():
     for number in range(1, SCANS + 1):
         PV = lead(leading, number)
         follow(following, number, round(PV * 10000 / RANGE))
-    return {path: HEADS[path] + "".join(line + "\n" for line in dryer.lines) for path, dryer in ((LEADING, leading), (FOLLOWING, following))}
+    return {path: HEADS[path] + "".join(line + "\n" for line in dryer.lines)
+            for path, dryer in ((LEADING, leading), (FOLLOWING, following))}
 
 
 def main():
     texts = recorded()
     if "--check" in sys.argv:
-        faults = [f"{path.name} isn't what demo/record.py records" for path, text in texts.items() if path.read_text(encoding="utf-8") != text]
+        faults = [f"{path.name} isn't what demo/record.py records"
+                  for path, text in texts.items() if path.read_text(encoding="utf-8") != text]
         return tally.report(faults, len(texts), "both sessions are as recorded")
     for path, text in texts.items():
         path.write_text(text, encoding="utf-8")

@@ -1,9 +1,11 @@
 // What a line asks, and its answer. Each argument is tested against its range before the function is called.
+ghost use mathlib.Core.Path.{_≡_};
 ghost use Prim.Native.Nat.{_≤_};
 ghost use lib.IntN.{natAbs};
 ghost use Rattle.terms.specs.Terms.{TuningRange};
-use lines::Arguments;
+ghost use Rattle.calculator.specs.Arguments.{signedIn, tuningIn};
 use terms::Tuning;
+use text::arguments::Arguments;
 
 pub enum Answer {
     Number(i64),
@@ -16,8 +18,9 @@ struct Signed {
     value: i64,
 }
 
+// The contract rules out a value in range that isn't accepted, and another number in its place.
 fn signed_in(value: i64, most: u64) -> Signed
-    ensures { λ r. ⌜ natAbs (r .value) ≤ most ⌝ }
+    ensures { λ r. ⌜ (r ≡ signedIn value most) × (natAbs (r .value) ≤ most) ⌝ }
 {
     let size = integers::magnitude(value);
     if most < size {
@@ -33,7 +36,7 @@ fn signed_in(value: i64, most: u64) -> Signed
 fn scale(values: [i64; 6]) -> Answer {
     let low = signed_in(values[0], 9999);
     let high = signed_in(values[1], 9999);
-    let sample = lines::natural_in(values[2], 0, 10000);
+    let sample = text::arguments::natural_in(values[2], 0, 10000);
     if low.ok & high.ok & sample.ok {
         let l = low.value;
         let h = high.value;
@@ -46,7 +49,7 @@ fn scale(values: [i64; 6]) -> Answer {
 
 // root SAMPLE
 fn root(values: [i64; 6]) -> Answer {
-    let sample = lines::natural_in(values[0], 0, 10000);
+    let sample = text::arguments::natural_in(values[0], 0, 10000);
     if sample.ok {
         return Answer::Number(scaling::root(sample.value as u16) as i64);
     }
@@ -56,7 +59,7 @@ fn root(values: [i64; 6]) -> Answer {
 // ratio Q S, or inverse Q S
 fn ratio(values: [i64; 6], inverse: bool) -> Answer {
     let q = signed_in(values[0], 9999);
-    let s = lines::natural_in(values[1], 1, 9999);
+    let s = text::arguments::natural_in(values[1], 1, 9999);
     if q.ok & s.ok {
         if inverse {
             return Answer::Number(scaling::inverse_ratio(q.value, s.value));
@@ -85,15 +88,16 @@ struct Setting {
     tuning: Tuning,
 }
 
+// The contract rules out arguments that are exchanged, one that isn't tested, and legal ones that aren't accepted.
 fn tuning_in(xp: i64, span: i64, ti: i64, td: i64, minutes: i64, inverted: i64) -> Setting
-    ensures { λ r. ⌜ TuningRange (r .tuning) ⌝ }
+    ensures { λ r. ⌜ (r ≡ tuningIn xp span ti td minutes inverted) × TuningRange (r .tuning) ⌝ }
 {
-    let x = lines::natural_in(xp, 1, 9999);
-    let w = lines::natural_in(span, 1, 19998);
-    let i = lines::natural_in(ti, 0, 9999);
-    let d = lines::natural_in(td, 0, 9999);
-    let m = lines::natural_in(minutes, 0, 1);
-    let v = lines::natural_in(inverted, 0, 1);
+    let x = text::arguments::natural_in(xp, 1, 9999);
+    let w = text::arguments::natural_in(span, 1, 19998);
+    let i = text::arguments::natural_in(ti, 0, 9999);
+    let d = text::arguments::natural_in(td, 0, 9999);
+    let m = text::arguments::natural_in(minutes, 0, 1);
+    let v = text::arguments::natural_in(inverted, 0, 1);
     Setting {
         ok: x.ok & w.ok & i.ok & d.ok & m.ok & v.ok,
         tuning: Tuning {
@@ -142,13 +146,13 @@ fn derivative(values: [i64; 6]) -> Answer {
 
 fn of_term(name: &[u8], a: Arguments) -> Answer {
     let values = a.values;
-    if check::same(name, b"proportional") && lines::has(a, 3) {
+    if text::arguments::is_call(name, b"proportional", a, 3) {
         return proportional(values);
     }
-    if check::same(name, b"integral") && lines::has(a, 5) {
+    if text::arguments::is_call(name, b"integral", a, 5) {
         return integral(values);
     }
-    if check::same(name, b"derivative") && lines::has(a, 6) {
+    if text::arguments::is_call(name, b"derivative", a, 6) {
         return derivative(values);
     }
     Answer::NoCall
@@ -156,19 +160,19 @@ fn of_term(name: &[u8], a: Arguments) -> Answer {
 
 fn of_call(name: &[u8], a: Arguments) -> Answer {
     let values = a.values;
-    if check::same(name, b"scale") && lines::has(a, 3) {
+    if text::arguments::is_call(name, b"scale", a, 3) {
         return scale(values);
     }
-    if check::same(name, b"root") && lines::has(a, 1) {
+    if text::arguments::is_call(name, b"root", a, 1) {
         return root(values);
     }
-    if check::same(name, b"ratio") && lines::has(a, 2) {
+    if text::arguments::is_call(name, b"ratio", a, 2) {
         return ratio(values, false);
     }
-    if check::same(name, b"inverse") && lines::has(a, 2) {
+    if text::arguments::is_call(name, b"inverse", a, 2) {
         return ratio(values, true);
     }
-    if check::same(name, b"limit") && lines::has(a, 3) {
+    if text::arguments::is_call(name, b"limit", a, 3) {
         return limit(values);
     }
     of_term(name, a)
@@ -178,6 +182,6 @@ pub fn of_line(line: &[u8]) -> Answer {
     let w = text::word(line, 0);
     let from = w.from;
     let to = w.to;
-    let a = lines::arguments_of(line, to);
+    let a = text::arguments::parse(line, to);
     of_call(&line[from..to], a)
 }

@@ -1,70 +1,66 @@
 // What a line asks of an image: a restart with one, or saving one.
 ghost use mathlib.Core.Path.{_≡_};
-ghost use Prim.Native.Nat.{_≤_};
-ghost use lib.ListN.{length};
+ghost use lib.Dec.{leb};
+ghost use lib.ListN.{length, take, drop, replicate};
+ghost use Rattle.integers.specs.Choice.{if_then_else_};
+ghost use Rattle.controller.specs.Restart.{restart};
 ghost use Rattle.controller.specs.Valid.{Valid};
+ghost use Rattle.console.specs.Calls.{stepOf, unchangedWith, isFilled, filled, checkedReply, replyToSave, savedBuffer};
+ghost use Rattle.console.specs.declared.call.Reply.the-variants.{Error};
 use crate::call::Reply;
 use crate::call::Step;
 use controller::Controller;
 use signals::Verdict;
 
 // What each byte of the buffer is before a save: none but the image's bytes may differ from it afterwards.
-const BEFORE: u8 = 0xA5;
+const FILL: u8 = 0xA5;
 
-// As many zeros as a line has room for bytes.
-fn zeros() -> [u8; 346]
-    ensures { λ r. ⌜ 346 ≡ length r ⌝ }
+// A buffer for the bytes of a restart, as many as a line has room for, and to save into.
+pub fn buffer() -> [u8; 346]
+    ensures { λ r. ⌜ (r ≡ replicate 346 0) × (346 ≡ length r) ⌝ }
 {
     [0; 346]
 }
 
-// A buffer to save into.
-pub fn buffer() -> [u8; 300]
-    ensures { λ r. ⌜ 300 ≡ length r ⌝ }
+// A restart with so many bytes of the buffer. The contract rules out one with other bytes, and a controller that isn't
+// the one which the restart returned.
+pub fn restart(controller: Controller, count: usize, buffer: &[u8]) -> Step
+    ensures { λ r. ⌜ r ≡ (if leb count (length (now (buffer .entry))) then
+        stepOf (restart controller (take count (now (buffer .entry)))) else unchangedWith controller Error) ⌝ }
 {
-    [0; 300]
-}
-
-fn restarted(controller: Controller, image: &[u8]) -> Step
-    requires { ⌜ Valid controller ⌝ }
-    ensures { λ r. ⌜ Valid (r .controller) ⌝ }
-{
-    let r = controller.restart(image);
-    let next = r.controller;
-    let verdict = r.verdict;
+    if count <= buffer.len() {
+        let r = controller.restart(&buffer[0..count]);
+        let next = r.controller;
+        let verdict = r.verdict;
+        return Step {
+            controller: next,
+            reply: crate::call::reply_to_verdict(verdict),
+        };
+    }
     Step {
-        controller: next,
-        reply: crate::call::reply_to_verdict(verdict),
+        controller,
+        reply: Reply::Error,
     }
 }
 
-// restart HEX, or - for no bytes. A line has room for 346 of them.
-pub fn restart(controller: Controller, word: &[u8]) -> Step
-    requires { ⌜ Valid controller ⌝ }
-    ensures { λ r. ⌜ Valid (r .controller) ⌝ }
+// The contract rules out a byte that isn't filled.
+fn fill(buffer: &mut [u8])
+    ensures { λ r. ⌜ now (buffer .exit) ≡ filled (now (buffer .entry)) ⌝ }
 {
-    let mut bytes = zeros();
-    let taken = lines::hexadecimal::bytes_in(word, &mut bytes);
-    if taken.ok {
-        let count = taken.count;
-        return restarted(controller, &bytes[0..count]);
-    }
-    crate::call::no_call(controller)
-}
-
-fn fill(buffer: &mut [u8]) {
     let mut i = 0;
     while i < buffer.len() {
-        buffer[i] = BEFORE;
+        buffer[i] = FILL;
         i += 1;
     }
 }
 
-// Whether the bytes of the buffer from a place on are as they were before.
-fn stayed(buffer: &[u8], from: usize) -> bool {
+// Whether the bytes of the buffer from a position on are as they were filled.
+fn is_unchanged(buffer: &[u8], from: usize) -> bool
+    ensures { λ r. ⌜ r ≡ isFilled (drop from (now (buffer .entry))) ⌝ }
+{
     let mut i = from;
     while i < buffer.len() {
-        if buffer[i] != BEFORE {
+        if buffer[i] != FILL {
             return false;
         }
         i += 1;
@@ -73,39 +69,38 @@ fn stayed(buffer: &[u8], from: usize) -> bool {
 }
 
 // The reply to a save: where a byte changed that had to stay, `error`.
-fn reply_to_save(verdict: Verdict, buffer: &[u8]) -> Reply {
+fn reply_to_save(verdict: Verdict, buffer: &[u8]) -> Reply
+    ensures { λ r. ⌜ r ≡ checkedReply verdict (now (buffer .entry)) ⌝ }
+{
     match verdict {
         Verdict::Accepted => {
-            if stayed(buffer, 137) {
+            if is_unchanged(buffer, 137) {
                 Reply::Image
             } else {
-                Reply::NoCall
+                Reply::Error
             }
         }
         Verdict::Refused(refusal) => {
-            if stayed(buffer, 0) {
+            if is_unchanged(buffer, 0) {
                 Reply::Refused(refusal.number())
             } else {
-                Reply::NoCall
+                Reply::Error
             }
         }
     }
 }
 
-// save LENGTH: lends so many bytes of the buffer. All others of it must stay too.
-pub fn save(controller: Controller, value: i64, buffer: &mut [u8]) -> Step
-    requires { ⌜ Valid controller × 300 ≤ length (now buffer) ⌝ }
-    ensures { λ r. ⌜ Valid (r .controller) ⌝ }
+// Saves into so many bytes of the buffer. All others of it must stay too. The contract gives the reply by the verdict
+// alone, so it rules out that a byte changes which had to stay; and every byte of the buffer.
+pub fn save(controller: Controller, count: usize, buffer: &mut [u8]) -> Reply
+    requires { ⌜ Valid controller ⌝ }
+    ensures { λ r. ⌜ (r ≡ replyToSave count (now (buffer .entry)))
+        × (now (buffer .exit) ≡ savedBuffer controller count (now (buffer .entry))) ⌝ }
 {
-    let size = lines::natural_in(value, 0, 300);
-    if size.ok {
-        fill(buffer);
-        let lent = size.value as usize;
-        let verdict = controller.save(&mut buffer[0..lent]);
-        return Step {
-            controller,
-            reply: reply_to_save(verdict, buffer),
-        };
+    fill(buffer);
+    if count <= buffer.len() {
+        let verdict = controller.save(&mut buffer[0..count]);
+        return reply_to_save(verdict, buffer);
     }
-    crate::call::no_call(controller)
+    Reply::Error
 }

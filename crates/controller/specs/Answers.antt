@@ -12,56 +12,56 @@ use Rattle.signals.specs.declared.Verdict.the-variants.{Accepted}
 use Rattle.controller.specs.declared.Answer.{Answer}
 use Rattle.controller.specs.declared.Answer.the-variants.{Words, Refused}
 use Rattle.controller.specs.declared.Controller.{Controller}
-use Rattle.controller.specs.declared.Judged.{Judged}
+use Rattle.controller.specs.declared.CallResult.{CallResult}
 use Rattle.controller.specs.declared.ReadAnswer.{ReadAnswer}
 use Rattle.controller.specs.declared.ReadAnswer.the-variants as readanswer
 use Rattle.controller.specs.declared.ReadAnswer.the-variants.{Value}
-use Rattle.controller.specs.declared.Scanned.{Scanned}
+use Rattle.controller.specs.declared.ScanResult.{ScanResult}
 
-pub data Said : Type 0 where
+pub data Reply : Type 0 where
   -- "A scan answers MD, DS, OP and electrical output"
-  words : (md ds op electrical : ℕ) → Said
+  words : (md ds op electrical : ℕ) → Reply
   -- "a read answers the value"
-  reading : ℤ → Said
+  reading : ℤ → Reply
   -- "an accepted write, restart or save says only that it was accepted"
-  acceptance : Said
-  -- a call that is declined answers "the number alone"
-  number : ℕ → Said
+  acceptance : Reply
+  -- a call that is refused answers "the number alone"
+  number : ℕ → Reply
 
 -- the paper's number and values for each case of our answer
-abbrev pub said : Answer → Said
-said (Words md ds op electrical) = words md ds op electrical
-said (Refused refusal) = number (numberOf refusal)
+abbrev pub replyOf : Answer → Reply
+replyOf (Words md ds op electrical) = words md ds op electrical
+replyOf (Refused refusal) = number (numberOf refusal)
 
 -- "Each call takes the controller and hands back the next one": it, and the answer
-pub record Handed : Type 0 where
+pub record Response : Type 0 where
   pub next : Controller
-  pub answer : Said
+  pub answer : Reply
 
-abbrev pub handed : Scanned → Handed
-handed r = record { next = r .controller; answer = said (r .answer) }
+abbrev pub responseOf : ScanResult → Response
+responseOf r = record { next = r .controller; answer = replyOf (r .answer) }
 
 -- of a write, a restart or a save
-abbrev pub saidOfVerdict : Verdict → Said
-saidOfVerdict Accepted = acceptance
-saidOfVerdict (verdict.Refused refusal) = number (numberOf refusal)
+abbrev pub replyOfVerdict : Verdict → Reply
+replyOfVerdict Accepted = acceptance
+replyOfVerdict (verdict.Refused refusal) = number (numberOf refusal)
 
--- of a call that is declined with a number, or accepted
-abbrev pub saidBy : Option ℕ → Said
-saidBy none = acceptance
-saidBy (some n) = number n
+-- of a call that is refused with a number, or accepted
+abbrev pub replyBy : Option ℕ → Reply
+replyBy none = acceptance
+replyBy (some n) = number n
 
-pub said-by : (v : Verdict) → saidOfVerdict v ≡ saidBy (numberIn v)
-said-by Accepted = refl
-said-by (verdict.Refused refusal) = refl
+pub reply-by : (v : Verdict) → replyOfVerdict v ≡ replyBy (numberIn v)
+reply-by Accepted = refl
+reply-by (verdict.Refused refusal) = refl
 
-abbrev pub handedWithVerdict : Judged → Handed
-handedWithVerdict r = record { next = r .controller; answer = saidOfVerdict (r .verdict) }
+abbrev pub responseOfVerdict : CallResult → Response
+responseOfVerdict r = record { next = r .controller; answer = replyOfVerdict (r .verdict) }
 
--- of a read, which hands back no controller: it changes nothing
-abbrev pub saidOfRead : ReadAnswer → Said
-saidOfRead (Value v) = reading v
-saidOfRead (readanswer.Refused refusal) = number (numberOf refusal)
+-- of a read, which returns no controller: it changes nothing
+abbrev pub replyOfRead : ReadAnswer → Reply
+replyOfRead (Value v) = reading v
+replyOfRead (readanswer.Refused refusal) = number (numberOf refusal)
 
 -- "OP is its floor in units": of a stored output, which is never below zero
 unfoldable pub opOf : ℤ → ℕ

@@ -4,13 +4,14 @@ use lib.Dec.{eqb}
 use lib.IntN.{pos}
 use Rattle.integers.specs.Choice.{if_then_else_}
 use Rattle.parameters.specs.Table.{value, isFrom}
-use Rattle.controller.specs.Answers.{Said, reading, number, opOf}
+use Rattle.controller.specs.Answers.{Reply, reading, number, opOf}
 use Rattle.controller.specs.Scan.{mdNow, dsNow}
 use Rattle.controller.specs.declared.Controller.{Controller}
 use Rattle.controller.specs.declared.Core.{Core}
 
--- the table's column "Numbers", with the OP of an output; MD and DS by the present state; "4 number outside 1..32 (reads too)"
-unfoldable pub readIn : Core → ℕ → ℕ → Said
+-- the table's column "Numbers", with the OP of an output; MD and DS by the present state; "4 number
+-- outside 1..32 (reads too)"
+unfoldable pub readIn : Core → ℕ → ℕ → Reply
 readIn c op n =
     if isFrom n 1 23 then reading (value (c .parameters) n) else
     if eqb n 24 then reading (pos (mdNow c)) else
@@ -25,5 +26,5 @@ readIn c op n =
     number 4
 
 -- what `Controller::read` answers
-unfoldable pub read : Controller → ℕ → Said
+unfoldable pub read : Controller → ℕ → Reply
 read c n = readIn (c .core) (opOf (c .output)) n

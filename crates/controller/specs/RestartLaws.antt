@@ -1,4 +1,4 @@
--- What an accepted restart has passed, and that a restart hands back a valid controller.
+-- What an accepted restart has passed, and that a restart returns a valid controller.
 use mathlib.Core.Path.{_≡_, refl, sym, _∙_}
 use mathlib.Core.Bool.{Bool, true, false, _||_}
 use mathlib.Core.List.{List}
@@ -12,21 +12,22 @@ use borrow.Author.Tests.{eqb-true, ne-eqb, not-false}
 use Rattle.integers.specs.Choice.{by-cases, never, both}
 use Rattle.integers.specs.Listed.{listed}
 use Rattle.signals.specs.RefusalLaws.{Ascending}
-use Rattle.signals.specs.Refusals.{declinedBy}
+use Rattle.signals.specs.Refusals.{refusedBy}
 use Rattle.signals.specs.Signals.{switchesOf}
-use Rattle.fields.specs.Reading.{formedFrom}
+use Rattle.fields.specs.Decoding.{wellFormedFrom}
 use Rattle.modes.specs.declared.Request.{Request}
 use Rattle.modes.specs.declared.Request.the-variants.{Manual}
 use Rattle.parameters.specs.Legal.{areLegal, Legal}
-use Rattle.parameters.specs.MendedLaws.{tested-legal, mended-legal}
+use Rattle.parameters.specs.RepairedLaws.{tested-legal, repaired-legal}
 use Rattle.parameters.specs.Table.{value}
 use Rattle.settings.specs.Settings.{requestIn, parameterIn, parametersIn, settingsIn, isSumRight, areOthersLegal}
 use Rattle.settings.specs.SettingsLaws.{others-of}
 use Rattle.settings.specs.declared.Settings.{Settings}
-use Rattle.outputs.specs.Instruction.{carriedOut, changed, limitedTo}
+use Rattle.outputs.specs.Instruction.{executed, changed, limitedTo}
 use Rattle.outputs.specs.OutputLaws.{restart-stored}
-use Rattle.controller.specs.Restart.{valuesIn, isLegal, isIllegal, restartTests, mendedSettings, takenSettings, restartAccepted, restartCore, controllerRestarted, restart}
-use Rattle.controller.specs.Scan.{refused, controllerAfter, handedBack}
+use Rattle.controller.specs.Restart.{valuesIn, isLegal, isIllegal, restartTests, repairedSettings}
+use Rattle.controller.specs.Restart.{restoredSettings, restartAccepted, restartCore, controllerRestarted, restart}
+use Rattle.controller.specs.Scan.{refused, controllerAfter, responseFrom}
 use Rattle.controller.specs.Valid.{Valid}
 use Rattle.controller.specs.ValidLaws.{passed, by-verdict, start-readable}
 use Rattle.controller.specs.declared.Controller.{Controller}
@@ -41,16 +42,16 @@ restart-ascends image = ((omega arith, (omega arith, tt)), ((omega arith, tt), (
 
 pub record Taken (image : List ℕ) : Type 0 where
   pub size : length image ≡ 137
-  pub formed : formedFrom 0 28 image ≡ true
+  pub formed : wellFormedFrom 0 28 image ≡ true
   pub legal : isIllegal (valuesIn image) ≡ false
 
-pub taken : (image : List ℕ) → declinedBy (restartTests image) ≡ none → Taken image
+pub taken : (image : List ℕ) → refusedBy (restartTests image) ≡ none → Taken image
 unfolding restartTests
 taken image e =
     let t = passed (restartTests image) e in
     record {
       size = eqb-true (length image) 137 (not-false (eqb (length image) 137) (t .0));
-      formed = not-false (formedFrom 0 28 image) (t .1 .0);
+      formed = not-false (wellFormedFrom 0 28 image) (t .1 .0);
       legal = t .1 .1 .0;
     }
 
@@ -72,12 +73,13 @@ pub in-unused : (vs : List ℕ) → value (parametersIn vs) 0 ≡ pos 0
 unfolding parametersIn parameterIn listed value
 in-unused vs = refl
 
-pub taken-legal : (vs : List ℕ) → isIllegal vs ≡ false → Legal (takenSettings vs .parameters)
-unfolding takenSettings settingsIn mendedSettings isLegal
+pub taken-legal : (vs : List ℕ) → isIllegal vs ≡ false → Legal (restoredSettings vs .parameters)
+unfolding restoredSettings settingsIn repairedSettings isLegal
 taken-legal vs e =
-    by-cases (λ (s : Settings). Legal (s .parameters)) (isSumRight vs) (settingsIn vs) (mendedSettings vs)
-    (λ right. tested-legal (parametersIn vs) (in-size vs) (in-unused vs) (both (areLegal (parametersIn vs)) (areOthersLegal vs) (right-legal vs e right) .0))
-    (λ wrong. mended-legal (parametersIn vs) (in-size vs) (in-unused vs))
+    by-cases (λ (s : Settings). Legal (s .parameters)) (isSumRight vs) (settingsIn vs) (repairedSettings vs)
+    (λ right. tested-legal (parametersIn vs) (in-size vs) (in-unused vs)
+    (both (areLegal (parametersIn vs)) (areOthersLegal vs) (right-legal vs e right) .0))
+    (λ wrong. repaired-legal (parametersIn vs) (in-size vs) (in-unused vs))
 
 -- a fault that an image brings comes with the request Manual: "1 only with request 0"
 request-manual : (request fault : ℕ) → (eqb fault 0 || eqb request 0) ≡ true → eqb fault 1 ≡ true → requestIn request ≡ Manual
@@ -88,10 +90,10 @@ request-manual request fault e one =
     go true q d = rw d refl
     go false q d = never (sym q ∙ d)
 
-taken-manual : (vs : List ℕ) → isIllegal vs ≡ false → takenSettings vs .fault ≡ true → takenSettings vs .request ≡ Manual
-unfolding takenSettings settingsIn mendedSettings isLegal
+taken-manual : (vs : List ℕ) → isIllegal vs ≡ false → restoredSettings vs .fault ≡ true → restoredSettings vs .request ≡ Manual
+unfolding restoredSettings settingsIn repairedSettings isLegal
 taken-manual vs e =
-    by-cases (λ (s : Settings). s .fault ≡ true → s .request ≡ Manual) (isSumRight vs) (settingsIn vs) (mendedSettings vs)
+    by-cases (λ (s : Settings). s .fault ≡ true → s .request ≡ Manual) (isSumRight vs) (settingsIn vs) (repairedSettings vs)
     (λ right one.
     let others = others-of vs (both (areLegal (parametersIn vs)) (areOthersLegal vs) (right-legal vs e right) .1) in
     request-manual (getD vs 24 0) (getD vs 25 0) (others .manual) one)
@@ -104,14 +106,15 @@ restarted-valid c vs e =
     record {
       legal = legal;
       kept = tt;
-      readable = start-readable (takenSettings vs .parameters) legal;
+      readable = start-readable (restoredSettings vs .parameters) legal;
       manual = λ f.
-          by-cases (λ (r : Request). r ≡ Manual) (switchesOf (c .core .sw) .powerfail) Manual (takenSettings vs .request) (λ on. refl) (λ off. taken-manual vs e f);
-      stored = restart-stored (takenSettings vs .parameters) legal (switchesOf (c .core .sw)) _ (takenSettings vs .op) (c .output);
+          by-cases (λ (r : Request). r ≡ Manual) (switchesOf (c .core .sw) .powerfail) Manual (restoredSettings vs .request) (λ on. refl)
+          (λ off. taken-manual vs e f);
+      stored = restart-stored (restoredSettings vs .parameters) legal (switchesOf (c .core .sw)) _ (restoredSettings vs .op) (c .output);
     }
 
 pub valid-restart : (c : Controller) (image : List ℕ) → Valid c → Valid (restart c image .next)
-unfolding restart restartCore handedBack controllerAfter refused carriedOut changed limitedTo controllerRestarted
+unfolding restart restartCore responseFrom controllerAfter refused executed changed limitedTo controllerRestarted
 valid-restart c image valid =
-    by-verdict (λ o. Valid (handedBack c o .next)) (declinedBy (restartTests image)) (c .core) (restartAccepted (c .core) (valuesIn image))
+    by-verdict (λ o. Valid (responseFrom c o .next)) (refusedBy (restartTests image)) (c .core) (restartAccepted (c .core) (valuesIn image))
     (λ e. restarted-valid c (valuesIn image) (taken image e .legal)) (λ m. valid)

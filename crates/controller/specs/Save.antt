@@ -7,10 +7,11 @@ use Rattle.controller.specs.Answers.{opOf}
 use Rattle.controller.specs.declared.Controller.{Controller}
 use Rattle.controller.specs.declared.Core.{Core}
 
--- "Tags 1..23 as above .. 41h OP .. 42h request .. 43h fault .. 44h": parameters 1 to 23, OP, request, memory fault, and user bits with MD bit 4
+-- "Tags 1..23 as above .. 41h OP .. 42h request .. 43h fault .. 44h": parameters 1 to 23, OP, request,
+-- memory fault, and user bits with MD bit 4
 unfoldable pub settingsOf : Core → ℕ → Settings
 settingsOf c op =
-    record { parameters = c .parameters; op = op; request = c .conditions .request; fault = c .conditions .fault; marks = c .marks }
+    record { parameters = c .parameters; op = op; request = c .conditions .request; fault = c .conditions .fault; userbits = c .userbits }
 
 -- with the OP of our own stored output
 unfoldable pub settingsNow : Controller → Settings

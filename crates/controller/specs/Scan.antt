@@ -1,24 +1,24 @@
--- Document 01, One scan, whole: the next state but for the output, the answer but for OP and electrical output, and an instruction for the output. These
--- stand once, for our controller and for the exact one.
+-- Document 01, One scan, whole: the next state but for the output, the answer but for OP and electrical
+-- output, and an instruction for the output. These stand once, for our controller and for the exact one.
 use mathlib.Core.Option.{Option, some, none}
 use Prim.Native.Nat.{ℕ}
 use lib.IntN.{ℤ}
-use Rattle.signals.specs.Refusals.{declinedBy, scanTests}
+use Rattle.signals.specs.Refusals.{refusedBy, scanTests}
 use Rattle.signals.specs.Signals.{switchesOf, isOpen, batteryLow}
 use Rattle.signals.specs.declared.Input.{Input}
 use Rattle.modes.specs.Modes.{counted, conditionsAfter, modeOf, goesToMinimum}
 use Rattle.modes.specs.declared.Conditions.{Conditions}
 use Rattle.modes.specs.declared.Mode.{Mode}
 use Rattle.words.specs.Words.{MD, DS}
-use Rattle.words.specs.declared.Shown.{Shown}
-use Rattle.setpoints.specs.Reckoning.{reckoned, lowAlarm, highAlarm}
+use Rattle.words.specs.declared.Indications.{Indications}
+use Rattle.setpoints.specs.Computation.{computed, lowAlarm, highAlarm}
 use Rattle.setpoints.specs.declared.Readings.{Readings}
-use Rattle.setpoints.specs.declared.Reckoned.{Reckoned}
+use Rattle.setpoints.specs.declared.Computed.{Computed}
 use Rattle.outputs.specs.History.{historyAfter}
-use Rattle.outputs.specs.Instruction.{keep, unlimited, Instruction, storedArithmetic, carriedOut}
+use Rattle.outputs.specs.Instruction.{keep, unlimited, Instruction, storedArithmetic, executed}
 use Rattle.outputs.specs.Outputs.{instructionOf}
-use Rattle.outputs.specs.declared.Situation.{Situation}
-use Rattle.controller.specs.Answers.{Said, words, acceptance, number, Handed, opOf, electricalOf}
+use Rattle.outputs.specs.declared.Context.{Context}
+use Rattle.controller.specs.Answers.{Reply, words, acceptance, number, Response, opOf, electricalOf}
 use Rattle.controller.specs.declared.Controller.{Controller}
 use Rattle.controller.specs.declared.Core.{Core}
 
@@ -26,9 +26,10 @@ use Rattle.controller.specs.declared.Core.{Core}
 unfoldable pub modeNow : Core → Mode
 modeNow c = modeOf (c .conditions) (switchesOf (c .sw) .ratio)
 
--- ---- step 3: the mode of this scan, by what it leaves of the conditions; and of step 6 whether it goes to minimum, by those before it
-unfoldable pub situationOf : Core → Conditions → Input → Situation
-situationOf c after i =
+-- ---- step 3: the mode of this scan, by what it leaves of the conditions; and of step 6 whether it
+-- goes to minimum, by those before it
+unfoldable pub contextOf : Core → Conditions → Input → Context
+contextOf c after i =
     let s = switchesOf (c .sw) in
     record {
       switches = s;
@@ -38,12 +39,12 @@ situationOf c after i =
     }
 
 -- ---- steps 1, 4 and 5
-unfoldable pub reckonedIn : Core → Situation → Reckoned
-reckonedIn c x = reckoned (c .parameters) (x .switches) (c .marks .measuredpower) (x .mode) (x .input)
+unfoldable pub computedIn : Core → Context → Computed
+computedIn c x = computed (c .parameters) (x .switches) (c .userbits .measuredpower) (x .mode) (x .input)
 
--- ---- what is shown until the next scan: "Alarms are the last scan's."
-unfoldable pub shownAfter : Core → Situation → Readings → Shown
-shownAfter c x r =
+-- ---- what is indicated until the next scan: "Alarms are the last scan's."
+unfoldable pub indicationsAfter : Core → Context → Readings → Indications
+indicationsAfter c x r =
     record {
       buttons = x .input .buttons;
       batterylow = batteryLow (x .input);
@@ -52,15 +53,15 @@ shownAfter c x r =
     }
 
 -- ---- step 7, and all that the scan leaves but the output
-unfoldable pub coreAfter : Core → Conditions → Situation → Reckoned → Core
+unfoldable pub coreAfter : Core → Conditions → Context → Computed → Core
 coreAfter c after x r =
     record {
       sw = c .sw;
       parameters = r .parameters;
       conditions = after;
-      marks = c .marks;
+      userbits = c .userbits;
       readings = r .readings;
-      shown = shownAfter c x (r .readings);
+      indications = indicationsAfter c x (r .readings);
       history = historyAfter (c .history) (isOpen (x .input)) (r .readings);
     }
 
@@ -70,14 +71,14 @@ coreAfter c after x r =
 pub data Status : Type 0 where
   status : (md ds : ℕ) → Status
   accepts : Status
-  declined : ℕ → Status
+  refusedWith : ℕ → Status
 
 -- MD and DS of a state
 abbrev pub mdNow : Core → ℕ
-mdNow c = MD (modeNow c) (c .conditions) (c .marks) (c .shown)
+mdNow c = MD (modeNow c) (c .conditions) (c .userbits) (c .indications)
 
 abbrev pub dsNow : Core → ℕ
-dsNow c = DS (modeNow c) (c .conditions) (c .marks) (c .shown)
+dsNow c = DS (modeNow c) (c .conditions) (c .userbits) (c .indications)
 
 unfoldable pub statusOf : Core → Status
 statusOf c = status (mdNow c) (dsNow c)
@@ -91,44 +92,45 @@ pub record Outcome : Type 0 where
 unfoldable pub accepted : (ℕ → ℕ) → Core → Input → Outcome
 accepted more c i =
     let after = conditionsAfter more (c .conditions) i in
-    let x = situationOf c after i in
-    let r = reckonedIn c x in
+    let x = contextOf c after i in
+    let r = computedIn c x in
     let next = coreAfter c after x r in
     record { next = next; answer = statusOf next; instruction = instructionOf (c .parameters) x (r .readings) (c .history) }
 
 -- "Answer: the number alone. Controller and buffers stay."
 unfoldable pub refused : Core → ℕ → Outcome
-refused c n = record { next = c; answer = declined n; instruction = record { change = keep; limits = unlimited } }
+refused c n = record { next = c; answer = refusedWith n; instruction = record { change = keep; limits = unlimited } }
 
--- declined with a number, or else the outcome
-abbrev pub unless : Option ℕ → Core → Outcome → Outcome
-unless none c o = o
-unless (some n) c o = refused c n
+-- refused with a number, or else the outcome
+abbrev pub refusedOr : Option ℕ → Core → Outcome → Outcome
+refusedOr none c o = o
+refusedOr (some n) c o = refused c n
 
--- a scan, declined or accepted
+-- a scan, refused or accepted
 unfoldable pub scanCore : (ℕ → ℕ) → Core → Input → Outcome
-scanCore more c i = unless (declinedBy (scanTests i)) c (accepted more c i)
+scanCore more c i = refusedOr (refusedBy (scanTests i)) c (accepted more c i)
 
--- ---- our controller's: the instruction carried out in whole 1/65,536 units, OP and electrical output of the stored output
+-- ---- our controller's: the instruction executed in whole 1/65,536 units, OP and electrical output of
+-- the stored output
 
 -- an answer with the OP and electrical output of a stored output
-abbrev pub withOutput : Status → ℕ → ℤ → Said
+abbrev pub withOutput : Status → ℕ → ℤ → Reply
 withOutput (status md ds) sw output = words md ds (opOf output) (electricalOf sw output)
 withOutput accepts sw output = acceptance
-withOutput (declined n) sw output = number n
+withOutput (refusedWith n) sw output = number n
 
 -- the controller after a call whose outcome this is
 unfoldable pub controllerAfter : Controller → Outcome → Controller
-controllerAfter c o = record { core = o .next; output = carriedOut storedArithmetic (o .instruction) (c .output) }
+controllerAfter c o = record { core = o .next; output = executed storedArithmetic (o .instruction) (c .output) }
 
--- and all that the call hands back
-unfoldable pub handedBack : Controller → Outcome → Handed
-handedBack c o = let next = controllerAfter c o in record { next = next; answer = withOutput (o .answer) (c .core .sw) (next .output) }
+-- and all that the call returns
+unfoldable pub responseFrom : Controller → Outcome → Response
+responseFrom c o = let next = controllerAfter c o in record { next = next; answer = withOutput (o .answer) (c .core .sw) (next .output) }
 
 -- the controller after an accepted scan
 unfoldable pub stepped : Controller → Input → Controller
 stepped c i = controllerAfter c (accepted counted (c .core) i)
 
--- what `Controller::scan` hands back
-unfoldable pub scan : Controller → Input → Handed
-scan c i = handedBack c (scanCore counted (c .core) i)
+-- what `Controller::scan` returns
+unfoldable pub scan : Controller → Input → Response
+scan c i = responseFrom c (scanCore counted (c .core) i)

@@ -5,8 +5,8 @@ use lib.IntN.{pos, _-ℤ_}
 use Rattle.modes.specs.declared.Conditions.{Conditions}
 use Rattle.modes.specs.declared.Request.{Request}
 use Rattle.modes.specs.declared.Request.the-variants.{Manual}
-use Rattle.words.specs.declared.Marks.{Marks}
-use Rattle.words.specs.declared.Shown.{Shown}
+use Rattle.words.specs.declared.UserBits.{UserBits}
+use Rattle.words.specs.declared.Indications.{Indications}
 use Rattle.parameters.specs.Table.{defaults, L1, SL}
 use Rattle.parameters.specs.declared.Parameters.{Parameters}
 use Rattle.setpoints.specs.declared.Readings.{Readings}
@@ -14,27 +14,29 @@ use Rattle.outputs.specs.declared.History.the-variants.{Nothing}
 use Rattle.controller.specs.declared.Controller.{Controller}
 use Rattle.controller.specs.declared.Core.{Core}
 
--- ---- "A fresh start and an accepted restart leave pins 80h, no buttons, open count 0, PV = 1L, SP = SL, ER = PV - SP, MP 0, battery good, no alarms"
+-- ---- "A fresh start and an accepted restart leave pins 80h, no buttons, open count 0, PV = 1L, SP =
+-- SL, ER = PV - SP, MP 0, battery good, no alarms"
 
 abbrev pub startConditions : Request → Bool → Conditions
-startConditions request fault = record { request = request; fault = fault; opens = 0; pins = 0x80 }
+startConditions request fault = record { request = request; fault = fault; opencount = 0; pins = 0x80 }
 
 unfoldable pub startReadings : Parameters → Readings
 startReadings p = record { pv = L1 p; sp = SL p; er = L1 p -ℤ SL p; mp = pos 0 }
 
-abbrev pub startShown : Shown
-startShown = record { buttons = 0; batterylow = false; lowalarm = false; highalarm = false }
+abbrev pub startIndications : Indications
+startIndications = record { buttons = 0; batterylow = false; lowalarm = false; highalarm = false }
 
--- a core of these settings, and of what such a start leaves. "no earlier PV or SP remembered"; "All earlier PV and SP are forgotten."
-abbrev pub startCore : ℕ → Parameters → Request → Bool → Marks → Core
-startCore sw parameters request fault marks =
+-- a core of these settings, and of what such a start leaves. "no earlier PV or SP remembered"; "All
+-- earlier PV and SP are forgotten."
+abbrev pub startCore : ℕ → Parameters → Request → Bool → UserBits → Core
+startCore sw parameters request fault userbits =
     record {
       sw = sw;
       parameters = parameters;
       conditions = startConditions request fault;
-      marks = marks;
+      userbits = userbits;
       readings = startReadings parameters;
-      shown = startShown;
+      indications = startIndications;
       history = Nothing;
     }
 

@@ -1,4 +1,4 @@
--- A fresh controller is valid, and a scan hands back a valid one.
+-- A fresh controller is valid, and a scan returns a valid one.
 use mathlib.Core.Path.{_≡_, refl}
 use mathlib.Core.Bool.{Bool, true, false, _||_}
 use mathlib.Core.List.{List, [], _∷_}
@@ -11,7 +11,7 @@ use borrow.Author.Tests.{ltb-false}
 use Rattle.integers.specs.Choice.{if_then_else_, never}
 use Rattle.integers.specs.Operations.{number, difference}
 use Rattle.integers.specs.Parts.{integers}
-use Rattle.signals.specs.Refusals.{declinedBy, scanTests}
+use Rattle.signals.specs.Refusals.{refusedBy, scanTests}
 use Rattle.signals.specs.Signals.{isOpen}
 use Rattle.signals.specs.declared.Input.{Input}
 use Rattle.modes.specs.Modes.{counted, conditionsAfter}
@@ -19,30 +19,33 @@ use Rattle.parameters.specs.Legal.{Legal}
 use Rattle.parameters.specs.LegalLaws.{defaults-legal}
 use Rattle.parameters.specs.Table.{L1, SL}
 use Rattle.parameters.specs.declared.Parameters.{Parameters}
-use Rattle.setpoints.specs.Reckoning.{reckoned}
-use Rattle.setpoints.specs.ReckoningLaws.{Reading, Sampled, reckoned-legal, pv-reading, setpoint-read, setpoint-reading, low-reading, power-reading, limited-setpoint}
+use Rattle.setpoints.specs.Computation.{computed}
+use Rattle.setpoints.specs.ComputationLaws.{InReadingRange, SampleRange, computed-legal, pv-reading, setpoint-read}
+use Rattle.setpoints.specs.ComputationLaws.{setpoint-reading, low-reading, power-reading, limited-setpoint}
 use Rattle.terms.specs.Fraction.{storedUnits}
-use Rattle.outputs.specs.Instruction.{carriedOut, changed, limitedTo}
-use Rattle.outputs.specs.OutputLaws.{Read, history-kept, output-stored}
-use Rattle.outputs.specs.declared.Situation.{Situation}
-use Rattle.controller.specs.Scan.{controllerAfter, situationOf, reckonedIn, coreAfter, Outcome, accepted, refused, unless, scanCore, handedBack, stepped, scan}
+use Rattle.outputs.specs.Instruction.{executed, changed, limitedTo}
+use Rattle.outputs.specs.OutputLaws.{ReadingsRange, history-kept, output-stored}
+use Rattle.outputs.specs.declared.Context.{Context}
+use Rattle.controller.specs.Scan.{controllerAfter, contextOf, computedIn, coreAfter, Outcome}
+use Rattle.controller.specs.Scan.{accepted, refused, refusedOr, scanCore, responseFrom, stepped, scan}
 use Rattle.controller.specs.State.{startReadings, freshParameters, freshCore, freshController}
 use Rattle.controller.specs.Valid.{Valid, Readable}
 use Rattle.controller.specs.declared.Controller.{Controller}
 use Rattle.controller.specs.declared.Core.{Core}
 
--- ---- a call that no test declines passed each test
+-- ---- a call that no test refuses passed each test
 
 abbrev pub Passed : List (Bool × ℕ) → Type 0
 Passed [] = Unit {0}
 Passed (t ∷ ts) = (t .0 ≡ false) × Passed ts
 
-pub passed : (ts : List (Bool × ℕ)) → declinedBy ts ≡ none → Passed ts
-unfolding declinedBy
+pub passed : (ts : List (Bool × ℕ)) → refusedBy ts ≡ none → Passed ts
+unfolding refusedBy
 passed [] e = tt
 passed (t ∷ ts) e = go (t .0) refl e (passed ts)
   where
-    go : (b : Bool) → t .0 ≡ b → (if b then some (t .1) else declinedBy ts) ≡ none → (declinedBy ts ≡ none → Passed ts) → (t .0 ≡ false) × Passed ts
+    go : (b : Bool) → t .0 ≡ b → (if b then some (t .1) else refusedBy ts) ≡ none → (refusedBy ts ≡ none → Passed ts) →
+        (t .0 ≡ false) × Passed ts
     go true q e r = let z : _≡_ {A = ℕ} 0 1 = cc in absurd (omega arith)
     go false q e r = (q, r e)
 
@@ -50,28 +53,33 @@ neither : (a b : Bool) → a || b ≡ false → (a ≡ false) × (b ≡ false)
 neither true b e = (e, let z : _≡_ {A = Bool} true false = e in cc)
 neither false b e = (refl, e)
 
-pub sampled : (i : Input) → declinedBy (scanTests i) ≡ none → Sampled i
+pub sampled : (i : Input) → refusedBy (scanTests i) ≡ none → SampleRange i
 unfolding scanTests
 sampled i e =
     let p = passed (scanTests i) e .0 in
     let a = neither (ltb 10000 (i .sample1) || ltb 10000 (i .sample2)) (ltb 10000 (i .sample3)) p in
     let b = neither (ltb 10000 (i .sample1)) (ltb 10000 (i .sample2)) (a .0) in
-    record { first = ltb-false 10000 (i .sample1) (b .0); second = ltb-false 10000 (i .sample2) (b .1); third = ltb-false 10000 (i .sample3) (a .1) }
+    record {
+      first = ltb-false 10000 (i .sample1) (b .0);
+      second = ltb-false 10000 (i .sample2) (b .1);
+      third = ltb-false 10000 (i .sample3) (a .1);
+    }
 
 -- ---- what an accepted scan reads
 
-pub read : (c : Core) (x : Situation) → Legal (c .parameters) → Sampled (x .input) → Read (reckonedIn c x .readings)
-unfolding reckonedIn reckoned
+pub read : (c : Core) (x : Context) → Legal (c .parameters) → SampleRange (x .input) → ReadingsRange (computedIn c x .readings)
+unfolding computedIn computed
 read c x legal s =
     record {
       pv-read = pv-reading (c .parameters) legal (x .input) s;
       sp-read = setpoint-read (c .parameters) legal (limited-setpoint (c .parameters) legal (x .switches) (x .mode) _ _ _ (x .input));
     }
 
-difference-most : (a b : ℤ) → Reading a → Reading b → natAbs (a -ℤ b) ≤ 19998
+difference-most : (a b : ℤ) → InReadingRange a → InReadingRange b → natAbs (a -ℤ b) ≤ 19998
 difference-most a b h k = omega (arith, difference a b, number a, number b, h .reading, k .reading)
 
-readable : (pv sp mp : ℤ) → Reading pv → Reading sp → Reading mp → Readable (record { pv = pv; sp = sp; er = pv -ℤ sp; mp = mp })
+readable : (pv sp mp : ℤ) → InReadingRange pv → InReadingRange sp → InReadingRange mp →
+    Readable (record { pv = pv; sp = sp; er = pv -ℤ sp; mp = mp })
 readable pv sp mp h k l =
     record {
       pv-most = omega (arith, h .reading);
@@ -97,28 +105,30 @@ valid-fresh sw =
       stored = record { not-below = omega (arith, integers); not-above = omega (arith, integers) };
     }
 
-pub stepped-valid : (c : Controller) (i : Input) → Valid c → Sampled i → Valid (stepped c i)
-unfolding stepped controllerAfter accepted coreAfter situationOf reckonedIn reckoned conditionsAfter
+pub stepped-valid : (c : Controller) (i : Input) → Valid c → SampleRange i → Valid (stepped c i)
+unfolding stepped controllerAfter accepted coreAfter contextOf computedIn computed conditionsAfter
 stepped-valid c i v s =
     let after = conditionsAfter counted (c .core .conditions) i in
-    let x = situationOf (c .core) after i in
-    let readings = reckonedIn (c .core) x .readings in
+    let x = contextOf (c .core) after i in
+    let readings = computedIn (c .core) x .readings in
     let r = read (c .core) x (v .legal) s in
     record {
-      legal = reckoned-legal (c .core .parameters) (x .switches) (c .core .marks .measuredpower) (x .mode) i (v .legal);
+      legal = computed-legal (c .core .parameters) (x .switches) (c .core .userbits .measuredpower) (x .mode) i (v .legal);
       kept = history-kept (c .core .history) (isOpen i) readings (v .kept) r;
-      readable = readable _ _ _ (r .pv-read) (r .sp-read) (power-reading (c .core .parameters) (v .legal) i s (c .core .marks .measuredpower));
+      readable =
+          readable _ _ _ (r .pv-read) (r .sp-read) (power-reading (c .core .parameters) (v .legal) i s (c .core .userbits .measuredpower));
       manual = λ e. rw e refl;
       stored = output-stored (c .core .parameters) (v .legal) x readings (c .core .history) (c .output) (v .stored);
     }
 
 -- the two ways a call can go
-pub by-verdict : (P : Outcome → Type 0) (d : Option ℕ) (c : Core) (o : Outcome) → (d ≡ none → P o) → ((n : ℕ) → P (refused c n)) → P (unless d c o)
+pub by-verdict : (P : Outcome → Type 0) (d : Option ℕ) (c : Core) (o : Outcome) → (d ≡ none → P o) → ((n : ℕ) → P (refused c n)) →
+    P (refusedOr d c o)
 by-verdict P none c o f g = f refl
 by-verdict P (some n) c o f g = g n
 
 pub valid-scan : (c : Controller) (i : Input) → Valid c → Valid (scan c i .next)
-unfolding scan scanCore handedBack controllerAfter refused carriedOut changed limitedTo stepped
+unfolding scan scanCore responseFrom controllerAfter refused executed changed limitedTo stepped
 valid-scan c i v =
-    by-verdict (λ o. Valid (handedBack c o .next)) (declinedBy (scanTests i)) (c .core) (accepted counted (c .core) i)
+    by-verdict (λ o. Valid (responseFrom c o .next)) (refusedBy (scanTests i)) (c .core) (accepted counted (c .core) i)
     (λ e. stepped-valid c i v (sampled i e)) (λ n. v)

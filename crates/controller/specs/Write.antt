@@ -1,36 +1,39 @@
--- Document 01, "Parameters", "Words" and "By whose hand a call is declined": a write, whole. As for a scan: the next state but for the output, the answer,
--- and an instruction for the output, once for our controller and for the exact one.
+-- Document 01, "Parameters", "Words" and "By whose hand a call is declined": a write, whole. As for a
+-- scan: the next state but for the output, the answer, and an instruction for the output, once for our
+-- controller and for the exact one.
 use mathlib.Core.Bool.{Bool, not}
 use mathlib.Core.List.{List, [], _∷_}
 use Prim.Native.Nat.{ℕ, _%_}
 use lib.Dec.{eqb}
 use lib.IntN.{ℤ, natAbs}
 use Rattle.integers.specs.Choice.{if_then_else_}
-use Rattle.signals.specs.Refusals.{declinedBy}
+use Rattle.signals.specs.Refusals.{refusedBy}
 use Rattle.signals.specs.Signals.{switchesOf}
 use Rattle.modes.specs.Modes.{setsSetpoint}
 use Rattle.modes.specs.declared.Conditions.{Conditions}
 use Rattle.words.specs.Written.{conditionsWritten, powerWritten, userBitsWritten, mdTests}
-use Rattle.words.specs.declared.Marks.{Marks}
+use Rattle.words.specs.declared.UserBits.{UserBits}
 use Rattle.parameters.specs.Legal.{isUnknown, isReadOnly, inRange, pairInOrder}
 use Rattle.parameters.specs.Table.{value, ruleOf}
 use Rattle.parameters.specs.Written.{written}
 use Rattle.parameters.specs.declared.Parameters.{Parameters}
 use Rattle.outputs.specs.Instruction.{keep}
 use Rattle.outputs.specs.Outputs.{limitsWritten}
-use Rattle.controller.specs.Answers.{Handed}
-use Rattle.controller.specs.Scan.{modeNow, accepts, Outcome, unless, controllerAfter, handedBack}
+use Rattle.controller.specs.Answers.{Response}
+use Rattle.controller.specs.Scan.{modeNow, accepts, Outcome, refusedOr, controllerAfter, responseFrom}
 use Rattle.controller.specs.declared.Controller.{Controller}
 use Rattle.controller.specs.declared.Core.{Core}
 
--- ---- "Writer: 4 number outside 1..32 (reads too); 5 read only; 6 out of range; 7 pair out of order; 8 SL in Remote, Ratio, or with S2.6 ON in a
--- non-automatic mode; 9 not exactly one of MD bits 13, 12, 11; 10 bit 11 with the Remote pin 0; 11 bit 12 or 11 when a cause would remain."
+-- ---- "Writer: 4 number outside 1..32 (reads too); 5 read only; 6 out of range; 7 pair out of order; 8
+-- SL in Remote, Ratio, or with S2.6 ON in a non-automatic mode; 9 not exactly one of MD bits 13, 12,
+-- 11; 10 bit 11 with the Remote pin 0; 11 bit 12 or 11 when a cause would remain."
 
 -- 8
 unfoldable pub setpointTests : Core → List (Bool × ℕ)
 setpointTests c = (setsSetpoint (modeNow c) (switchesOf (c .sw) .setpointtracks), 8) ∷ []
 
--- a value as a word: a value in 0..65535 itself. A value out of that range was declined with 6 before any bit of it is asked for
+-- a value as a word: a value in 0..65535 itself. A value out of that range was refused with 6 before
+-- any bit of it is asked for
 abbrev pub wordOf : ℤ → ℕ
 wordOf v = natAbs v % 65536
 
@@ -53,31 +56,31 @@ writeTests c n v =
 
 -- ---- what an accepted write leaves, but for the output
 
--- a write changes no more than these three. Of PV, SP, ER, MP, buttons, battery and alarms "only scans and restarts change any", and no sentence lets a write
--- touch SW or the earlier PVs and SP
-unfoldable pub coreWith : Core → Parameters → Conditions → Marks → Core
-coreWith c parameters conditions marks =
+-- a write changes no more than these three. Of PV, SP, ER, MP, buttons, battery and alarms "only scans
+-- and restarts change any", and no sentence lets a write touch SW or the earlier PVs and SP
+unfoldable pub coreWith : Core → Parameters → Conditions → UserBits → Core
+coreWith c parameters conditions userbits =
     record {
       sw = c .sw;
       parameters = parameters;
       conditions = conditions;
-      marks = marks;
+      userbits = userbits;
       readings = c .readings;
-      shown = c .shown;
+      indications = c .indications;
       history = c .history;
     }
 
 -- "Writing MD takes bits 13, 12, 11 as the request and bit 4"
 unfoldable pub mdWritten : Core → ℕ → Core
-mdWritten c word = coreWith c (c .parameters) (conditionsWritten (c .conditions) word) (powerWritten (c .marks) word)
+mdWritten c word = coreWith c (c .parameters) (conditionsWritten (c .conditions) word) (powerWritten (c .userbits) word)
 
 -- "DS takes bits 7 and 6."
 unfoldable pub dsWritten : Core → ℕ → Core
-dsWritten c word = coreWith c (c .parameters) (c .conditions) (userBitsWritten (c .marks) word)
+dsWritten c word = coreWith c (c .parameters) (c .conditions) (userBitsWritten (c .userbits) word)
 
 -- parameters 1 to 23
 unfoldable pub parameterWritten : Core → ℕ → ℤ → Core
-parameterWritten c n v = coreWith c (written (c .parameters) n v) (c .conditions) (c .marks)
+parameterWritten c n v = coreWith c (written (c .parameters) n v) (c .conditions) (c .userbits)
 
 unfoldable pub coreWritten : Core → ℕ → ℤ → Core
 coreWritten c n v =
@@ -90,16 +93,20 @@ coreWritten c n v =
 unfoldable pub writeAccepted : Core → ℕ → ℤ → Outcome
 writeAccepted c n v =
     let next = coreWritten c n v in
-    record { next = next; answer = accepts; instruction = record { change = keep; limits = limitsWritten n (modeNow c) (next .parameters) } }
+    record {
+      next = next;
+      answer = accepts;
+      instruction = record { change = keep; limits = limitsWritten n (modeNow c) (next .parameters) };
+    }
 
--- a write, declined or accepted
+-- a write, refused or accepted
 unfoldable pub writeCore : Core → ℕ → ℤ → Outcome
-writeCore c n v = unless (declinedBy (writeTests c n v)) c (writeAccepted c n v)
+writeCore c n v = refusedOr (refusedBy (writeTests c n v)) c (writeAccepted c n v)
 
 -- our controller after an accepted write
 unfoldable pub controllerWritten : Controller → ℕ → ℤ → Controller
 controllerWritten c n v = controllerAfter c (writeAccepted (c .core) n v)
 
--- what `Controller::write` hands back
-unfoldable pub write : Controller → ℕ → ℤ → Handed
-write c n v = handedBack c (writeCore (c .core) n v)
+-- what `Controller::write` returns
+unfoldable pub write : Controller → ℕ → ℤ → Response
+write c n v = responseFrom c (writeCore (c .core) n v)

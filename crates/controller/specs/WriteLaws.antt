@@ -1,4 +1,4 @@
--- A write hands back a valid controller.
+-- A write returns a valid controller.
 use mathlib.Core.Path.{_≡_, refl, sym, _∙_, subst}
 use mathlib.Core.Bool.{Bool, true, false, not, _&&_, _||_}
 use mathlib.Core.List.{[]}
@@ -13,7 +13,7 @@ use Rattle.integers.specs.Operations.{number}
 use Rattle.integers.specs.Parts.{integers, apart}
 use Rattle.signals.specs.Bits.{bit}
 use Rattle.signals.specs.RefusalLaws.{Above, Ascending}
-use Rattle.signals.specs.Refusals.{declinedBy}
+use Rattle.signals.specs.Refusals.{refusedBy}
 use Rattle.modes.specs.Modes.{isOpenCause}
 use Rattle.modes.specs.declared.Request.the-variants.{Manual, Auto, Remote}
 use Rattle.words.specs.Written.{conditionsWritten, exactlyOne, mdTests}
@@ -23,13 +23,14 @@ use Rattle.parameters.specs.RuleLaws.{not-from, known, settable}
 use Rattle.parameters.specs.Table.{value, ruleOf, isFrom}
 use Rattle.parameters.specs.Written.{written}
 use Rattle.parameters.specs.WrittenLaws.{elsewhere, written-legal}
-use Rattle.outputs.specs.Instruction.{storedArithmetic, changed, limitedTo, carriedOut, Limits, unlimited}
-use Rattle.outputs.specs.OutputLaws.{Stored, limited-still-stored}
+use Rattle.outputs.specs.Instruction.{storedArithmetic, changed, limitedTo, executed, Limits, unlimited}
+use Rattle.outputs.specs.OutputLaws.{OutputRange, limited-still-stored}
 use Rattle.outputs.specs.Outputs.{limitsWritten}
-use Rattle.controller.specs.Scan.{modeNow, refused, controllerAfter, handedBack}
+use Rattle.controller.specs.Scan.{modeNow, refused, controllerAfter, responseFrom}
 use Rattle.controller.specs.Valid.{Valid}
 use Rattle.controller.specs.ValidLaws.{Passed, passed, by-verdict}
-use Rattle.controller.specs.Write.{wordOf, setpointTests, stateTests, writeTests, coreWith, mdWritten, dsWritten, parameterWritten, coreWritten, writeAccepted, writeCore, controllerWritten, write}
+use Rattle.controller.specs.Write.{wordOf, setpointTests, stateTests, writeTests, coreWith, mdWritten, dsWritten}
+use Rattle.controller.specs.Write.{parameterWritten, coreWritten, writeAccepted, writeCore, controllerWritten, write}
 use Rattle.controller.specs.declared.Controller.{Controller}
 use Rattle.controller.specs.declared.Core.{Core}
 
@@ -41,24 +42,29 @@ write-ascends c n v =
     let tail = stateTests c n v in
     let above : (k : ℕ) → k < 8 → Above k tail = λ k h.
     by-cases (Above k) (eqb n 20) (setpointTests c) _ (λ e. (omega arith, tt))
-    (λ e. by-cases (Above k) (eqb n 24) (mdTests (c .conditions) (wordOf v)) [] (λ d. (omega arith, (omega arith, (omega arith, tt)))) (λ d. tt)) in
+    (λ e. by-cases (Above k) (eqb n 24) (mdTests (c .conditions) (wordOf v)) [] (λ d. (omega arith, (omega arith, (omega arith, tt))))
+    (λ d. tt)) in
     let rest : Ascending tail =
     by-cases Ascending (eqb n 20) (setpointTests c) _ (λ e. (tt, tt))
-    (λ e. by-cases Ascending (eqb n 24) (mdTests (c .conditions) (wordOf v)) [] (λ d. ((omega arith, (omega arith, tt)), ((omega arith, tt), (tt, tt)))) (λ d. tt)) in
-    ((omega arith, (omega arith, (omega arith, above 4 (omega arith)))), ((omega arith, (omega arith, above 5 (omega arith))), ((omega arith, above 6 (omega arith)), (above 7 (omega arith), rest))))
+    (λ e. by-cases Ascending (eqb n 24) (mdTests (c .conditions) (wordOf v)) []
+    (λ d. ((omega arith, (omega arith, tt)), ((omega arith, tt), (tt, tt)))) (λ d. tt)) in (
+      (omega arith, (omega arith, (omega arith, above 4 (omega arith)))),
+      ((omega arith, (omega arith, above 5 (omega arith))), ((omega arith, above 6 (omega arith)), (above 7 (omega arith), rest))),
+    )
 
 -- ---- what an accepted write has passed
 
 -- an accepted word of MD is the value itself
-pub word-is : (c : Core) (n : ℕ) (v : ℤ) → declinedBy (writeTests c n v) ≡ none → n ≡ 24 → wordOf v ≡ natAbs v
+pub word-is : (c : Core) (n : ℕ) (v : ℤ) → refusedBy (writeTests c n v) ≡ none → n ≡ 24 → wordOf v ≡ natAbs v
 unfolding writeTests ruleOf
 word-is c n v accepted e =
     let t = passed (writeTests c n v) accepted in
-    let w = subst (λ (m : ℕ). inRange (ruleOf m) (value (c .parameters)) v ≡ true) e (not-false (inRange (ruleOf n) (value (c .parameters)) v) (t .1 .1 .0)) in
+    let w = subst (λ (m : ℕ). inRange (ruleOf m) (value (c .parameters)) v ≡ true) e
+    (not-false (inRange (ruleOf n) (value (c .parameters)) v) (t .1 .1 .0)) in
     let k = inside (pos 0) (pos 65535) v w in
     omega (arith, integers, k .not-below, k .not-above, number v, apart v)
 
-module _ (c : Core) (n : ℕ) (v : ℤ) (legal : Legal (c .parameters)) (accepted : declinedBy (writeTests c n v) ≡ none) where
+module _ (c : Core) (n : ℕ) (v : ℤ) (legal : Legal (c .parameters)) (accepted : refusedBy (writeTests c n v) ≡ none) where
   -- a value in range and in order leaves the parameters legal, whichever of them it is
   pub values-legal : (n ≡ 24 → ⊥) → (n ≡ 25 → ⊥) → Legal (written (c .parameters) n v)
   unfolding writeTests
@@ -81,20 +87,23 @@ module _ (c : Core) (n : ℕ) (v : ℤ) (legal : Legal (c .parameters)) (accepte
   unfolding coreWritten mdWritten dsWritten parameterWritten coreWith writeTests
   limits-stay e m h l =
       by-cases (λ (k : Core). value (k .parameters) m ≡ value (c .parameters) m) (eqb n 24) (mdWritten c (wordOf v)) _ (λ d. refl)
-      (λ d. by-cases (λ (k : Core). value (k .parameters) m ≡ value (c .parameters) m) (eqb n 25) (dsWritten c (wordOf v)) (parameterWritten c n v) (λ f. refl)
+      (λ d. by-cases (λ (k : Core). value (k .parameters) m ≡ value (c .parameters) m) (eqb n 25) (dsWritten c (wordOf v))
+      (parameterWritten c n v) (λ f. refl)
       (λ f.
       let t = passed (writeTests c n v) accepted in
       let k = known n (t .0) in
       let s = settable n (t .0) (t .1 .0) in
       let a = eqb-false n 24 d in
       let b = eqb-false n 25 f in
-      elsewhere (c .parameters) legal n v (k .0) (omega arith) m (λ q. omega arith) (λ q. omega arith) ∙ rw (ne-eqb m n (not-from n 15 16 e m h l)) refl))
+      elsewhere (c .parameters) legal n v (k .0) (omega arith) m (λ q. omega arith) (λ q. omega arith) ∙
+      rw (ne-eqb m n (not-from n 15 16 e m h l)) refl))
 
 -- ---- "of these only scans and restarts change any": what no write touches, SW and the earlier PVs and SP beside it
 
 module _ (c : Core) (n : ℕ) (v : ℤ) where
   -- the three kinds of write
-  pub by-kind : (P : Core → Type 0) → P (mdWritten c (wordOf v)) → P (dsWritten c (wordOf v)) → P (parameterWritten c n v) → P (coreWritten c n v)
+  pub by-kind : (P : Core → Type 0) → P (mdWritten c (wordOf v)) → P (dsWritten c (wordOf v)) → P (parameterWritten c n v) →
+      P (coreWritten c n v)
   unfolding coreWritten
   by-kind P a b d = by-cases P (eqb n 24) _ _ (λ e. a) (λ e. by-cases P (eqb n 25) _ _ (λ f. b) (λ f. d))
 
@@ -106,17 +115,13 @@ module _ (c : Core) (n : ℕ) (v : ℤ) where
   unfolding mdWritten dsWritten parameterWritten coreWith
   readings-stay = by-kind (λ k. k .readings ≡ c .readings) refl refl refl
 
-  pub shown-stays : coreWritten c n v .shown ≡ c .shown
-  unfolding mdWritten dsWritten parameterWritten coreWith
-  shown-stays = by-kind (λ k. k .shown ≡ c .shown) refl refl refl
-
   pub history-stays : coreWritten c n v .history ≡ c .history
   unfolding mdWritten dsWritten parameterWritten coreWith
   history-stays = by-kind (λ k. k .history ≡ c .history) refl refl refl
 
-  pub opens-stay : coreWritten c n v .conditions .opens ≡ c .conditions .opens
+  pub open-count-stay : coreWritten c n v .conditions .opencount ≡ c .conditions .opencount
   unfolding mdWritten dsWritten parameterWritten coreWith conditionsWritten
-  opens-stay = by-kind (λ k. k .conditions .opens ≡ c .conditions .opens) refl refl refl
+  open-count-stay = by-kind (λ k. k .conditions .opencount ≡ c .conditions .opencount) refl refl refl
 
   pub pins-stay : coreWritten c n v .conditions .pins ≡ c .conditions .pins
   unfolding mdWritten dsWritten parameterWritten coreWith conditionsWritten
@@ -134,7 +139,8 @@ manual-word true false true b11 true opened e d f = never (sym d)
 manual-word true false false true true opened e d f = never (sym d)
 manual-word true false false false true opened e d f = never (sym e)
 
-manual-written : (c : Core) (n : ℕ) (v : ℤ) → declinedBy (writeTests c n v) ≡ none → (c .conditions .fault ≡ true → c .conditions .request ≡ Manual) →
+manual-written : (c : Core) (n : ℕ) (v : ℤ) → refusedBy (writeTests c n v) ≡ none →
+    (c .conditions .fault ≡ true → c .conditions .request ≡ Manual) →
     coreWritten c n v .conditions .fault ≡ true → coreWritten c n v .conditions .request ≡ Manual
 unfolding coreWritten mdWritten dsWritten parameterWritten coreWith conditionsWritten writeTests stateTests mdTests
 manual-written c n v accepted before =
@@ -144,13 +150,15 @@ manual-written c n v accepted before =
     (λ e. let t = passed (writeTests c n v) accepted .1 .1 .1 .1 in
     let tests : stateTests c n v ≡ mdTests (c .conditions) w = rw (ne-eqb n 20 (λ q. omega (arith, eqb-true n 24 e)), e) refl in
     let k = subst Passed tests t in
-    manual-word (c .conditions .fault) (bit w 13) (bit w 12) (bit w 11) (bit w 8) (isOpenCause (c .conditions .opens)) (k .0) (k .1 .1 .0))
+    manual-word (c .conditions .fault) (bit w 13) (bit w 12) (bit w 11) (bit w 8) (isOpenCause (c .conditions .opencount)) (k .0)
+    (k .1 .1 .0))
     (λ e. by-cases P (eqb n 25) (dsWritten c w) (parameterWritten c n v) (λ f. before) (λ f. before))
 
 -- ---- valid
 
-pub written-valid : (c : Controller) (n : ℕ) (v : ℤ) → Valid c → declinedBy (writeTests (c .core) n v) ≡ none → Valid (controllerWritten c n v)
-unfolding controllerWritten controllerAfter writeAccepted carriedOut changed limitedTo limitsWritten
+pub written-valid : (c : Controller) (n : ℕ) (v : ℤ) → Valid c → refusedBy (writeTests (c .core) n v) ≡ none →
+    Valid (controllerWritten c n v)
+unfolding controllerWritten controllerAfter writeAccepted executed changed limitedTo limitsWritten
 written-valid c n v valid accepted =
     record {
       legal = core-legal (c .core) n v (valid .legal) accepted;
@@ -158,16 +166,16 @@ written-valid c n v valid accepted =
       readable = rw (readings-stay (c .core) n v) (valid .readable);
       manual = manual-written (c .core) n v accepted (valid .manual);
       stored =
-          by-cases (λ (l : Limits). Stored (limitedTo storedArithmetic l (c .output))) (isFrom n 15 16) _ unlimited
+          by-cases (λ (l : Limits). OutputRange (limitedTo storedArithmetic l (c .output))) (isFrom n 15 16) _ unlimited
           (λ e. limited-still-stored _ (core-legal (c .core) n v (valid .legal) accepted) (modeNow (c .core)) (c .output) (valid .stored))
           (λ e. unlimited-stored);
     }
   where
-    unlimited-stored : Stored (limitedTo storedArithmetic unlimited (c .output))
+    unlimited-stored : OutputRange (limitedTo storedArithmetic unlimited (c .output))
     unlimited-stored = valid .stored
 
 pub valid-write : (c : Controller) (n : ℕ) (v : ℤ) → Valid c → Valid (write c n v .next)
-unfolding write writeCore handedBack controllerAfter refused carriedOut changed limitedTo controllerWritten
+unfolding write writeCore responseFrom controllerAfter refused executed changed limitedTo controllerWritten
 valid-write c n v valid =
-    by-verdict (λ o. Valid (handedBack c o .next)) (declinedBy (writeTests (c .core) n v)) (c .core) (writeAccepted (c .core) n v)
+    by-verdict (λ o. Valid (responseFrom c o .next)) (refusedBy (writeTests (c .core) n v)) (c .core) (writeAccepted (c .core) n v)
     (λ e. written-valid c n v valid e) (λ m. valid)

@@ -2,7 +2,7 @@
 ghost use mathlib.Core.Path.{_≡_};
 ghost use Prim.Native.Nat.{_≤_};
 ghost use Rattle.parameters.specs.Legal.{Legal};
-ghost use Rattle.outputs.specs.OutputLaws.{Stored};
+ghost use Rattle.outputs.specs.OutputLaws.{OutputRange};
 ghost use Rattle.controller.specs.Answers.{opOf, electricalOf};
 ghost use Rattle.controller.specs.Scan.{modeNow, mdNow, dsNow};
 ghost use Rattle.controller.specs.State.{startConditions, startReadings, startCore, freshController};
@@ -14,26 +14,26 @@ use parameters::Parameters;
 use setpoints::Readings;
 use signals::Refusal;
 use signals::Verdict;
-use words::Marks;
-use words::Shown;
+use words::Indications;
+use words::UserBits;
 
-mod mended;
 mod read;
+mod repaired;
 mod restart;
 mod save;
 mod scan;
 mod table;
 mod write;
 
-// All that lasts between calls but the output: SW; parameters 1 to 23; request, memory fault, open count and pins; user bits and MD bit 4; PV, SP, ER and
-// MP; buttons, battery and alarms; the earlier PVs and SP.
+// All that lasts between calls but the output: SW; parameters 1 to 23; request, memory fault, open count
+// and pins; user bits and MD bit 4; PV, SP, ER and MP; buttons, battery and alarms; the earlier PVs and SP.
 pub struct Core {
     pub sw: u16,
     pub parameters: Parameters,
     pub conditions: Conditions,
-    pub marks: Marks,
+    pub userbits: UserBits,
     pub readings: Readings,
-    pub shown: Shown,
+    pub indications: Indications,
     pub history: History,
 }
 
@@ -53,13 +53,13 @@ pub enum Answer {
     Refused(Refusal),
 }
 
-pub struct Scanned {
+pub struct ScanResult {
     pub controller: Controller,
     pub answer: Answer,
 }
 
-// What a write or a restart hands back.
-pub struct Judged {
+// What a write or a restart returns.
+pub struct CallResult {
     pub controller: Controller,
     pub verdict: Verdict,
 }
@@ -69,14 +69,17 @@ pub enum ReadAnswer {
     Refused(Refusal),
 }
 
+// The pin byte before the first scan: the Hold pin high, the others low.
+const START_PINS: u8 = 0x80;
+
 fn start_conditions(request: Request, fault: bool) -> Conditions
     ensures { λ r. ⌜ r ≡ startConditions request fault ⌝ }
 {
     Conditions {
         request,
         fault,
-        opens: 0,
-        pins: 0x80,
+        opencount: 0,
+        pins: START_PINS,
     }
 }
 
@@ -90,10 +93,17 @@ fn start_readings(p: Parameters) -> Readings
     Readings { pv, sp, er, mp: 0 }
 }
 
-// The state that a start leaves but for the output, with these settings. The contract rules out that anything of an earlier state is kept.
-fn start_core(sw: u16, parameters: Parameters, request: Request, fault: bool, marks: Marks) -> Core
+// The state that a start leaves but for the output, with these settings. The contract rules out that
+// anything of an earlier state is kept.
+fn start_core(
+    sw: u16,
+    parameters: Parameters,
+    request: Request,
+    fault: bool,
+    userbits: UserBits,
+) -> Core
     requires { ⌜ Legal parameters ⌝ }
-    ensures { λ r. ⌜ r ≡ startCore sw parameters request fault marks ⌝ }
+    ensures { λ r. ⌜ r ≡ startCore sw parameters request fault userbits ⌝ }
 {
     let conditions = start_conditions(request, fault);
     let readings = start_readings(parameters);
@@ -101,9 +111,9 @@ fn start_core(sw: u16, parameters: Parameters, request: Request, fault: bool, ma
         sw,
         parameters,
         conditions,
-        marks,
+        userbits,
         readings,
-        shown: Shown {
+        indications: Indications {
             buttons: 0,
             batterylow: false,
             lowalarm: false,
@@ -114,19 +124,23 @@ fn start_core(sw: u16, parameters: Parameters, request: Request, fault: bool, ma
 }
 
 fn op_of(output: i64) -> u16
-    requires { ⌜ Stored output ⌝ }
+    requires { ⌜ OutputRange output ⌝ }
     ensures { λ r. ⌜ (r ≡ opOf output) × (r ≤ 9999) ⌝ }
 {
-    (integers::magnitude(output) / 65536) as u16
+    (integers::magnitude(output) / terms::UNIT) as u16
 }
 
 fn electrical_of(sw: u16, output: i64) -> u16
-    requires { ⌜ Stored output ⌝ }
+    requires { ⌜ OutputRange output ⌝ }
     ensures { λ r. ⌜ r ≡ electricalOf sw output ⌝ }
 {
     let s = signals::switches_of(sw);
     let op = op_of(output);
-    if s.displayinversion { 9999 - op } else { op }
+    if s.displayinversion {
+        parameters::OP_MOST - op
+    } else {
+        op
+    }
 }
 
 impl Core {
@@ -142,20 +156,20 @@ impl Core {
         ensures { λ r. ⌜ r ≡ mdNow self ⌝ }
     {
         let conditions = self.conditions;
-        let marks = self.marks;
-        let shown = self.shown;
+        let userbits = self.userbits;
+        let indications = self.indications;
         let mode = self.mode();
-        words::md(mode, conditions, marks, shown)
+        words::md(mode, conditions, userbits, indications)
     }
 
     fn ds(self) -> u16
         ensures { λ r. ⌜ r ≡ dsNow self ⌝ }
     {
         let conditions = self.conditions;
-        let marks = self.marks;
-        let shown = self.shown;
+        let userbits = self.userbits;
+        let indications = self.indications;
         let mode = self.mode();
-        words::ds(mode, conditions, marks, shown)
+        words::ds(mode, conditions, userbits, indications)
     }
 }
 
@@ -166,12 +180,12 @@ impl Controller {
     {
         let values = Self::DEFAULTS;
         let parameters = Parameters { values };
-        let marks = Marks {
+        let userbits = UserBits {
             user1: false,
             user2: false,
             measuredpower: false,
         };
-        let core = start_core(sw, parameters, Request::Manual, false, marks);
+        let core = start_core(sw, parameters, Request::Manual, false, userbits);
         Controller { core, output: 0 }
     }
 }

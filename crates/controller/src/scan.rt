@@ -1,33 +1,34 @@
-// One scan: the steps in document 01's order, and the words that it answers.
+// One scan: document 01's steps, each a function, and the words that it answers. Steps 2 and 3 come first, as the mode
+// decides the others; step 6 comes last, as it needs what step 5 gives.
 ghost use mathlib.Core.Path.{_≡_};
 ghost use Rattle.parameters.specs.Legal.{Legal};
-ghost use Rattle.setpoints.specs.ReckoningLaws.{Sampled};
-ghost use Rattle.outputs.specs.OutputLaws.{Stored};
-ghost use Rattle.controller.specs.Answers.{said, handed};
-ghost use Rattle.controller.specs.Scan.{situationOf, reckonedIn, shownAfter, coreAfter, statusOf, withOutput, stepped, scan};
+ghost use Rattle.setpoints.specs.ComputationLaws.{SampleRange};
+ghost use Rattle.outputs.specs.OutputLaws.{OutputRange};
+ghost use Rattle.controller.specs.Answers.{replyOf, responseOf};
+ghost use Rattle.controller.specs.Scan.{contextOf, computedIn, indicationsAfter, coreAfter, statusOf, withOutput, stepped, scan};
 ghost use Rattle.controller.specs.Valid.{Valid};
 use crate::Answer;
 use crate::Controller;
 use crate::Core;
-use crate::Scanned;
+use crate::ScanResult;
 use modes::Conditions;
-use outputs::Situation;
+use outputs::Context;
+use setpoints::Computed;
 use setpoints::Readings;
-use setpoints::Reckoned;
 use signals::Input;
 use signals::Verdict;
-use words::Shown;
+use words::Indications;
 
 impl Core {
     // Step 3, and of step 6 whether the scan goes to minimum.
-    fn situation(self, after: Conditions, input: Input) -> Situation
-        ensures { λ r. ⌜ r ≡ situationOf self after input ⌝ }
+    fn context(self, after: Conditions, input: Input) -> Context
+        ensures { λ r. ⌜ r ≡ contextOf self after input ⌝ }
     {
         let switches = signals::switches_of(self.sw);
         let before = self.conditions;
         let mode = after.mode(switches.ratio);
         let tominimum = before.goes_to_minimum(input, switches.ratio, switches.powerfail);
-        Situation {
+        Context {
             switches,
             mode,
             tominimum,
@@ -36,28 +37,28 @@ impl Core {
     }
 
     // Steps 1, 4 and 5.
-    fn reckon(self, x: Situation) -> Reckoned
-        requires { ⌜ Legal (self .parameters) × Sampled (x .input) ⌝ }
-        ensures { λ r. ⌜ r ≡ reckonedIn self x ⌝ }
+    fn compute(self, x: Context) -> Computed
+        requires { ⌜ Legal (self .parameters) × SampleRange (x .input) ⌝ }
+        ensures { λ r. ⌜ r ≡ computedIn self x ⌝ }
     {
         let p = self.parameters;
-        let marks = self.marks;
+        let userbits = self.userbits;
         let s = x.switches;
         let mode = x.mode;
         let input = x.input;
-        setpoints::reckon(p, s, marks.measuredpower, mode, input)
+        setpoints::compute(p, s, userbits.measuredpower, mode, input)
     }
 
-    fn shown_after(self, x: Situation, r: Readings) -> Shown
+    fn indications_after(self, x: Context, r: Readings) -> Indications
         requires { ⌜ Legal (self .parameters) ⌝ }
-        ensures { λ n. ⌜ n ≡ shownAfter self x r ⌝ }
+        ensures { λ n. ⌜ n ≡ indicationsAfter self x r ⌝ }
     {
         let p = self.parameters;
         let input = x.input;
         let batterylow = signals::battery_low(input);
         let lowalarm = setpoints::low_alarm(p, r);
         let highalarm = setpoints::high_alarm(p, r);
-        Shown {
+        Indications {
             buttons: input.buttons,
             batterylow,
             lowalarm,
@@ -66,25 +67,25 @@ impl Core {
     }
 
     // The state that the scan leaves, but for the output.
-    fn after(self, conditions: Conditions, x: Situation, r: Reckoned) -> Core
+    fn after(self, conditions: Conditions, x: Context, r: Computed) -> Core
         requires { ⌜ Legal (self .parameters) ⌝ }
         ensures { λ n. ⌜ n ≡ coreAfter self conditions x r ⌝ }
     {
-        let marks = self.marks;
+        let userbits = self.userbits;
         let earlier = self.history;
         let readings = r.readings;
         let parameters = r.parameters;
         let input = x.input;
         let isopen = signals::is_open(input);
-        let shown = self.shown_after(x, readings);
+        let indications = self.indications_after(x, readings);
         let history = outputs::history_after(earlier, isopen, readings);
         Core {
             sw: self.sw,
             parameters,
             conditions,
-            marks,
+            userbits,
             readings,
-            shown,
+            indications,
             history,
         }
     }
@@ -93,7 +94,7 @@ impl Core {
 impl Controller {
     // The controller after an accepted scan.
     fn stepped(self, input: Input) -> Controller
-        requires { ⌜ Valid self × Sampled input ⌝ }
+        requires { ⌜ Valid self × SampleRange input ⌝ }
         ensures { λ r. ⌜ r ≡ stepped self input ⌝ }
     {
         let core = self.core;
@@ -102,8 +103,8 @@ impl Controller {
         let p = core.parameters;
         let history = core.history;
         let conditions = before.after(input);
-        let x = core.situation(conditions, input);
-        let r = core.reckon(x);
+        let x = core.context(conditions, input);
+        let r = core.compute(x);
         let readings = r.readings;
         let next = core.after(conditions, x, r);
         let output = outputs::output_after(p, x, readings, history, earlier);
@@ -112,8 +113,8 @@ impl Controller {
 
     // MD, DS, OP and electrical output of the present state.
     fn words(self) -> Answer
-        requires { ⌜ Stored (self .output) ⌝ }
-        ensures { λ r. ⌜ said r ≡ withOutput (statusOf (self .core)) (self .core .sw) (self .output) ⌝ }
+        requires { ⌜ OutputRange (self .output) ⌝ }
+        ensures { λ r. ⌜ replyOf r ≡ withOutput (statusOf (self .core)) (self .core .sw) (self .output) ⌝ }
     {
         let core = self.core;
         let md = core.md();
@@ -128,22 +129,23 @@ impl Controller {
         }
     }
 
-    // One scan: the next controller and the answer, or the refusal and the controller as it was. The contract gives the whole of both, so it rules out
-    // a scan that changes anything else, a refusal for no listed cause, and an output or a word other than the rules'.
-    pub fn scan(self, input: Input) -> Scanned
+    // One scan: the next controller and the answer, or the refusal and the controller as it was. The
+    // contract gives the whole of both, so it rules out a scan that changes anything else, a refusal
+    // for no listed cause, and an output or a word other than the rules'.
+    pub fn scan(self, input: Input) -> ScanResult
         requires { ⌜ Valid self ⌝ }
-        ensures { λ r. ⌜ handed r ≡ scan self input ⌝ }
+        ensures { λ r. ⌜ responseOf r ≡ scan self input ⌝ }
     {
         let verdict = signals::scan_verdict(input);
         match verdict {
-            Verdict::Refused(refusal) => Scanned {
+            Verdict::Refused(refusal) => ScanResult {
                 controller: self,
                 answer: Answer::Refused(refusal),
             },
             Verdict::Accepted => {
                 let controller = self.stepped(input);
                 let answer = controller.words();
-                Scanned { controller, answer }
+                ScanResult { controller, answer }
             }
         }
     }

@@ -20,7 +20,7 @@ impl Controller {
 
     pub const OUTPUT_LEAST: i64 = 0;
 
-    pub const OUTPUT_MOST: i64 = 9999;
+    pub const OUTPUT_MOST: i64 = parameters::OUTPUT_MOST;
 
     pub const BAND_LEAST: i64 = 1;
 
@@ -37,10 +37,10 @@ impl Controller {
     // IC: linear, or root.
     pub const LINEAR: i64 = 0;
 
-    pub const ROOT: i64 = 1;
+    pub const ROOT: i64 = parameters::ROOT;
 
     // By number; entry 0 is not used.
-    pub const DEFAULTS: [i64; 24] = [
+    pub const DEFAULTS: [i64; parameters::VALUE_COUNT] = [
         0, // not used
         1000, // 1H
         0, // 1L
@@ -67,8 +67,8 @@ impl Controller {
         0, // IC
     ];
 
-    // What a parameter's number asks of a value: limits, pair rule, or refusal 4 or 5. The contract rules out a range or an order other than the table's, and
-    // a number that is taken for one of another row.
+    // What a parameter's number asks of a value: limits, pair rule, or refusal 4 or 5. The contract rules
+    // out a range or an order other than the table's, and a number that is taken for one of another row.
     pub fn rule(number: u64) -> Rule
         ensures { λ r. ⌜ r ≡ ruleOf number ⌝ }
     {

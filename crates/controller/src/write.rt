@@ -1,29 +1,33 @@
 // Writes: whether one is accepted, and what it leaves.
 ghost use mathlib.Core.Path.{_≡_};
 ghost use mathlib.Core.Option.{none};
-ghost use Rattle.signals.specs.Refusals.{numberIn, declinedBy};
-ghost use Rattle.controller.specs.Answers.{handedWithVerdict};
+ghost use Rattle.signals.specs.Refusals.{numberIn, refusedBy};
+ghost use Rattle.controller.specs.Answers.{responseOfVerdict};
 ghost use Rattle.controller.specs.Valid.{Valid};
-ghost use Rattle.controller.specs.Write.{setpointTests, wordOf, stateTests, writeTests, coreWith, mdWritten, dsWritten, parameterWritten, coreWritten, controllerWritten, write};
+ghost use Rattle.controller.specs.Write.{setpointTests, wordOf, stateTests, writeTests, coreWith, mdWritten};
+ghost use Rattle.controller.specs.Write.{dsWritten, parameterWritten, coreWritten, controllerWritten, write};
+use crate::CallResult;
 use crate::Controller;
 use crate::Core;
-use crate::Judged;
 use modes::Conditions;
 use parameters::Parameters;
 use signals::Refusal;
 use signals::Verdict;
-use words::Marks;
+use words::UserBits;
+
+// How many words of 16 bits there are.
+const WORD_COUNT: u64 = Controller::WORD_MOST as u64 + 1;
 
 fn word_of(v: i64) -> u16
     ensures { λ r. ⌜ r ≡ wordOf v ⌝ }
 {
-    (integers::magnitude(v) % 65536) as u16
+    (integers::magnitude(v) % WORD_COUNT) as u16
 }
 
 impl Core {
     // Refusal 8.
     fn setpoint_verdict(self) -> Verdict
-        ensures { λ r. ⌜ numberIn r ≡ declinedBy (setpointTests self) ⌝ }
+        ensures { λ r. ⌜ numberIn r ≡ refusedBy (setpointTests self) ⌝ }
     {
         let s = signals::switches_of(self.sw);
         let mode = self.mode();
@@ -36,21 +40,21 @@ impl Core {
 
     // Refusals 8 to 11, of a value that the table accepts.
     fn state_verdict(self, number: u64, v: i64) -> Verdict
-        ensures { λ r. ⌜ numberIn r ≡ declinedBy (stateTests self number v) ⌝ }
+        ensures { λ r. ⌜ numberIn r ≡ refusedBy (stateTests self number v) ⌝ }
     {
         let conditions = self.conditions;
         let word = word_of(v);
         match number {
-            20 => self.setpoint_verdict(),
-            24 => words::written::md_verdict(conditions, word),
+            parameters::SL => self.setpoint_verdict(),
+            parameters::MD => words::written::md_verdict(conditions, word),
             _ => Verdict::Accepted,
         }
     }
 
-    // Whether a write is accepted. The contract rules out a refusal for another cause, one that is forgotten, and a higher number where a lower one
-    // applies.
+    // Whether a write is accepted. The contract rules out a refusal for another cause, one that is
+    // forgotten, and a higher number where a lower one applies.
     fn write_verdict(self, number: u64, v: i64) -> Verdict
-        ensures { λ r. ⌜ numberIn r ≡ declinedBy (writeTests self number v) ⌝ }
+        ensures { λ r. ⌜ numberIn r ≡ refusedBy (writeTests self number v) ⌝ }
     {
         let p = self.parameters;
         let rule = Controller::rule(number);
@@ -70,19 +74,19 @@ impl Core {
     }
 
     // The same but for these three: no write touches anything else.
-    fn with(self, parameters: Parameters, conditions: Conditions, marks: Marks) -> Core
-        ensures { λ r. ⌜ r ≡ coreWith self parameters conditions marks ⌝ }
+    fn with(self, parameters: Parameters, conditions: Conditions, userbits: UserBits) -> Core
+        ensures { λ r. ⌜ r ≡ coreWith self parameters conditions userbits ⌝ }
     {
         let readings = self.readings;
-        let shown = self.shown;
+        let indications = self.indications;
         let history = self.history;
         Core {
             sw: self.sw,
             parameters,
             conditions,
-            marks,
+            userbits,
             readings,
-            shown,
+            indications,
             history,
         }
     }
@@ -92,10 +96,10 @@ impl Core {
     {
         let p = self.parameters;
         let before = self.conditions;
-        let earlier = self.marks;
+        let earlier = self.userbits;
         let conditions = words::written::conditions_written(before, word);
-        let marks = words::written::power_written(earlier, word);
-        self.with(p, conditions, marks)
+        let userbits = words::written::power_written(earlier, word);
+        self.with(p, conditions, userbits)
     }
 
     fn ds_written(self, word: u16) -> Core
@@ -103,9 +107,9 @@ impl Core {
     {
         let p = self.parameters;
         let conditions = self.conditions;
-        let earlier = self.marks;
-        let marks = words::written::user_bits_written(earlier, word);
-        self.with(p, conditions, marks)
+        let earlier = self.userbits;
+        let userbits = words::written::user_bits_written(earlier, word);
+        self.with(p, conditions, userbits)
     }
 
     fn parameter_written(self, number: u64, v: i64) -> Core
@@ -113,9 +117,9 @@ impl Core {
     {
         let p = self.parameters;
         let conditions = self.conditions;
-        let marks = self.marks;
+        let userbits = self.userbits;
         let parameters = p.written(number, v);
-        self.with(parameters, conditions, marks)
+        self.with(parameters, conditions, userbits)
     }
 
     // What an accepted write leaves, but for the output.
@@ -124,8 +128,8 @@ impl Core {
     {
         let word = word_of(v);
         match number {
-            24 => self.md_written(word),
-            25 => self.ds_written(word),
+            parameters::MD => self.md_written(word),
+            parameters::DS => self.ds_written(word),
             _ => self.parameter_written(number, v),
         }
     }
@@ -134,7 +138,7 @@ impl Core {
 impl Controller {
     // The controller after an accepted write.
     fn written(self, number: u64, v: i64) -> Controller
-        requires { ⌜ Valid self × (declinedBy (writeTests (self .core) number v) ≡ none) ⌝ }
+        requires { ⌜ Valid self × (refusedBy (writeTests (self .core) number v) ≡ none) ⌝ }
         ensures { λ r. ⌜ r ≡ controllerWritten self number v ⌝ }
     {
         let before = self.core;
@@ -146,24 +150,25 @@ impl Controller {
         Controller { core, output }
     }
 
-    // One write of a value, in the parameter's own units (`parameters` has the numbers by name): the next controller and that it was accepted, or a
-    // refusal from 4 to 11 and the controller as it was. The contract gives the whole of both, so it rules out a write that changes anything else,
-    // one that forgets what it should do besides, and a refusal for no listed cause.
-    pub fn write(self, number: u64, value: i32) -> Judged
+    // One write of a value, in the parameter's own units (`parameters` has the numbers by name): the next
+    // controller and that it was accepted, or a refusal from 4 to 11 and the controller as it was. The
+    // contract gives the whole of both, so it rules out a write that changes anything else, one that
+    // forgets what it should do besides, and a refusal for no listed cause.
+    pub fn write(self, number: u64, value: i32) -> CallResult
         requires { ⌜ Valid self ⌝ }
-        ensures { λ r. ⌜ handedWithVerdict r ≡ write self number value ⌝ }
+        ensures { λ r. ⌜ responseOfVerdict r ≡ write self number value ⌝ }
     {
         let core = self.core;
         let v = integers::wide(value);
         let verdict = core.write_verdict(number, v);
         match verdict {
-            Verdict::Refused(refusal) => Judged {
+            Verdict::Refused(refusal) => CallResult {
                 controller: self,
                 verdict: Verdict::Refused(refusal),
             },
             Verdict::Accepted => {
                 let controller = self.written(number, v);
-                Judged {
+                CallResult {
                     controller,
                     verdict: Verdict::Accepted,
                 }

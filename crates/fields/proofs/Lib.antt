@@ -1,2 +1,2 @@
-pub mod Laying
-pub mod Taking
+pub mod EncodingLaws
+pub mod DecodingLaws

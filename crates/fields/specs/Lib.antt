@@ -1,4 +1,4 @@
 pub mod FieldLaws
 pub mod Fields
-pub mod Reading
+pub mod Decoding
 pub mod RoundTrip

@@ -8,76 +8,85 @@ use denote.Ref.{now}
 use Rattle.signals.specs.declared.Input.{Input}
 use Rattle.modes.specs.Modes.{counted}
 use Rattle.modes.specs.declared.Mode.{Mode}
-use Rattle.controller.specs.Answers.{Said, Handed, handed, saidOfVerdict, handedWithVerdict}
+use Rattle.controller.specs.Answers.{Reply, Response, responseOf, replyOfVerdict, responseOfVerdict}
 use Rattle.controller.specs.Restart as restarts
 use Rattle.controller.specs.Scan as rules
-use Rattle.controller.specs.Scan.{controllerAfter, modeNow, Status, Outcome, withOutput, handedBack}
+use Rattle.controller.specs.Scan.{controllerAfter, modeNow, Status, Outcome, withOutput, responseFrom}
 use Rattle.controller.specs.Valid.{Valid}
 use Rattle.controller.specs.Write as writes
 use Rattle.controller.specs.declared.Controller.{Controller}
-use Rattle.controller.specs.declared.Judged.{Judged}
-use Rattle.controller.specs.declared.Scanned.{Scanned}
+use Rattle.controller.specs.declared.CallResult.{CallResult}
+use Rattle.controller.specs.declared.ScanResult.{ScanResult}
 use Rattle.guarantee.specs.Claim.{modeIn, isHoldOrTrack, capped, SameReading, SameAnswer, SameAnswers, no-answer, and-answer}
 use Rattle.guarantee.specs.Demand.{Demand3}
 use Rattle.guarantee.specs.Exact.{Call, scan, write, restart, Calls, _then_, outcomeOf, exactAfter, exact, exactAnswer}
-use Rattle.guarantee.specs.Linked.{ScanEnsures, WriteEnsures, RestartEnsures, Lent, Lifetime, Linked, started, scanned, wrote, restarted, Ready}
+use Rattle.guarantee.specs.Linked.{ScanEnsures, WriteEnsures, RestartEnsures, Slice, Lifetime}
+use Rattle.guarantee.specs.Linked.{Linked, started, scanned, wrote, restarted, Ready}
 use Rattle.guarantee.proofs.Answers.{outcome-shows, same-answer, same-reading, same-save}
 use Rattle.guarantee.proofs.Capped.{cappedOutcome, capped-twice, now-capped}
 use Rattle.guarantee.proofs.Faults.{fault-after}
 use Rattle.guarantee.proofs.Limits.{within-after}
 use Rattle.guarantee.proofs.Modes.{mode-is-first}
-use Rattle.guarantee.proofs.Ours.{ours, cores, outcomes, switch-word, opens-after, valid-after, bound-after}
+use Rattle.guarantee.proofs.Ours.{ours, cores, outcomes, switch-word, open-count-after, valid-after, bound-after}
 
 -- ---- what the contracts hand on is what the rules give
 
-pub linked : {word : ℕ} {xs : Calls} {hs : List Handed} {c : Controller} → Linked word xs hs c → c ≡ ours word xs
+pub linked : {word : ℕ} {xs : Calls} {rs : List Response} {c : Controller} → Linked word xs rs c → c ≡ ours word xs
 unfolding ours rules.scan writes.write restarts.restart outcomeOf rules.scanCore
 linked (started r e) = e
-linked (scanned i r l e) = ap (λ (h : Handed). h .next) e ∙ ap (λ (k : Controller). rules.scan k i .next) (linked l)
-linked (wrote n v r l e) = ap (λ (h : Handed). h .next) e ∙ ap (λ (k : Controller). writes.write k n v .next) (linked l)
-linked (restarted life image r l e) = ap (λ (h : Handed). h .next) e ∙ ap (λ (k : Controller). restarts.restart k (now image) .next) (linked l)
+linked (scanned i r l e) = ap (λ (h : Response). h .next) e ∙ ap (λ (k : Controller). rules.scan k i .next) (linked l)
+linked (wrote n v r l e) = ap (λ (h : Response). h .next) e ∙ ap (λ (k : Controller). writes.write k n v .next) (linked l)
+linked (restarted life image r l e) =
+    ap (λ (h : Response). h .next) e ∙ ap (λ (k : Controller). restarts.restart k (now image) .next) (linked l)
 
--- what a call hands back, in the exact controller's answer and our own output
-handed-answer : (word : ℕ) (xs : Calls) (x : Call) → let h = handedBack (ours word xs) (outcomeOf counted (ours word xs .core) x) in
+-- what a call returns, in the exact controller's answer and our own output
+response-answer : (word : ℕ) (xs : Calls) (x : Call) → let h = responseFrom (ours word xs) (outcomeOf counted (ours word xs .core) x) in
     SameAnswer (h .next) (exact word (xs then x) .core) (h .answer) (exactAnswer word xs x)
-unfolding handedBack controllerAfter exactAnswer exact exactAfter ours cappedOutcome
-handed-answer word xs x =
+unfolding responseFrom controllerAfter exactAnswer exact exactAfter ours cappedOutcome
+response-answer word xs x =
     let o = outcomeOf counted (ours word xs .core) x in
-    let next = handedBack (ours word xs) o .next in
+    let next = responseFrom (ours word xs) o .next in
     let now = exact word (xs then x) .core in
     let answers-are : exactAnswer word xs x ≡ o .answer = sym (ap (λ (o : Outcome). o .answer) (outcomes word xs x)) in
-    let answer = same-answer next now (exactAnswer word xs x) (outcome-shows (exact word xs .core) x) (valid-after word (xs then x) .stored) in
+    let answer = same-answer next now (exactAnswer word xs x) (outcome-shows (exact word xs .core) x)
+    (valid-after word (xs then x) .stored) in
     subst (λ (s : Status). SameAnswer next now (withOutput s (ours word xs .core .sw) (next .output)) (exactAnswer word xs x)) answers-are
-    (subst (λ (sw : ℕ). SameAnswer next now (withOutput (exactAnswer word xs x) sw (next .output)) (exactAnswer word xs x)) (switch-word (ours word xs .core) x) answer)
+    (subst (λ (sw : ℕ). SameAnswer next now (withOutput (exactAnswer word xs x) sw (next .output)) (exactAnswer word xs x))
+    (switch-word (ours word xs .core) x) answer)
 
 -- the contract of a scan, made after these calls, that of a write, and that of a restart
-scan-is : {word : ℕ} {xs : Calls} {hs : List Handed} {c : Controller} (i : Input) (r : Scanned) → Linked word xs hs c → ScanEnsures c i r →
-    handed r ≡ handedBack (ours word xs) (outcomeOf counted (ours word xs .core) (scan i))
+scan-is : {word : ℕ} {xs : Calls} {rs : List Response} {c : Controller} (i : Input) (r : ScanResult) → Linked word xs rs c →
+    ScanEnsures c i r →
+    responseOf r ≡ responseFrom (ours word xs) (outcomeOf counted (ours word xs .core) (scan i))
 unfolding rules.scan outcomeOf
 scan-is i r l e = e ∙ ap (λ (k : Controller). rules.scan k i) (linked l)
 
-write-is : {word : ℕ} {xs : Calls} {hs : List Handed} {c : Controller} (n : ℕ) (v : ℤ) (r : Judged) → Linked word xs hs c → WriteEnsures c n v r →
-    handedWithVerdict r ≡ handedBack (ours word xs) (outcomeOf counted (ours word xs .core) (write n v))
+write-is : {word : ℕ} {xs : Calls} {rs : List Response} {c : Controller} (n : ℕ) (v : ℤ) (r : CallResult) → Linked word xs rs c →
+    WriteEnsures c n v r →
+    responseOfVerdict r ≡ responseFrom (ours word xs) (outcomeOf counted (ours word xs .core) (write n v))
 unfolding writes.write outcomeOf
 write-is n v r l e = e ∙ ap (λ (k : Controller). writes.write k n v) (linked l)
 
-restart-is : {word : ℕ} {xs : Calls} {hs : List Handed} {c : Controller} (life : Lifetime) (image : Lent) (r : Judged) → Linked word xs hs c → RestartEnsures life c image r →
-    handedWithVerdict r ≡ handedBack (ours word xs) (outcomeOf counted (ours word xs .core) (restart (now image)))
+restart-is : {word : ℕ} {xs : Calls} {rs : List Response} {c : Controller} (life : Lifetime) (image : Slice) (r : CallResult) →
+    Linked word xs rs c → RestartEnsures life c image r →
+    responseOfVerdict r ≡ responseFrom (ours word xs) (outcomeOf counted (ours word xs .core) (restart (now image)))
 unfolding restarts.restart outcomeOf
 restart-is life image r l e = e ∙ ap (λ (k : Controller). restarts.restart k (now image)) (linked l)
 
 -- one answer more
-answered : {word : ℕ} {xs : Calls} {hs : List Handed} (x : Call) (h : Handed) → h ≡ handedBack (ours word xs) (outcomeOf counted (ours word xs .core) x) →
-    SameAnswers word xs hs → SameAnswers word (xs then x) (h ∷ hs)
+answered : {word : ℕ} {xs : Calls} {rs : List Response} (x : Call) (h : Response) →
+    h ≡ responseFrom (ours word xs) (outcomeOf counted (ours word xs .core) x) →
+    SameAnswers word xs rs → SameAnswers word (xs then x) (h ∷ rs)
 answered {word} {xs} x h e earlier =
     and-answer earlier
-    (subst (λ (k : Handed). SameAnswer (k .next) (exact word (xs then x) .core) (k .answer) (exactAnswer word xs x)) (sym e) (handed-answer word xs x))
+    (subst (λ (k : Response). SameAnswer (k .next) (exact word (xs then x) .core) (k .answer) (exactAnswer word xs x)) (sym e)
+    (response-answer word xs x))
 
-answers : {word : ℕ} {xs : Calls} {hs : List Handed} {c : Controller} → Linked word xs hs c → SameAnswers word xs hs
+answers : {word : ℕ} {xs : Calls} {rs : List Response} {c : Controller} → Linked word xs rs c → SameAnswers word xs rs
 answers (started r e) = no-answer
-answers (scanned i r l e) = answered (scan i) (handed r) (scan-is i r l e) (answers l)
-answers (wrote n v r l e) = answered (write n v) (handedWithVerdict r) (write-is n v r l e) (answers l)
-answers (restarted life image r l e) = answered (restart (now image)) (handedWithVerdict r) (restart-is life image r l e) (answers l)
+answers (scanned i r l e) = answered (scan i) (responseOf r) (scan-is i r l e) (answers l)
+answers (wrote n v r l e) = answered (write n v) (responseOfVerdict r) (write-is n v r l e) (answers l)
+answers (restarted life image r l e) = answered (restart (now image)) (responseOfVerdict r) (restart-is life image r l e) (answers l)
 
 -- ---- demand 3
 
@@ -86,8 +95,8 @@ abbrev the-mode : Option Mode → Mode → Mode
 the-mode Option.none other = other
 the-mode (some mode) other = mode
 
-pub guarantee : (word : ℕ) (calls : Calls) (hs : List Handed) (c : Controller) → Linked word calls hs c → Demand3 word calls hs c
-guarantee word calls hs c l =
+pub guarantee : (word : ℕ) (calls : Calls) (rs : List Response) (c : Controller) → Linked word calls rs c → Demand3 word calls rs c
+guarantee word calls rs c l =
     let e = linked l in
     let core-is : c .core ≡ capped (exact word calls .core) = ap (λ (k : Controller). k .core) e ∙ cores word calls in
     let first : modeIn (exact word calls .core) ≡ some (modeNow (c .core)) =
@@ -95,21 +104,30 @@ guarantee word calls hs c l =
     let here : Option Mode → Mode = λ o. the-mode o (modeNow (c .core)) in
     record {
       mode-first = first;
-      opens-counted = opens-after word calls;
+      open-scans-counted = open-count-after word calls;
       fault-stands = rw e (fault-after word calls);
       within-limits = λ mode q outside.
-          rw e (within-after word calls (ap (λ (k : Controller). isHoldOrTrack (modeNow (k .core))) (sym e) ∙ ap isHoldOrTrack (ap here (sym first ∙ q)) ∙ outside));
+          rw e (within-after word calls
+          (ap (λ (k : Controller). isHoldOrTrack (modeNow (k .core))) (sym e) ∙ ap isHoldOrTrack (ap here (sym first ∙ q)) ∙ outside));
       same-state = ap capped core-is ∙ capped-twice (exact word calls .core);
       same-answers = answers l;
       same-reads = λ n r h.
-          subst (λ (said : Said). SameReading c (exact word calls .core) n said) (sym h)
+          subst (λ (reply : Reply). SameReading c (exact word calls .core) n reply) (sym h)
           (same-reading c (exact word calls .core) n core-is (rw e (valid-after word calls .stored)));
-      same-saves = λ life buffer r after h. same-save c (exact word calls .core) (now buffer) (saidOfVerdict r) after core-is (rw e (valid-after word calls .stored)) (h .0) (h .1);
+      same-saves =
+          λ life buffer r after h. same-save c (exact word calls .core) (now buffer) (replyOfVerdict r) after core-is
+          (rw e (valid-after word calls .stored)) (h .0) (h .1);
       bound = rw e (bound-after word calls);
     }
 
--- every call's `requires` holds at every controller that the calls hand back: it shuts no call out
-pub ready : (word : ℕ) (calls : Calls) (hs : List Handed) (c : Controller) → Linked word calls hs c → Ready c
-ready word calls hs c l =
+-- every call's `requires` holds at every controller that the calls return: it shuts no call out
+pub ready : (word : ℕ) (calls : Calls) (rs : List Response) (c : Controller) → Linked word calls rs c → Ready c
+ready word calls rs c l =
     let valid : Valid c = rw (linked l) (valid-after word calls) in
-    record { scan-ready = λ i. valid; write-ready = λ n v. valid; restart-ready = λ life image. tt; read-ready = λ n. valid; save-ready = λ life buffer. valid }
+    record {
+      scan-ready = λ i. valid;
+      write-ready = λ n v. valid;
+      restart-ready = λ life image. tt;
+      read-ready = λ n. valid;
+      save-ready = λ life buffer. valid;
+    }

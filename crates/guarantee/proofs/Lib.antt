@@ -10,5 +10,6 @@ pub mod Images
 pub mod Limits
 pub mod Modes
 pub mod Ours
+pub mod Refusals
 pub mod Restarts
 pub mod Saves

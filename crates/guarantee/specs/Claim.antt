@@ -1,13 +1,14 @@
--- The parts of demand 3, written out again from document 01's words. Shared with the rules are the types of the state and of the answers, the bits of a word, the value
--- of a parameter, what a read answers, the bytes of an image, and the exact controller. The conditions, their order, 85, the limits and what a word shows of the mode stand here a second time, so that a
--- rule isn't judged by itself.
+-- The parts of demand 3, written out again from document 01's words. Shared with the rules are the types of
+-- the state and of the answers, the bits of a word, the value of a parameter, what a read answers, the
+-- bytes of an image, and the exact controller. The conditions, their order, 85, the limits and what a word
+-- shows of the mode stand here a second time, so that a rule isn't judged by itself.
 use mathlib.Core.Path.{_≡_}
 use mathlib.Core.Bool.{Bool, true, false, not, _&&_, _||_}
 use mathlib.Core.List.{List, [], _∷_, _++_}
 use mathlib.Core.Option.{Option, some}
 use Prim.Native.Nat.{ℕ, _+_, _-_, _*_, _/_, min}
 use lib.Dec.{leb, ltb}
-use lib.IntN.{ℤ, pos, _*ℤ_}
+use lib.IntN.{pos, _*ℤ_}
 use lib.ListN.{length, drop}
 use lib.Signed.{_≤ℤ_, _<ℤ_}
 use Rattle.integers.specs.Choice.{if_then_else_}
@@ -18,10 +19,10 @@ use Rattle.modes.specs.declared.Request.{Request}
 use Rattle.modes.specs.declared.Request.the-variants as request
 use Rattle.parameters.specs.Table.{value}
 use Rattle.settings.specs.Settings.{imageOf}
-use Rattle.controller.specs.Answers.{Said, words, reading, acceptance, number, Handed}
+use Rattle.controller.specs.Answers.{Reply, words, reading, acceptance, number, Response}
 use Rattle.controller.specs.Read.{readIn}
 use Rattle.controller.specs.Save.{settingsOf}
-use Rattle.controller.specs.Scan.{Status, status, accepts, declined}
+use Rattle.controller.specs.Scan.{Status, status, accepts, refusedWith}
 use Rattle.controller.specs.declared.Controller.{Controller}
 use Rattle.controller.specs.declared.Core.{Core}
 use Rattle.guarantee.specs.Exact.{Call, Calls, none, _then_, exact, exactAnswer}
@@ -39,12 +40,13 @@ requests request.Remote request.Manual = false
 requests request.Remote request.Auto = false
 requests request.Remote request.Remote = true
 
--- step 3: "Hold (pin 0); Track (pin 1); Forced Manual (a cause); Manual (request M); Auto (request A); Remote (request R, Remote pin 1, S2.1 OFF) or Ratio
--- (same, S2.1 ON); Fall-back (request R, Remote pin 0)"; step 2: "A cause is the memory fault, or the 85th and later consecutive open scan"
+-- step 3: "Hold (pin 0); Track (pin 1); Forced Manual (a cause); Manual (request M); Auto (request A);
+-- Remote (request R, Remote pin 1, S2.1 OFF) or Ratio (same, S2.1 ON); Fall-back (request R, Remote pin
+-- 0)"; step 2: "A cause is the memory fault, or the 85th and later consecutive open scan"
 unfoldable pub condition : Core → Mode → Bool
 condition c Hold = not (bit (c .conditions .pins) 7)
 condition c Track = bit (c .conditions .pins) 6
-condition c Forced = c .conditions .fault || leb 85 (c .conditions .opens)
+condition c Forced = c .conditions .fault || leb 85 (c .conditions .opencount)
 condition c Manual = requests request.Manual (c .conditions .request)
 condition c Auto = requests request.Auto (c .conditions .request)
 condition c Remote = requests request.Remote (c .conditions .request) && bit (c .conditions .pins) 5 && not (bit (c .sw) 15)
@@ -90,66 +92,73 @@ capped c =
       conditions = record {
         request = c .conditions .request;
         fault = c .conditions .fault;
-        opens = min 85 (c .conditions .opens);
+        opencount = min 85 (c .conditions .opencount);
         pins = c .conditions .pins;
       };
-      marks = c .marks;
+      userbits = c .userbits;
       readings = c .readings;
-      shown = c .shown;
+      indications = c .indications;
       history = c .history;
     }
 
--- "OP and electrical output, which are those of our own stored output": OP is its floor in units; electrical output is OP, or 9999 - OP with S2.2 ON
+-- "OP and electrical output, which are those of our own stored output": OP is its floor in units;
+-- electrical output is OP, or 9999 - OP with S2.2 ON
 pub record OwnOutput (c : Controller) (op electrical : ℕ) : Type 0 where
   pub not-above : pos (op * 65536) ≤ℤ c .output
   pub below-next : c .output <ℤ pos ((op + 1) * 65536)
   pub electrically : electrical ≡ (if bit (c .core .sw) 14 then 9999 - op else op)
 
--- MD bits 15 to 11, read as a number of five bits: "15 Hold, 14 Track, 13 Manual or Forced, 12 Auto or Fall-back, 11 Remote or Ratio"
-abbrev pub shownAs : Mode → ℕ
-shownAs Hold = 16
-shownAs Track = 8
-shownAs Manual = 4
-shownAs Forced = 4
-shownAs Auto = 2
-shownAs Fallback = 2
-shownAs Remote = 1
-shownAs Ratio = 1
+-- MD bits 15 to 11, read as a number of five bits: "15 Hold, 14 Track, 13 Manual or Forced, 12 Auto or
+-- Fall-back, 11 Remote or Ratio"
+abbrev pub modeField : Mode → ℕ
+modeField Hold = 16
+modeField Track = 8
+modeField Manual = 4
+modeField Forced = 4
+modeField Auto = 2
+modeField Fallback = 2
+modeField Remote = 1
+modeField Ratio = 1
 
 -- MD shows the mode that the conditions of this state give
 pub record ShowsMode (md : ℕ) (now : Core) : Type 0 where
   pub mode : Mode
   pub present : modeIn now ≡ some mode
-  pub shown : md / 2048 ≡ shownAs mode
+  pub field : md / 2048 ≡ modeField mode
 
--- an answer that was handed back with the controller c, beside that of the exact controller, which this call left in the state `now`
-pub data SameAnswer (c : Controller) (now : Core) : Said → Status → Type 0 where
-  same-words : {md ds op electrical : ℕ} → ShowsMode md now → OwnOutput c op electrical → SameAnswer c now (words md ds op electrical) (status md ds)
+-- an answer that was returned with the controller c, beside that of the exact controller, which this
+-- call left in the state `now`
+pub data SameAnswer (c : Controller) (now : Core) : Reply → Status → Type 0 where
+  same-words : {md ds op electrical : ℕ} → ShowsMode md now → OwnOutput c op electrical →
+      SameAnswer c now (words md ds op electrical) (status md ds)
   same-acceptance : SameAnswer c now acceptance accepts
-  same-number : {n : ℕ} → SameAnswer c now (number n) (declined n)
+  same-number : {n : ℕ} → SameAnswer c now (number n) (refusedWith n)
 
 -- every answer of the list, the latest first
-pub data SameAnswers (word : ℕ) : Calls → List Handed → Type 0 where
+pub data SameAnswers (word : ℕ) : Calls → List Response → Type 0 where
   no-answer : SameAnswers word none []
-  and-answer : {xs : Calls} {hs : List Handed} {x : Call} {h : Handed} →
-      SameAnswers word xs hs → SameAnswer (h .next) (exact word (xs then x) .core) (h .answer) (exactAnswer word xs x) → SameAnswers word (xs then x) (h ∷ hs)
+  and-answer : {xs : Calls} {rs : List Response} {x : Call} {h : Response} →
+      SameAnswers word xs rs → SameAnswer (h .next) (exact word (xs then x) .core) (h .answer) (exactAnswer word xs x) →
+      SameAnswers word (xs then x) (h ∷ rs)
 
 -- ---- reads: of a controller c, beside the exact controller's state `now`; OP is that of our own stored output
-pub record SameReading (c : Controller) (now : Core) (n : ℕ) (said : Said) : Type 0 where
+pub record SameReading (c : Controller) (now : Core) (n : ℕ) (reply : Reply) : Type 0 where
   pub op : ℕ
   pub electrical : ℕ
   pub own : OwnOutput c op electrical
-  pub same : said ≡ readIn now op n
-  -- by itself: MD, parameter 24, shows the mode that the conditions give, after a write too, and OP, parameter 28, is our own
+  pub same : reply ≡ readIn now op n
+  -- by itself: MD, parameter 24, shows the mode that the conditions give, after a write too, and OP,
+  -- parameter 28, is our own
   pub md : ℕ
   pub shows : ShowsMode md now
-  pub md-is : n ≡ 24 → said ≡ reading (pos md)
-  pub op-is : n ≡ 28 → said ≡ reading (pos op)
+  pub md-is : n ≡ 24 → reply ≡ reading (pos md)
+  pub op-is : n ≡ 28 → reply ≡ reading (pos op)
 
--- ---- saves: of a controller c, beside the exact controller's state `now`; the OP that is saved is that of our own stored output. Fewer than 137 bytes are declined and stay
-pub record SameSave (c : Controller) (now : Core) (buffer : List ℕ) (said : Said) (after : List ℕ) : Type 0 where
+-- ---- saves: of a controller c, beside the exact controller's state `now`; the OP that is saved is
+-- that of our own stored output. Fewer than 137 bytes are refused and stay
+pub record SameSave (c : Controller) (now : Core) (buffer : List ℕ) (reply : Reply) (after : List ℕ) : Type 0 where
   pub op : ℕ
   pub electrical : ℕ
   pub own : OwnOutput c op electrical
-  pub same : said ≡ (if ltb (length buffer) 137 then number 15 else acceptance)
+  pub same : reply ≡ (if ltb (length buffer) 137 then number 15 else acceptance)
   pub bytes : after ≡ (if ltb (length buffer) 137 then buffer else imageOf (settingsOf now op) ++ drop 137 buffer)

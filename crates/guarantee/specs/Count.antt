@@ -1,5 +1,6 @@
--- Demand 3's n, the automatic scans since the output was last set outright, by document 01, "The exact controller"; and the consecutive open scans. "In demand 3 the conditions of
--- step 3, the accepted automatic scans and the outright settings are read from the exact controller."
+-- Demand 3's n, the automatic scans since the output was last set outright, by document 01, "The exact
+-- controller"; and the consecutive open scans. "In demand 3 the conditions of step 3, the accepted
+-- automatic scans and the outright settings are read from the exact controller."
 use mathlib.Core.Bool.{Bool, true, false, not, _&&_, _||_}
 use mathlib.Core.Option.{Option, some}
 use Prim.Native.Nat.{ℕ, _+_}
@@ -8,7 +9,7 @@ use Rattle.integers.specs.Choice.{if_then_else_}
 use Rattle.signals.specs.Bits.{bit}
 use Rattle.modes.specs.declared.Mode.{Mode}
 use Rattle.modes.specs.declared.Mode.the-variants.{Hold, Track, Forced, Manual, Auto, Remote, Ratio, Fallback}
-use Rattle.controller.specs.Scan.{Status, status, accepts, declined}
+use Rattle.controller.specs.Scan.{Status, status, accepts, refusedWith}
 use Rattle.controller.specs.declared.Core.{Core}
 use Rattle.guarantee.specs.Claim.{modeIn}
 use Rattle.guarantee.specs.Exact.{Call, scan, write, restart, Calls, none, _then_, exact, exactAnswer}
@@ -56,10 +57,11 @@ manualOrForced Option.none = false
 abbrev pub isAccepted : Status → Bool
 isAccepted (status md ds) = true
 isAccepted accepts = true
-isAccepted (declined n) = false
+isAccepted (refusedWith n) = false
 
--- consecutive open scans, told by the calls and by which of them were accepted: an accepted open scan is one more, an accepted scan that isn't open starts anew, and so does an
--- accepted restart; a declined call and a write leave the count
+-- consecutive open scans, told by the calls and by which of them were accepted: an accepted open scan
+-- is one more, an accepted scan that isn't open starts anew, and so does an accepted restart; a refused
+-- call and a write leave the count
 unfoldable pub openAfter : Call → Status → ℕ → ℕ
 openAfter (scan i) answer n = if not (isAccepted answer) then n else if bit (i .sensors) 0 then n + 1 else 0
 openAfter (write number value) answer n = n
@@ -69,12 +71,13 @@ unfoldable pub openScans : ℕ → Calls → ℕ
 openScans word none = 0
 openScans word (xs then x) = openAfter x (exactAnswer word xs x) (openScans word xs)
 
--- "on the 85th open scan, if the mode just before this scan was automatic and S2.5 is ON". The exact controller counts on, so its count is 85 only then
+-- "on the 85th open scan, if the mode just before this scan was automatic and S2.5 is ON". The exact
+-- controller counts on, so its count is 85 only then
 unfoldable pub toMinimum : Core → Core → Bool
-toMinimum before now = eqb (now .conditions .opens) 85 && automatic (modeIn before) && bit (now .sw) 11
+toMinimum before now = eqb (now .conditions .opencount) 85 && automatic (modeIn before) && bit (now .sw) 11
 
--- "Track, minimum, start fresh and accepted restart set the output outright": an accepted scan in Track, or one in Manual or Forced that goes to minimum, or an accepted
--- restart
+-- "Track, minimum, start fresh and accepted restart set the output outright": an accepted scan in
+-- Track, or one in Manual or Forced that goes to minimum, or an accepted restart
 unfoldable pub setsOutright : Core → Core → Call → Bool
 setsOutright before now (scan i) = tracks (modeIn now) || manualOrForced (modeIn now) && toMinimum before now
 setsOutright before now (write number value) = false

@@ -1,4 +1,5 @@
--- Demand 3, the long guarantee, as README.md has it: after these calls, with these controllers and answers handed back, of the controller c.
+-- Demand 3, the long guarantee, as docs/GUARANTEE.md has it: after these calls, with these controllers and
+-- answers returned, of the controller c.
 use mathlib.Core.Path.{_≡_}
 use mathlib.Core.Bool.{false}
 use mathlib.Core.List.{List}
@@ -8,7 +9,7 @@ use denote.Ref.{now}
 use Rattle.signals.specs.declared.Verdict.{Verdict}
 use Rattle.modes.specs.declared.Mode.{Mode}
 use Rattle.terms.specs.Near.{Near}
-use Rattle.controller.specs.Answers.{Handed, saidOfVerdict, saidOfRead}
+use Rattle.controller.specs.Answers.{Response, replyOfVerdict, replyOfRead}
 use Rattle.controller.specs.Scan.{modeNow}
 use Rattle.controller.specs.declared.Controller.{Controller}
 use Rattle.controller.specs.declared.ReadAnswer.{ReadAnswer}
@@ -16,24 +17,27 @@ use Rattle.guarantee.specs.Claim.{modeIn, isHoldOrTrack, WithinLimits, c
 use Rattle.guarantee.specs.Count.{openScans, automaticScans}
 use Rattle.guarantee.specs.Exact.{Calls, exact}
 use Rattle.guarantee.specs.Fault.{faultStands}
-use Rattle.guarantee.specs.Linked.{ReadEnsures, SaveEnsures, Lent, Lifetime}
+use Rattle.guarantee.specs.Linked.{ReadEnsures, SaveEnsures, Slice, Lifetime}
 
-pub record Demand3 (word : ℕ) (calls : Calls) (hs : List Handed) (c : Controller) : Type 0 where
-  -- the mode is the first in the priority order whose condition is present; conditions are read from the exact controller
+pub record Demand3 (word : ℕ) (calls : Calls) (rs : List Response) (c : Controller) : Type 0 where
+  -- the mode is the first in the priority order whose condition is present; conditions are read from
+  -- the exact controller
   pub mode-first : modeIn (exact word calls .core) ≡ some (modeNow (c .core))
   -- and the count of open scans behind Forced Manual is the one that the accepted calls of the list give
-  pub opens-counted : exact word calls .core .conditions .opens ≡ openScans word calls
+  pub open-scans-counted : exact word calls .core .conditions .opencount ≡ openScans word calls
   -- the memory fault stands exactly when document 01 says so
   pub fault-stands : c .core .conditions .fault ≡ faultStands word calls
   -- outside Hold and Track, by the conditions again, the stored output is within its limits
   pub within-limits : (mode : Mode) → modeIn (exact word calls .core) ≡ some mode → isHoldOrTrack mode ≡ false → WithinLimits c
-  -- apart from the output, the whole state and every answer equal those of the exact controller, OP and electrical output being our own
+  -- apart from the output, the whole state and every answer equal those of the exact controller, OP and
+  -- electrical output being our own
   pub same-state : capped (c .core) ≡ capped (exact word calls .core)
-  pub same-answers : SameAnswers word calls hs
+  pub same-answers : SameAnswers word calls rs
   -- and so does every read that is made now, which changes nothing
-  pub same-reads : (n : ℕ) (r : ReadAnswer) → ReadEnsures c n r → SameReading c (exact word calls .core) n (saidOfRead r)
+  pub same-reads : (n : ℕ) (r : ReadAnswer) → ReadEnsures c n r → SameReading c (exact word calls .core) n (replyOfRead r)
   -- and every save, which changes nothing either, of any buffer: the answer and every byte
-  pub same-saves : (life : Lifetime) (buffer : Lent) (r : Verdict) (after : List ℕ) → SaveEnsures life c buffer r after →
-      SameSave c (exact word calls .core) (now buffer) (saidOfVerdict r) after
-  -- the stored output is within 3/2 × n × 1/65,536 unit of the exact controller's: `Near` counts halves of 1/65,536 unit
+  pub same-saves : (life : Lifetime) (buffer : Slice) (r : Verdict) (after : List ℕ) → SaveEnsures life c buffer r after →
+      SameSave c (exact word calls .core) (now buffer) (replyOfVerdict r) after
+  -- the stored output is within 3/2 × n × 1/65,536 unit of the exact controller's: `Near` counts halves
+  -- of 1/65,536 unit
   pub bound : Near (c .output) (exact word calls .output) (3 * automaticScans word calls)

@@ -1,11 +1,11 @@
--- Document 01, "The exact controller": the same steps and rules, its own copy of every state item, the output a fraction, the terms unrounded. It is fed
--- the switch word and the calls, and nothing of ours.
+-- Document 01, "The exact controller": the same steps and rules, its own copy of every state item, the
+-- output a fraction, the terms unrounded. It is fed the switch word and the calls, and nothing of ours.
 use mathlib.Core.List.{List}
 use Prim.Native.Nat.{ℕ, _+_}
 use lib.IntN.{ℤ, pos}
 use Rattle.signals.specs.declared.Input.{Input}
 use Rattle.terms.specs.Fraction.{Fraction, whole}
-use Rattle.outputs.specs.Instruction.{exactArithmetic, carriedOut}
+use Rattle.outputs.specs.Instruction.{exactArithmetic, executed}
 use Rattle.controller.specs.Restart.{restartCore}
 use Rattle.controller.specs.Scan.{Status, Outcome, scanCore}
 use Rattle.controller.specs.State.{freshCore}
@@ -49,7 +49,7 @@ exactOutcome c x = outcomeOf oneMore (c .core) x
 
 -- "the same steps and rules, declined calls included, but .. its limited terms are added unrounded"
 unfoldable pub exactAfter : Exact → Call → Exact
-exactAfter c x = let o = exactOutcome c x in record { core = o .next; output = carriedOut exactArithmetic (o .instruction) (c .output) }
+exactAfter c x = let o = exactOutcome c x in record { core = o .next; output = executed exactArithmetic (o .instruction) (c .output) }
 
 -- "fed the same switch word and, call by call, the same arguments except the controller"
 unfoldable pub exact : ℕ → Calls → Exact

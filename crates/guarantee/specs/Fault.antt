@@ -1,5 +1,5 @@
--- Document 01, "The exact controller": "The memory fault stands exactly when the last accepted restart brought it and no accepted write of MD with bit 8 zero came
--- after that restart."
+-- Document 01, "The exact controller": "The memory fault stands exactly when the last accepted restart
+-- brought it and no accepted write of MD with bit 8 zero came after that restart."
 use mathlib.Core.Path.{_≡_}
 use mathlib.Core.Bool.{Bool, false, not, _&&_, _||_}
 use mathlib.Core.List.{List, [], _∷_}
@@ -22,8 +22,10 @@ pub data Event : Type 0 where
   wrote : ℕ → Event
   another : Event
 
--- "A fault of 1 or a wrong sumcheck brings the memory fault, any other accepted restart ends it.", told by the bytes of an accepted image. Before each value stand three bytes of
--- tag and length; the values of 1 to 23 and of 41h have two bytes each, the first at byte 3 and each next one five bytes on, those of 42h, 43h and 44h are bytes 123, 127 and 131, the sumcheck begins at byte 135
+-- "A fault of 1 or a wrong sumcheck brings the memory fault, any other accepted restart ends it.", told by
+-- the bytes of an accepted image. Before each value stand three bytes of tag and length; the values of 1 to
+-- 23 and of 41h have two bytes each, the first at byte 3 and each next one five bytes on, those of 42h, 43h
+-- and 44h are bytes 123, 127 and 131, the sumcheck begins at byte 135
 
 -- two bytes, "high byte first"
 abbrev pub wordAt : List ℕ → ℕ → ℕ

@@ -5,3 +5,4 @@ pub mod Exact
 pub mod Fault
 pub mod Images
 pub mod Linked
+pub mod Refusals

@@ -1,4 +1,5 @@
--- What the machine reads back of a signed number: the number itself, since it fits its width. Every width is covered by one law.
+-- What the machine reads back of a signed number: the number itself, since it fits its width. Every
+-- width is covered by one law.
 use mathlib.Core.Path.{_≡_}
 use mathlib.Core.Bool.{true, false, cond}
 use Prim.Native.Nat.{ℕ, _^_, _<_, _≤_}

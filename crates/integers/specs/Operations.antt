@@ -1,4 +1,5 @@
--- What omega is told of a negation, a sum, a difference and a product of integers. Each entry is linear, and so costs no case split.
+-- What omega is told of a negation, a sum, a difference and a product of integers. Each entry is
+-- linear, and so costs no case split.
 use mathlib.Core.Path.{_≡_, refl}
 use Prim.Native.Nat.{ℕ, zero, suc, _+_, _-_, _*_, _≤_}
 use native.Mathlib.Nat.{mul-le-mul}
@@ -50,7 +51,8 @@ above-sub a b =
 
 below-sub : (a b : ℕ) → below (subℕ a b) ≡ b - a
 below-sub a b =
-    by-cases (λ z. below z ≡ b - a) (ltb a b) (negsuc (b - suc a)) (pos (a - b)) (λ e. omega (arith, ltb-true a b e)) (λ e. omega (arith, ltb-false a b e))
+    by-cases (λ z. below z ≡ b - a) (ltb a b) (negsuc (b - suc a)) (pos (a - b)) (λ e. omega (arith, ltb-true a b e))
+    (λ e. omega (arith, ltb-false a b e))
 
 pub record Sum (s a b : ℤ) : Type 0 where
   pub self : Number s

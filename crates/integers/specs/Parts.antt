@@ -1,5 +1,6 @@
--- An integer read as two natural numbers, one of which is 0: how far it lies above zero, and how far below. `omega` reads natural numbers only;
--- with the rules of `integers` in its list it also reads and proves orders, equations and tests of integers.
+-- An integer read as two natural numbers, one of which is 0: how far it lies above zero, and how far
+-- below. `omega` reads natural numbers only; with the rules of `integers` in its list it also reads and
+-- proves orders, equations and tests of integers.
 use mathlib.Core.Path.{_≡_, refl, sym, ap, subst}
 use mathlib.Core.Bool.{Bool, true, false, not}
 use Prim.Native.Nat.{ℕ, suc, _+_, _*_, _≤_, _<_, min}
@@ -59,12 +60,14 @@ less-than {a} {b} h = lt-parts a b (h .lt)
 pub same : {a b : ℤ} → a ≡ b → Same a b
 same e = record { aboves = ap above e; belows = ap below e; sizes = ap natAbs e; mags = ap mag e }
 
--- ---- rules that read a hypothesis: omega applies the first that fits, so those for a literal bound, which say more, stand first
+-- ---- rules that read a hypothesis: omega applies the first that fits, so those for a literal bound,
+-- which say more, stand first
 
 pub from-nonnegative : {z : ℤ} → pos 0 ≤ℤ z → below z ≡ 0
 from-nonnegative h = omega (arith, at-most h)
 
--- below z is 0 here. A rule gives one statement, so the factor says that too, wherever above z is known to be less than the factor
+-- below z is 0 here. A rule gives one statement, so the factor says that too, wherever above z is known
+-- to be less than the factor
 pub from-at-least : {z : ℤ} {n : ℕ} → pos n ≤ℤ z → n + 18446744073709551616 * below z ≤ above z
 from-at-least h = omega (arith, at-most h)
 
@@ -148,4 +151,24 @@ false-ltZ a b h = is-false (ltZ a b) (λ e. omega (arith, ltZ-true a b e))
 pub false-leZ : (a b : ℤ) → above b + below a < above a + below b → leZ a b ≡ false
 false-leZ a b h = is-false (leZ a b) (λ e. omega (arith, leZ-true a b e))
 
-pub ruleset integers = (from-nonnegative, from-at-least, from-at-most, from-at-least-minus, from-≤, from-<, from-≡, ltZ-true, ltZ-false, leZ-true, leZ-false, to-≤, to-<, to-≡, to-nonnegative, true-ltZ, false-ltZ, true-leZ, false-leZ)
+pub ruleset integers = (
+  from-nonnegative,
+  from-at-least,
+  from-at-most,
+  from-at-least-minus,
+  from-≤,
+  from-<,
+  from-≡,
+  ltZ-true,
+  ltZ-false,
+  leZ-true,
+  leZ-false,
+  to-≤,
+  to-<,
+  to-≡,
+  to-nonnegative,
+  true-ltZ,
+  false-ltZ,
+  true-leZ,
+  false-leZ,
+)

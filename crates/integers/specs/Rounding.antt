@@ -1,7 +1,7 @@
 -- A quotient taken to the nearest whole number, by what the division leaves over.
 use mathlib.Core.Path.{_≡_}
 use mathlib.Core.Bool.{cond}
-use Prim.Native.Nat.{ℕ, _+_, _-_, _*_, _/_, _%_, _≤_, _<_}
+use Prim.Native.Nat.{ℕ, _+_, _*_, _/_, _%_, _≤_, _<_}
 use native.Mathlib.Nat.{div-add-mod', le-antisymm, mod-lt, mul-le-mul-right}
 use native.Mathlib.Omega.{arith, by-contra}
 use lib.Dec.{ltb}
@@ -50,25 +50,30 @@ module _ (n d : ℕ) (some : 0 < d) where
   pub halfUp-nearest : Nearest n d (halfUp n d)
   unfolding halfUp
   halfUp-nearest =
-      by-cases (Nearest n d) (ltb (2 * (n % d)) d) (n / d) (n / d + 1) (λ e. omega (arith, ltb-true, division)) (λ e. omega (arith, ltb-false, division, left-over))
+      by-cases (Nearest n d) (ltb (2 * (n % d)) d) (n / d) (n / d + 1) (λ e. omega (arith, ltb-true, division))
+      (λ e. omega (arith, ltb-false, division, left-over))
 
   -- and at a half it is the greater neighbour
   pub halfUp-up : 2 * n < 2 * (halfUp n d * d) + d
   unfolding halfUp
   halfUp-up =
-      by-cases (λ r. 2 * n < 2 * (r * d) + d) (ltb (2 * (n % d)) d) (n / d) (n / d + 1) (λ e. omega (arith, ltb-true, division)) (λ e. omega (arith, ltb-false, division, left-over))
+      by-cases (λ r. 2 * n < 2 * (r * d) + d) (ltb (2 * (n % d)) d) (n / d) (n / d + 1) (λ e. omega (arith, ltb-true, division))
+      (λ e. omega (arith, ltb-false, division, left-over))
 
   -- what holds below a half, above it and at it
-  pub halfEven-by : (P : ℕ → Type 0) → (2 * (n % d) < d → P (n / d)) → (d < 2 * (n % d) → P (n / d + 1)) → (2 * (n % d) ≡ d → P (n / d + n / d % 2)) → P (halfEven n d)
+  pub halfEven-by : (P : ℕ → Type 0) → (2 * (n % d) < d → P (n / d)) → (d < 2 * (n % d) → P (n / d + 1)) →
+      (2 * (n % d) ≡ d → P (n / d + n / d % 2)) → P (halfEven n d)
   unfolding halfEven
   halfEven-by P low high half =
-      by-cases P (ltb (2 * (n % d)) d) (n / d) (cond (ltb d (2 * (n % d))) (n / d + 1) (n / d + n / d % 2)) (λ e. low (ltb-true (2 * (n % d)) d e))
+      by-cases P (ltb (2 * (n % d)) d) (n / d) (cond (ltb d (2 * (n % d))) (n / d + 1) (n / d + n / d % 2))
+      (λ e. low (ltb-true (2 * (n % d)) d e))
       (λ e. by-cases P (ltb d (2 * (n % d))) (n / d + 1) (n / d + n / d % 2) (λ f. high (ltb-true d (2 * (n % d)) f))
       (λ f. half (omega (arith, ltb-false (2 * (n % d)) d e, ltb-false d (2 * (n % d)) f))))
 
   pub halfEven-nearest : Nearest n d (halfEven n d)
   halfEven-nearest =
-      halfEven-by (Nearest n d) (λ l. omega (arith, division)) (λ h. omega (arith, division, left-over)) (λ e. omega (arith, division, odd-part))
+      halfEven-by (Nearest n d) (λ l. omega (arith, division)) (λ h. omega (arith, division, left-over))
+      (λ e. omega (arith, division, odd-part))
 
   -- and at a half it is the even neighbour
   pub halfEven-even : 2 * (n % d) ≡ d → halfEven n d % 2 ≡ 0
@@ -90,7 +95,19 @@ module _ (n d : ℕ) (some : 0 < d) where
 
   not-greater : (r s : ℕ) → Nearest n d r → Nearest n d s → (2 * (n % d) ≡ d → ⊥) → r ≤ s
   not-greater r s h k never =
-      by-contra r s (λ l. absurd (never (omega (arith, division, left-over, nearest-least s k, nearest-most r h, h, k, mul-le-mul-right d l, mul-le-mul-right d (nearest-least s k), mul-le-mul-right d (nearest-most r h)))))
+      by-contra r s (λ l. absurd
+      (never (omega (
+        arith,
+        division,
+        left-over,
+        nearest-least s k,
+        nearest-most r h,
+        h,
+        k,
+        mul-le-mul-right d l,
+        mul-le-mul-right d (nearest-least s k),
+        mul-le-mul-right d (nearest-most r h),
+      ))))
 
   -- away from an exact half one number alone is nearest
   pub nearest-one : (r s : ℕ) → Nearest n d r → Nearest n d s → (2 * (n % d) ≡ d → ⊥) → r ≡ s

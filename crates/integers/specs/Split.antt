@@ -1,5 +1,5 @@
--- An integer as any difference of two natural numbers. Sums and multiples are then sums and multiples of the two, and laws about distances
--- are laws about natural numbers.
+-- An integer as any difference of two natural numbers. Sums and multiples are then sums and multiples
+-- of the two, and laws about distances are laws about natural numbers.
 use mathlib.Core.Path.{_≡_, refl, ap}
 use Prim.Native.Nat.{ℕ, _+_, _*_, _≤_, _<_}
 use native.Mathlib.Omega.{arith}

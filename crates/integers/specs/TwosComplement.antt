@@ -5,7 +5,7 @@ use Prim.Native.Nat.{ℕ, _-_, _≤_, _<_}
 use native.Mathlib.Omega.{arith}
 use lib.Dec.{ltb}
 use lib.IntN.{ℤ, pos, negsuc, natAbs, _-ℤ_}
-use borrow.Author.Tests.{ltb-true, ltb-false, lt-ltb, le-ltb}
+use borrow.Author.Tests.{lt-ltb, le-ltb}
 use Rattle.integers.specs.Choice.{if_then_else_, by-cases}
 use Rattle.integers.specs.Operations.{number, difference}
 use Rattle.integers.specs.Parts.{integers, apart}
@@ -38,9 +38,3 @@ pub word-most : (v : ℤ) → natAbs v ≤ 65535 → asWord v ≤ 65535
 unfolding asWord
 word-most (pos n) h = rw (le-ltb n 0 (omega arith)) h
 word-most (negsuc n) h = omega arith
-
-pub value-most : (w : ℕ) → w < 65536 → natAbs (fromWord w) ≤ 32768
-unfolding fromWord
-value-most w h =
-    by-cases (λ (z : ℤ). natAbs z ≤ 32768) (ltb w 32768) (pos w) (pos w -ℤ pos 65536) (λ e. omega (arith, ltb-true w 32768 e))
-    (λ e. omega (arith, integers, ltb-false w 32768 e, difference (pos w) (pos 65536), number (pos w -ℤ pos 65536), apart (pos w -ℤ pos 65536)))

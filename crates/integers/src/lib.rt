@@ -1,5 +1,5 @@
-// Signed numbers taken apart into sign and magnitude and put together again, limited, and quotients taken to the nearest whole number.
-// The laws that let `omega` read integers, for the proofs of every crate above, are in specs/.
+// Signed numbers taken apart into sign and magnitude and put together again, limited, and quotients taken to the
+// nearest whole number. The laws that let `omega` read integers, for the proofs of every crate above, are in specs/.
 ghost use mathlib.Core.Path.{_≡_};
 ghost use Prim.Native.Nat.{_<_, _≤_};
 ghost use lib.IntN.{natAbs, _+ℤ_, _-ℤ_};
@@ -87,35 +87,36 @@ fn at_most(high: i64, value: i64) -> i64
     if high < value { high } else { value }
 }
 
-// The value, but low where it is below low, and high where it is above high. The contract rules out a limit that is off by one.
+// The value, but low where it is below low, and high where it is above high. The contract rules out a
+// limit that is off by one.
 pub fn limit(low: i64, high: i64, value: i64) -> i64
     ensures { λ r. ⌜ r ≡ limited low high value ⌝ }
 {
     at_most(high, at_least(low, value))
 }
 
-// n / d to the nearest whole number, an exact half going up. Twice the remainder might not fit, so it is compared with what it lacks of d.
-// The contract rules out a quotient that is cut and a half that goes down.
+// n / d to the nearest whole number, an exact half going up. Twice the remainder might not fit, so it is
+// compared with what it lacks of d. The contract rules out a quotient that is cut and a half that goes down.
 pub fn nearest_up(n: u64, d: u64) -> u64
     requires { ⌜ 0 < d ⌝ }
     ensures { λ r. ⌜ r ≡ halfUp n d ⌝ }
 {
-    let over = n % d;
-    if over < d - over { n / d } else { n / d + 1 }
+    let rest = n % d;
+    if rest < d - rest { n / d } else { n / d + 1 }
 }
 
-// n / d to the nearest whole number, an exact half going to the even neighbour. The contract rules out a quotient that is cut and a half that goes
-// up or down whatever its neighbours are.
+// n / d to the nearest whole number, an exact half going to the even neighbour. The contract rules out
+// a quotient that is cut and a half that goes up or down whatever its neighbours are.
 pub fn nearest_even(n: u64, d: u64) -> u64
     requires { ⌜ 0 < d ⌝ }
     ensures { λ r. ⌜ r ≡ halfEven n d ⌝ }
 {
-    let over = n % d;
+    let rest = n % d;
     let quotient = n / d;
-    if over < d - over {
+    if rest < d - rest {
         return quotient;
     }
-    if d - over < over {
+    if d - rest < rest {
         return quotient + 1;
     }
     if quotient % 2 == 0 {

@@ -1,246 +1,197 @@
-// What the programs share: lines of standard input, the numbers and bytes of a line, and answers to standard output. Proved of these functions is that they are
-// safe and end; what they read and write is tested.
-ghost use Prim.Native.Nat.{_≤_};
+// Lines of standard input, and standard output. The contracts speak of the bytes received: a read hands over any bytes
+// whatever, and nothing is known but how many; what comes of them is stated byte by byte.
+ghost use mathlib.Core.Path.{_≡_};
+ghost use mathlib.Core.Bool.{cond};
+ghost use Prim.Native.Nat.{_≤_, min};
+ghost use lib.Dec.{ltb};
 ghost use lib.ListN.{length};
+ghost use Rattle.lines.specs.Lines.{Appended, started, begun, ended, Advanced, Refilled, Continued, NextLine};
 use libc::STDIN_FILENO;
 use libc::STDOUT_FILENO;
-use text::Reading;
 
-pub mod hexadecimal;
-
-// Where reading stands: bytes `at` to `end` of the last read are not taken yet, `len` bytes of the line are filled, `complete` says whether its end was
-// met, and `more` whether the input goes on.
-pub struct Place {
-    pub at: usize,
-    pub end: usize,
+// Where reading and writing stand: bytes `at` to `end` of the last read are unread, `len` bytes of the line buffer are
+// filled, `complete` says whether they are a line, `more` whether the input goes on, and `used` bytes of the output are
+// still to be written.
+pub struct ReaderState {
+    at: usize,
+    end: usize,
     pub len: usize,
     pub complete: bool,
-    pub more: bool,
+    more: bool,
+    pub used: usize,
 }
 
-pub fn start() -> Place {
-    Place {
+// Nothing read, nothing written.
+pub fn start() -> ReaderState
+    ensures { λ r. ⌜ r ≡ started ⌝ }
+{
+    ReaderState {
         at: 0,
         end: 0,
         len: 0,
         complete: false,
         more: true,
+        used: 0,
     }
 }
 
-// A byte more of the line. A line that fills the whole buffer is too long.
-fn keep(line: &mut [u8], len: usize, b: u8) -> usize {
-    if len < line.len() {
-        line[len] = b;
-        len + 1
-    } else {
-        len
-    }
+fn least(a: usize, b: usize) -> usize
+    ensures { λ r. ⌜ r ≡ min a b ⌝ }
+{
+    if a < b { a } else { b }
 }
 
-// One byte of the read at `at`.
-fn take_byte(b: u8, line: &mut [u8], p: Place, at: usize) -> Place {
-    let len = p.len;
-    if b == b'\n' {
-        return Place {
-            at,
-            end: p.end,
-            len,
-            complete: true,
-            more: p.more,
-        };
-    }
-    let filled = keep(line, len, b);
-    Place {
-        at,
-        end: p.end,
-        len: filled,
-        complete: false,
-        more: p.more,
-    }
+// What came of bytes: how many were used, how many bytes the line has then, and whether its end was met.
+struct AppendResult {
+    count: usize,
+    len: usize,
+    complete: bool,
 }
 
-// Takes bytes of the last read until the line is complete or they are used up: a line may have begun in an earlier read and may go on in a later one.
-pub fn take(buffer: &[u8], line: &mut [u8], start: Place) -> Place {
-    let mut p = start;
-    let mut i = start.at;
-    while i < buffer.len() {
-        if i >= start.end {
-            return p;
+// Appends bytes to the line up to the first line feed.
+fn append_line(bytes: &[u8], line: &mut [u8], len: usize) -> AppendResult
+    ensures { λ r. ⌜ Appended (now (bytes .entry)) (now (line .entry)) (now (line .exit)) len r ⌝ }
+{
+    let mut filled = len;
+    let mut i = 0;
+    while i < bytes.len() {
+        let b = bytes[i];
+        if b == b'\n' {
+            return AppendResult {
+                count: i + 1,
+                len: filled,
+                complete: true,
+            };
         }
-        p = take_byte(buffer[i], line, p, i + 1);
-        if p.complete {
-            return p;
-        }
+        filled = formatting::append_byte(line, filled, b);
         i += 1;
     }
-    p
+    AppendResult {
+        count: i,
+        len: filled,
+        complete: false,
+    }
+}
+
+// Appends what is unread to the line up to the first line feed: a line may have begun in an earlier read and may go on
+// in a later one.
+fn advance(input: &[u8], line: &mut [u8], place: ReaderState) -> ReaderState
+    ensures { λ r. ⌜ Advanced (now (input .entry)) (now (line .entry)) (now (line .exit)) place r ⌝ }
+{
+    let end = least(place.end, input.len());
+    let at = least(place.at, end);
+    let part = append_line(&input[at..end], line, place.len);
+    ReaderState {
+        at: at + part.count,
+        end,
+        len: part.len,
+        complete: part.complete,
+        more: place.more,
+        used: place.used,
+    }
 }
 
 // Reads more; at the end of the input, or where it cannot be read, there is no more.
-pub fn refill(buffer: &mut [u8], p: Place) -> Place {
-    let got = libc::read(STDIN_FILENO, buffer);
-    if got <= 0 {
-        return Place {
-            at: 0,
-            end: 0,
-            len: p.len,
-            complete: false,
-            more: false,
-        };
-    }
-    let n = io::count(got, buffer);
-    Place {
+fn refill(input: &mut [u8], place: ReaderState) -> ReaderState
+    ensures { λ r. ⌜ Refilled (now (input .exit)) place r ⌝ }
+{
+    let got = libc::read(STDIN_FILENO, input);
+    let count = io::count(got, input);
+    ReaderState {
         at: 0,
-        end: n,
-        len: p.len,
+        end: count,
+        len: place.len,
         complete: false,
-        more: true,
+        more: 0 < count,
+        used: place.used,
     }
 }
 
-// The place with the line begun anew.
-pub fn next_line(p: Place) -> Place {
-    Place {
+fn begin(p: ReaderState) -> ReaderState
+    ensures { λ r. ⌜ r ≡ begun p ⌝ }
+{
+    ReaderState {
         at: p.at,
         end: p.end,
         len: 0,
         complete: false,
         more: p.more,
+        used: p.used,
     }
 }
 
-// ---- the numbers of a line
-
-// The numbers behind a call's word; more than six, or a word that is no number, are no call's.
-pub struct Arguments {
-    pub ok: bool,
-    pub count: usize,
-    pub values: [i64; 6],
-}
-
-// A number from least to most; where the value lies outside, ok is false.
-pub struct Natural {
-    pub ok: bool,
-    pub value: u64,
-}
-
-// The contract rules out a value beyond the range, whatever was given.
-pub fn natural_in(value: i64, least: u64, most: u64) -> Natural
-    requires { ⌜ least ≤ most ⌝ }
-    ensures { λ r. ⌜ (least ≤ r .value) × (r .value ≤ most) ⌝ }
+fn finish(p: ReaderState) -> ReaderState
+    ensures { λ r. ⌜ r ≡ ended p ⌝ }
 {
-    let size = integers::magnitude(value);
-    if integers::negative(value) {
-        return Natural {
-            ok: false,
-            value: least,
-        };
-    }
-    if size < least {
-        return Natural {
-            ok: false,
-            value: least,
-        };
-    }
-    if most < size {
-        return Natural {
-            ok: false,
-            value: least,
-        };
-    }
-    Natural {
-        ok: true,
-        value: size,
+    ReaderState {
+        at: 0,
+        end: 0,
+        len: p.len,
+        complete: 0 < p.len,
+        more: false,
+        used: p.used,
     }
 }
 
-fn taken(ok: bool, count: usize, values: [i64; 6]) -> Arguments {
-    Arguments { ok, count, values }
-}
-
-// The numbers of a line from a place on, to its end.
-pub fn arguments_of(line: &[u8], start: usize) -> Arguments
-    requires { ⌜ start ≤ length (now line) ⌝ }
+// Reads on until the line is complete or the input ends. A proved loop must end, so the turns are counted down from a
+// number that no run uses up.
+fn read_on(input: &mut [u8], line: &mut [u8], place: ReaderState) -> ReaderState
+    ensures { λ r. ⌜ Continued (now (input .exit)) (now (line .entry)) (now (line .exit)) place r ⌝ }
 {
-    let mut values = [0i64; 6];
-    let mut count = 0;
-    let mut at = start;
-    while count < 6 {
-        let w = text::word(line, at);
-        let from = w.from;
-        let to = w.to;
-        if from == to {
-            return taken(true, count, values);
+    let mut p = place;
+    let mut turns = u64::MAX;
+    while turns > 0 {
+        let q = refill(input, p);
+        p = advance(input, line, q);
+        if p.complete {
+            return p;
         }
-        let reading = text::number(&line[from..to]);
-        match reading {
-            Reading::Number(value) => {
-                values[count] = value;
-            }
-            Reading::Malformed => {
-                return taken(false, count, values);
-            }
+        if p.more {
+            turns -= 1;
+        } else {
+            return finish(p);
         }
-        at = to;
-        count += 1;
     }
-    let behind = text::word(line, at);
-    taken(behind.from == behind.to, count, values)
+    finish(p)
 }
 
-// Whether the call has so many arguments, all of them numbers.
-pub fn has(a: Arguments, count: usize) -> bool {
-    if a.ok { a.count == count } else { false }
-}
-
-// ---- answers, at the front of a buffer; what does not fit is left out
-
-pub fn push(out: &mut [u8], used: usize, b: u8) -> usize {
-    if used < out.len() {
-        out[used] = b;
-        used + 1
-    } else {
-        used
+// The next line, in the line buffer. Where `complete` is false the input has ended. Of the bytes that
+// were pending and those received the contract rules out a line that is cut or joined with the next, and a byte that is
+// lost. Which bytes a read received no contract can tell.
+pub fn next_line(input: &mut [u8], line: &mut [u8], out: &[u8], place: ReaderState) -> ReaderState
+    ensures { λ r. ⌜ NextLine (now (input .entry)) (now (input .exit)) (now (line .entry)) (now (line .exit)) place r ⌝ }
+{
+    let mut p = advance(input, line, begin(place));
+    if p.complete {
+        return p;
     }
-}
-
-pub fn bytes(out: &mut [u8], used: usize, s: &[u8]) -> usize {
-    let mut n = used;
-    let mut i = 0;
-    while i < s.len() {
-        n = push(out, n, s[i]);
-        i += 1;
+    if p.more {
+        p.used = flush(out, p.used);
+        return read_on(input, line, p);
     }
-    n
+    finish(p)
 }
 
-pub fn decimal(out: &mut [u8], used: usize, n: u64) -> usize {
-    let mut text = [0u8; 20];
-    let k = io::decimal(n, &mut text);
-    bytes(out, used, &text[..k])
-}
+// ---- standard output
 
-pub fn signed(out: &mut [u8], used: usize, x: i64) -> usize {
-    let size = integers::magnitude(x);
-    if integers::negative(x) {
-        let n = push(out, used, b'-');
-        return decimal(out, n, size);
-    }
-    decimal(out, used, size)
-}
-
-pub fn flush(out: &[u8], used: usize) {
+// Writes what is used of the output; none of it is used afterwards. What was written no contract can tell, and a failed
+// write is not told apart.
+pub fn flush(out: &[u8], used: usize) -> usize
+    ensures { λ r. ⌜ r ≡ 0 ⌝ }
+{
     if used <= out.len() {
         io::write_all(STDOUT_FILENO, &out[0..used]);
     }
+    0
 }
 
-// Room for one more answer, which is far below 1,000 bytes: flushes where 64,000 are used.
-pub fn room(out: &[u8], used: usize) -> usize {
+// Room for one more answer, which is far below 1,000 bytes: flushes where 64,000 are used. The contract rules out a
+// count that goes on where the output was written.
+pub fn room(out: &[u8], used: usize) -> usize
+    ensures { λ r. ⌜ r ≡ cond (ltb 64000 used) 0 used ⌝ }
+{
     if 64000 < used {
-        flush(out, used);
-        return 0;
+        return flush(out, used);
     }
     used
 }

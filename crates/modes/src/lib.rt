@@ -2,16 +2,20 @@
 ghost use mathlib.Core.Path.{_≡_};
 ghost use mathlib.Core.Bool.{true};
 ghost use Rattle.signals.specs.declared.Input.{Input};
-ghost use Rattle.modes.specs.Modes.{isOpenCause, isCause, counted, opensAfter, requestBy, requestAfter, conditionsAfter, modeBy, inPriority, modeOf, isAutomatic, isTrack, isRemote, isRatio, isAutoOrFallback, setsSetpoint, isLimiting, goesToMinimum};
+ghost use Rattle.modes.specs.Modes.{isOpenCause, isCause, counted, openCountAfter, requestBy, requestAfter};
+ghost use Rattle.modes.specs.Modes.{conditionsAfter, modeBy, inPriority, modeOf, goesToMinimum};
+ghost use Rattle.modes.specs.Modes.{isAutomatic, isTrack, isRemote, isRatio, isAutoOrFallback, setsSetpoint, isLimiting};
 use signals::Buttons;
 use signals::Input;
 
+// What was requested last, by a button or by a write of MD.
 pub enum Request {
     Manual,
     Auto,
     Remote,
 }
 
+// The modes in their priority order.
 pub enum Mode {
     Hold,
     Track,
@@ -23,42 +27,54 @@ pub enum Mode {
     Fallback,
 }
 
-// The part of the state that, with S2.1, decides the mode: the request, the memory fault, the count of consecutive open scans (up to 85), and the
-// last scan's pin byte.
+// The consecutive open scan with which a cause begins: 84 × 36 ms is the first step past 3 s, so it is the 85th.
+const OPEN_CAUSE_SCANS: u8 = 85;
+
+// The open count just before that scan.
+const SCANS_BEFORE_CAUSE: u8 = OPEN_CAUSE_SCANS - 1;
+
+// The part of the state that, with S2.1, decides the mode: the request, the memory fault, the count of consecutive open
+// scans (up to 85), and the last scan's pin byte.
 pub struct Conditions {
     pub request: Request,
     pub fault: bool,
-    pub opens: u8,
+    pub opencount: u8,
     pub pins: u8,
 }
 
 // The contract rules out a cause at the 84th open scan, and none at the 85th.
-pub fn is_open_cause(opens: u8) -> bool
-    ensures { λ r. ⌜ r ≡ isOpenCause opens ⌝ }
+pub fn is_open_cause(opencount: u8) -> bool
+    ensures { λ r. ⌜ r ≡ isOpenCause opencount ⌝ }
 {
-    85 <= opens
+    OPEN_CAUSE_SCANS <= opencount
 }
 
 // The contract rules out one cause that hides the other.
-pub fn is_cause(fault: bool, opens: u8) -> bool
-    ensures { λ r. ⌜ r ≡ isCause fault opens ⌝ }
+pub fn is_cause(fault: bool, opencount: u8) -> bool
+    ensures { λ r. ⌜ r ≡ isCause fault opencount ⌝ }
 {
-    fault | is_open_cause(opens)
+    fault | is_open_cause(opencount)
 }
 
 // One more open scan; the count stops at 85, so it never runs out of its type.
-fn counted(opens: u8) -> u8
-    ensures { λ r. ⌜ r ≡ counted opens ⌝ }
+fn counted(opencount: u8) -> u8
+    ensures { λ r. ⌜ r ≡ counted opencount ⌝ }
 {
-    if opens < 85 { opens + 1 } else { 85 }
+    if opencount < OPEN_CAUSE_SCANS {
+        opencount + 1
+    } else {
+        OPEN_CAUSE_SCANS
+    }
 }
 
-fn opens_after(isopen: bool, opens: u8) -> u8
-    ensures { λ r. ⌜ r ≡ opensAfter counted isopen opens ⌝ }
+// The contract rules out a count that a scan that isn't open leaves standing.
+fn open_count_after(isopen: bool, opencount: u8) -> u8
+    ensures { λ r. ⌜ r ≡ openCountAfter counted isopen opencount ⌝ }
 {
-    if isopen { counted(opens) } else { 0 }
+    if isopen { counted(opencount) } else { 0 }
 }
 
+// The first pressed of M, A, R. The contract rules out another order.
 fn request_by(b: Buttons, q: Request) -> Request
     ensures { λ r. ⌜ r ≡ requestBy b q ⌝ }
 {
@@ -82,6 +98,7 @@ fn request_after(cause: bool, b: Buttons, q: Request) -> Request
     if cause { Request::Manual } else { asked }
 }
 
+// The mode by the request alone. The contract rules out Remote for Ratio, and either with the Remote pin 0.
 fn mode_by(q: Request, remotepin: bool, ratioswitch: bool) -> Mode
     ensures { λ r. ⌜ r ≡ modeBy q remotepin ratioswitch ⌝ }
 {
@@ -102,6 +119,7 @@ fn mode_by(q: Request, remotepin: bool, ratioswitch: bool) -> Mode
     }
 }
 
+// Hold, Track and Forced Manual before what is requested. The contract rules out another order.
 fn in_priority(holdpin: bool, trackpin: bool, cause: bool, requested: Mode) -> Mode
     ensures { λ r. ⌜ r ≡ inPriority holdpin trackpin cause requested ⌝ }
 {
@@ -121,14 +139,8 @@ pub fn is_automatic(mode: Mode) -> bool
     ensures { λ r. ⌜ r ≡ isAutomatic mode ⌝ }
 {
     match mode {
-        Mode::Hold => false,
-        Mode::Track => false,
-        Mode::Forced => false,
-        Mode::Manual => false,
-        Mode::Auto => true,
-        Mode::Remote => true,
-        Mode::Ratio => true,
-        Mode::Fallback => true,
+        Mode::Auto | Mode::Remote | Mode::Ratio | Mode::Fallback => true,
+        _ => false,
     }
 }
 
@@ -137,14 +149,8 @@ pub fn is_track(mode: Mode) -> bool
     ensures { λ r. ⌜ r ≡ isTrack mode ⌝ }
 {
     match mode {
-        Mode::Hold => false,
         Mode::Track => true,
-        Mode::Forced => false,
-        Mode::Manual => false,
-        Mode::Auto => false,
-        Mode::Remote => false,
-        Mode::Ratio => false,
-        Mode::Fallback => false,
+        _ => false,
     }
 }
 
@@ -153,14 +159,8 @@ pub fn is_remote(mode: Mode) -> bool
     ensures { λ r. ⌜ r ≡ isRemote mode ⌝ }
 {
     match mode {
-        Mode::Hold => false,
-        Mode::Track => false,
-        Mode::Forced => false,
-        Mode::Manual => false,
-        Mode::Auto => false,
         Mode::Remote => true,
-        Mode::Ratio => false,
-        Mode::Fallback => false,
+        _ => false,
     }
 }
 
@@ -169,14 +169,8 @@ pub fn is_ratio(mode: Mode) -> bool
     ensures { λ r. ⌜ r ≡ isRatio mode ⌝ }
 {
     match mode {
-        Mode::Hold => false,
-        Mode::Track => false,
-        Mode::Forced => false,
-        Mode::Manual => false,
-        Mode::Auto => false,
-        Mode::Remote => false,
         Mode::Ratio => true,
-        Mode::Fallback => false,
+        _ => false,
     }
 }
 
@@ -185,18 +179,13 @@ pub fn is_auto_or_fallback(mode: Mode) -> bool
     ensures { λ r. ⌜ r ≡ isAutoOrFallback mode ⌝ }
 {
     match mode {
-        Mode::Hold => false,
-        Mode::Track => false,
-        Mode::Forced => false,
-        Mode::Manual => false,
-        Mode::Auto => true,
-        Mode::Remote => false,
-        Mode::Ratio => false,
-        Mode::Fallback => true,
+        Mode::Auto | Mode::Fallback => true,
+        _ => false,
     }
 }
 
-// Whether SL is left to the scans of this mode. The contract rules out Auto and Fall-back, and, with S2.6 OFF, every mode but Remote and Ratio.
+// Whether SL is left to the scans of this mode. The contract rules out Auto and Fall-back, and, with S2.6 OFF, every
+// mode but Remote and Ratio.
 pub fn sets_setpoint(mode: Mode, setpointtracks: bool) -> bool
     ensures { λ r. ⌜ r ≡ setsSetpoint mode setpointtracks ⌝ }
 {
@@ -211,30 +200,25 @@ pub fn is_limiting(mode: Mode) -> bool
     ensures { λ r. ⌜ r ≡ isLimiting mode ⌝ }
 {
     match mode {
-        Mode::Hold => false,
-        Mode::Track => false,
-        Mode::Forced => true,
-        Mode::Manual => true,
-        Mode::Auto => true,
-        Mode::Remote => true,
-        Mode::Ratio => true,
-        Mode::Fallback => true,
+        Mode::Hold | Mode::Track => false,
+        _ => true,
     }
 }
 
 impl Conditions {
-    // What an accepted scan leaves. The contract rules out a count that goes on through a scan that isn't open, and a request kept under a cause.
+    // What an accepted scan leaves. The contract rules out a count that goes on through a scan that isn't open, and a
+    // request kept under a cause.
     pub fn after(self, input: Input) -> Conditions
         ensures { λ r. ⌜ r ≡ conditionsAfter counted self input ⌝ }
     {
-        let opens = opens_after(signals::is_open(input), self.opens);
-        let cause = is_cause(self.fault, opens);
+        let opencount = open_count_after(signals::is_open(input), self.opencount);
+        let cause = is_cause(self.fault, opencount);
         let q = self.request;
         let request = request_after(cause, signals::buttons_of(input.buttons), q);
         Conditions {
             request,
             fault: self.fault,
-            opens,
+            opencount,
             pins: input.pins,
         }
     }
@@ -244,18 +228,21 @@ impl Conditions {
         ensures { λ r. ⌜ r ≡ modeOf self ratioswitch ⌝ }
     {
         let p = signals::pins_of(self.pins);
-        let cause = is_cause(self.fault, self.opens);
+        let cause = is_cause(self.fault, self.opencount);
         let q = self.request;
         let requested = mode_by(q, p.remote, ratioswitch);
         in_priority(p.hold, p.track, cause, requested)
     }
 
-    // Whether a scan of this input, made now, sets the output to minimum if its mode is Manual or Forced Manual. The contract rules out any but the 85th open
-    // scan, and the mode of this scan taken for the one before.
+    // Whether a scan of this input, made now, sets the output to minimum if its mode is Manual or Forced Manual. The
+    // contract rules out any but the 85th open scan, and the mode of this scan taken for the one before.
     pub fn goes_to_minimum(self, input: Input, ratioswitch: bool, powerfail: bool) -> bool
         ensures { λ r. ⌜ r ≡ goesToMinimum self input ratioswitch powerfail ⌝ }
     {
         let mode = self.mode(ratioswitch);
-        signals::is_open(input) & (self.opens == 84) & is_automatic(mode) & powerfail
+        signals::is_open(input)
+            & (self.opencount == SCANS_BEFORE_CAUSE)
+            & is_automatic(mode)
+            & powerfail
     }
 }

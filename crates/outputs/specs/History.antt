@@ -16,7 +16,8 @@ remembered (Two pv sp before) r = Two (r .pv) (r .sp) pv
 unfoldable pub historyAfter : History → Bool → Readings → History
 historyAfter h isopen r = if isopen then Nothing else remembered h r
 
--- the previous PV and SP and the PV before, in a scan with these readings; "A forgotten value counts as the nearest later one."
+-- the previous PV and SP and the PV before, in a scan with these readings; "A forgotten value counts as
+-- the nearest later one."
 abbrev pub recalled : History → Readings → Past
 recalled Nothing r = record { pv = r .pv; sp = r .sp; before = r .pv }
 recalled (One pv sp) r = record { pv = pv; sp = sp; before = pv }

@@ -1,5 +1,5 @@
--- What a call does to the output, as an instruction, and how it is carried out: by our controller in whole 1/65,536 units, by the exact
--- controller in fractions. The rules give the instruction once, for both.
+-- What a call does to the output, as an instruction, and how it is executed: by our controller in whole
+-- 1/65,536 units, by the exact controller in fractions. The rules give the instruction once, for both.
 use lib.IntN.{ℤ, _+ℤ_}
 use Rattle.terms.specs.Fraction.{Fraction, whole, plus, limited, storedUnits, limitedStored}
 use Rattle.terms.specs.Terms.{limitedTerm, storedTerm}
@@ -22,7 +22,7 @@ pub record Instruction : Type 0 where
   pub change : Change
   pub limits : Limits
 
--- what an output of the type X is reckoned with
+-- what an output of the type X is computed with
 pub record Arithmetic (X : Type 0) : Type 0 where
   -- so many whole units
   pub units : ℤ → X
@@ -58,5 +58,5 @@ limitedTo A unlimited x = x
 limitedTo A (between low high) x = A .limited low high x
 
 -- the change, and then the limits
-unfoldable pub carriedOut : {X : Type 0} → Arithmetic X → Instruction → X → X
-carriedOut A o x = limitedTo A (o .limits) (changed A (o .change) x)
+unfoldable pub executed : {X : Type 0} → Arithmetic X → Instruction → X → X
+executed A o x = limitedTo A (o .limits) (changed A (o .change) x)

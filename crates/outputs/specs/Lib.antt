@@ -1,4 +1,4 @@
-pub mod Deviation
+pub mod ControlDifference
 pub mod History
 pub mod Instruction
 pub mod OutputLaws

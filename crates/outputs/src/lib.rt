@@ -1,4 +1,5 @@
-// Step 6 of a scan: the output in each mode, the terms and what they are made of, the limits; and what is remembered of earlier scans.
+// Step 6 of a scan: the output in each mode, the terms and what they are made of, the limits; and what
+// is remembered of earlier scans.
 ghost use mathlib.Core.Path.{_≡_};
 ghost use Prim.Native.Nat.{_≤_, min};
 ghost use lib.IntN.{natAbs, pos};
@@ -6,19 +7,21 @@ ghost use Rattle.integers.specs.Machine.{Small};
 ghost use Rattle.terms.specs.Fraction.{storedUnits, limitedStored};
 ghost use Rattle.parameters.specs.Legal.{Legal};
 ghost use Rattle.parameters.specs.Table.{HO, LO};
-ghost use Rattle.outputs.specs.Deviation.{deviation, earlierSetpoint, changeOfDeviation, secondDifference, tuningOf};
+ghost use Rattle.outputs.specs.ControlDifference.{controlDifference, earlierSetpoint, changeOfDifference, secondDifference, tuningOf};
 ghost use Rattle.outputs.specs.History.{remembered, historyAfter, recalled};
-ghost use Rattle.outputs.specs.Instruction.{storedArithmetic, changed, limitedTo, carriedOut};
-ghost use Rattle.outputs.specs.OutputLaws.{Read, Kept, Recalled, Stored};
-ghost use Rattle.outputs.specs.Outputs.{minimumOf, pushed, byHand, termsOf, byTerms, changeIn, limitsIn, instructionOf, limitsWritten};
+ghost use Rattle.outputs.specs.Instruction.{storedArithmetic, changed, limitedTo, executed};
+ghost use Rattle.outputs.specs.OutputLaws.{ReadingsRange, HistoryRange, PastRange, OutputRange};
+ghost use Rattle.outputs.specs.Outputs.{minimumOf, adjusted, byHand, termsOf, byTerms};
+ghost use Rattle.outputs.specs.Outputs.{changeIn, limitsIn, instructionOf, limitsWritten};
 use modes::Mode;
 use parameters::Parameters;
 use setpoints::Readings;
+use signals::Adjustment;
 use signals::Input;
-use signals::Push;
 use signals::Switches;
 use terms::Tuning;
 
+mod amounts;
 pub mod restarted;
 
 // What is remembered of earlier scans: nothing; the PV and SP of the last one; these and the PV of the one before it.
@@ -35,8 +38,9 @@ pub struct Past {
     pub before: i64,
 }
 
-// What a scan is reckoned by: the switches, its mode, whether it goes to minimum in Manual or Forced Manual, and its input.
-pub struct Situation {
+// What a scan is computed by: the switches, its mode, whether it goes to minimum in Manual or Forced
+// Manual, and its input.
+pub struct Context {
     pub switches: Switches,
     pub mode: Mode,
     pub tominimum: bool,
@@ -86,14 +90,14 @@ fn recalled(h: History, r: Readings) -> Past
     }
 }
 
-// c, or c1 of earlier values.
-fn deviation(inverse: bool, sp: i64, pv: i64) -> i64
+// c, the control difference, or c1 of earlier values.
+fn control_difference(inverse: bool, sp: i64, pv: i64) -> i64
     requires { ⌜ Small sp × Small pv ⌝ }
-    ensures { λ n. ⌜ n ≡ deviation inverse sp pv ⌝ }
+    ensures { λ n. ⌜ n ≡ controlDifference inverse sp pv ⌝ }
 {
-    let turned = integers::minus(pv, sp);
-    let straight = integers::minus(sp, pv);
-    integers::choose(inverse, turned, straight)
+    let reverse = integers::minus(pv, sp);
+    let direct = integers::minus(sp, pv);
+    integers::choose(inverse, reverse, direct)
 }
 
 fn earlier_setpoint(s: Switches, mode: Mode, r: Readings, past: Past) -> i64
@@ -103,18 +107,18 @@ fn earlier_setpoint(s: Switches, mode: Mode, r: Readings, past: Past) -> i64
     integers::choose(balanced & !s.balanceoff, r.sp, past.sp)
 }
 
-fn change_of_deviation(s: Switches, mode: Mode, r: Readings, past: Past) -> i64
-    requires { ⌜ Read r × Recalled past ⌝ }
-    ensures { λ n. ⌜ n ≡ changeOfDeviation s mode r past ⌝ }
+fn change_of_difference(s: Switches, mode: Mode, r: Readings, past: Past) -> i64
+    requires { ⌜ ReadingsRange r × PastRange past ⌝ }
+    ensures { λ n. ⌜ n ≡ changeOfDifference s mode r past ⌝ }
 {
-    let now = deviation(s.inverseoutput, r.sp, r.pv);
+    let now = control_difference(s.inverseoutput, r.sp, r.pv);
     let sp = earlier_setpoint(s, mode, r, past);
-    let earlier = deviation(s.inverseoutput, sp, past.pv);
+    let earlier = control_difference(s.inverseoutput, sp, past.pv);
     integers::minus(now, earlier)
 }
 
 fn second_difference(r: Readings, past: Past) -> i64
-    requires { ⌜ Read r × Recalled past ⌝ }
+    requires { ⌜ ReadingsRange r × PastRange past ⌝ }
     ensures { λ n. ⌜ n ≡ secondDifference r past ⌝ }
 {
     let twice = integers::plus(past.pv, past.pv);
@@ -140,17 +144,18 @@ fn tuning_of(p: Parameters, s: Switches) -> Tuning
     }
 }
 
-// The output with the three terms added, each limited and rounded by itself. The contract rules out an output that never moves.
-fn with_terms(p: Parameters, x: Situation, r: Readings, h: History, output: i64) -> i64
-    requires { ⌜ Legal p × Read r × Kept h × Stored output ⌝ }
+// The output with the three terms added, each limited and rounded by itself. The contract rules out an
+// output that never moves.
+fn with_terms(p: Parameters, x: Context, r: Readings, h: History, output: i64) -> i64
+    requires { ⌜ Legal p × ReadingsRange r × HistoryRange h × OutputRange output ⌝ }
     ensures { λ n. ⌜ n ≡ changed storedArithmetic (termsOf p x r h) output ⌝ }
 {
     let s = x.switches;
     let mode = x.mode;
     let t = tuning_of(p, s);
     let past = recalled(h, r);
-    let change = change_of_deviation(s, mode, r, past);
-    let c = deviation(s.inverseoutput, r.sp, r.pv);
+    let change = change_of_difference(s, mode, r, past);
+    let c = control_difference(s.inverseoutput, r.sp, r.pv);
     let d = second_difference(r, past);
     let one = integers::plus(output, terms::proportional(t, change));
     let two = integers::plus(one, terms::integral(t, c));
@@ -162,7 +167,7 @@ fn units(u: i64) -> i64
     requires { ⌜ natAbs u ≤ 65535 ⌝ }
     ensures { λ n. ⌜ n ≡ storedUnits u ⌝ }
 {
-    u * 65536
+    u * amounts::UNIT
 }
 
 fn minimum_of(p: Parameters, s: Switches) -> i64
@@ -173,44 +178,44 @@ fn minimum_of(p: Parameters, s: Switches) -> i64
     integers::choose(s.displayinversion, high, low)
 }
 
-fn pushed(push: Push, output: i64) -> i64
-    requires { ⌜ Stored output ⌝ }
-    ensures { λ n. ⌜ n ≡ changed storedArithmetic (pushed push) output ⌝ }
+fn adjusted(adjustment: Adjustment, output: i64) -> i64
+    requires { ⌜ OutputRange output ⌝ }
+    ensures { λ n. ⌜ n ≡ changed storedArithmetic (adjusted adjustment) output ⌝ }
 {
-    match push {
-        Push::Raise => {
-            let by = units(12);
+    match adjustment {
+        Adjustment::Raise => {
+            let by = units(amounts::RAISE_STEP);
             integers::plus(output, by)
         }
-        Push::Lower => {
-            let by = units(-12);
+        Adjustment::Lower => {
+            let by = units(amounts::LOWER_STEP);
             integers::plus(output, by)
         }
-        Push::Neither => output,
+        Adjustment::Neither => output,
     }
 }
 
 // Manual and Forced Manual. The contract rules out a move while SP is held, and Raise or Lower beside the minimum.
-fn by_hand(p: Parameters, x: Situation, output: i64) -> i64
-    requires { ⌜ Legal p × Stored output ⌝ }
+fn by_hand(p: Parameters, x: Context, output: i64) -> i64
+    requires { ⌜ Legal p × OutputRange output ⌝ }
     ensures { λ n. ⌜ n ≡ changed storedArithmetic (byHand p x) output ⌝ }
 {
     let s = x.switches;
     let input = x.input;
     let b = signals::buttons_of(input.buttons);
-    let push = signals::push_of(b);
+    let adjustment = signals::adjustment_of(b);
     if x.tominimum {
         return units(minimum_of(p, s));
     }
     if b.sp {
         return output;
     }
-    pushed(push, output)
+    adjusted(adjustment, output)
 }
 
 // The automatic modes.
-fn by_terms(p: Parameters, x: Situation, r: Readings, h: History, output: i64) -> i64
-    requires { ⌜ Legal p × Read r × Kept h × Stored output ⌝ }
+fn by_terms(p: Parameters, x: Context, r: Readings, h: History, output: i64) -> i64
+    requires { ⌜ Legal p × ReadingsRange r × HistoryRange h × OutputRange output ⌝ }
     ensures { λ n. ⌜ n ≡ changed storedArithmetic (byTerms p x r h) output ⌝ }
 {
     let input = x.input;
@@ -225,14 +230,14 @@ fn by_terms(p: Parameters, x: Situation, r: Readings, h: History, output: i64) -
 fn tracked(sample: u16) -> i64
     ensures { λ n. ⌜ n ≡ storedUnits (pos (min sample 9999)) ⌝ }
 {
-    if sample < 9999 {
-        return sample as i64 * 65536;
+    if sample < parameters::OP_MOST {
+        return sample as i64 * amounts::UNIT;
     }
-    655294464
+    amounts::STORED_MOST
 }
 
-fn changed_in(p: Parameters, x: Situation, r: Readings, h: History, output: i64) -> i64
-    requires { ⌜ Legal p × Read r × Kept h × Stored output ⌝ }
+fn changed_in(p: Parameters, x: Context, r: Readings, h: History, output: i64) -> i64
+    requires { ⌜ Legal p × ReadingsRange r × HistoryRange h × OutputRange output ⌝ }
     ensures { λ n. ⌜ n ≡ changed storedArithmetic (changeIn (x .mode) p x r h) output ⌝ }
 {
     let mode = x.mode;
@@ -268,25 +273,25 @@ fn limited_in(mode: Mode, p: Parameters, output: i64) -> i64
     integers::choose(limiting, within, output)
 }
 
-// The stored output after an accepted scan. The contract rules out an output limited in Hold, one that is not limited elsewhere, one that
-// never moves, and one that repeats an earlier one.
-pub fn output_after(p: Parameters, x: Situation, r: Readings, h: History, output: i64) -> i64
-    requires { ⌜ Legal p × Read r × Kept h × Stored output ⌝ }
-    ensures { λ n. ⌜ n ≡ carriedOut storedArithmetic (instructionOf p x r h) output ⌝ }
+// The stored output after an accepted scan. The contract rules out an output limited in Hold, one that
+// is not limited elsewhere, one that never moves, and one that repeats an earlier one.
+pub fn output_after(p: Parameters, x: Context, r: Readings, h: History, output: i64) -> i64
+    requires { ⌜ Legal p × ReadingsRange r × HistoryRange h × OutputRange output ⌝ }
+    ensures { λ n. ⌜ n ≡ executed storedArithmetic (instructionOf p x r h) output ⌝ }
 {
     let mode = x.mode;
     let to = changed_in(p, x, r, h, output);
     limited_in(mode, p, to)
 }
 
-// The stored output after an accepted write of the parameter with this number. The contract rules out an output that HO or LO limits in Hold or Track,
-// one that they leave outside elsewhere, and one that another write moves.
+// The stored output after an accepted write of the parameter with this number. The contract rules out an output
+// that HO or LO limits in Hold or Track, one that they leave outside elsewhere, and one that another write moves.
 pub fn output_written(number: u64, mode: Mode, p: Parameters, output: i64) -> i64
     requires { ⌜ Legal p ⌝ }
     ensures { λ n. ⌜ n ≡ limitedTo storedArithmetic (limitsWritten number mode p) output ⌝ }
 {
     match number {
-        15..=16 => limited_in(mode, p, output),
+        parameters::HO..=parameters::LO => limited_in(mode, p, output),
         _ => output,
     }
 }

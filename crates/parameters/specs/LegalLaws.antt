@@ -1,21 +1,26 @@
--- The defaults are legal, a setpoint and a ratio within their limits keep parameters legal, and what legal parameters satisfy.
+-- The defaults are legal, a setpoint and a ratio within their limits keep parameters legal, and what
+-- legal parameters satisfy.
 use mathlib.Core.Path.{_≡_, refl, sym, ap, _∙_, subst}
 use mathlib.Core.Bool.{Bool, true, false, _&&_}
-use Prim.Native.Nat.{ℕ, _+_, _-_, _≤_, _<_}
+use Prim.Native.Nat.{ℕ, _≤_, _<_}
 use native.Mathlib.Omega.{arith}
 use lib.Dec.{eqb, ltb}
 use lib.IntN.{ℤ, pos, negℤ, natAbs}
 use lib.ListN.{length, getD, set, length-set}
 use lib.Seq.{getD-set-same, getD-set-other}
 use lib.Signed.{leZ, ltZ, _≤ℤ_, _<ℤ_}
-use borrow.Author.Tests.{eqb-true, eqb-false, ltb-true, ltb-false}
+use borrow.Author.Tests.{eqb-true, eqb-false, eq-eqb, ne-eqb, ltb-true, ltb-false}
 use Rattle.integers.specs.Choice.{if_then_else_, by-cases, never, both}
+use Rattle.integers.specs.Limit.{limited, limited-low, limited-high}
+use Rattle.integers.specs.Listed.{listed, listed-same}
 use Rattle.integers.specs.Operations.{number}
 use Rattle.integers.specs.Parts.{integers, apart}
 use Rattle.parameters.specs.Legal.{Legal, keeps, inRange, pairInOrder, isWithin, inOrder, partner}
-use Rattle.parameters.specs.Range.{Each, each-in, each-of}
+use Rattle.parameters.specs.PairLaws.{partner-most, row-of, same-row}
+use Rattle.parameters.specs.RuleLaws.{is-from}
 use Rattle.parameters.specs.Table as t
 use Rattle.parameters.specs.Table.{value, withValue, ruleOf, defaults}
+use Rattle.parameters.specs.Written.{limitedAnew}
 use Rattle.parameters.specs.declared.Parameters.{Parameters}
 use Rattle.parameters.specs.declared.Rule.{Rule}
 use Rattle.parameters.specs.declared.Rule.the-variants.{Unknown, ReadOnly, Word, Free, Pair, Between}
@@ -25,15 +30,13 @@ abbrev pub fresh : Parameters
 fresh = record { values = defaults }
 
 pub defaults-legal : Legal fresh
-unfolding value ruleOf
+unfolding value ruleOf listed
 defaults-legal =
     record {
       size = refl;
       unused = refl;
       rules = λ n a b.
-          each-in (λ (m : ℕ). keeps (ruleOf m) (value fresh) m ≡ true) 23 1 n
-          (refl, (refl, (refl, (refl, (refl, (refl, (refl, (refl, (refl, (refl, (refl, (refl, (refl, (refl, (refl, (refl, (refl, (refl, (refl, (refl, (refl, (refl, (refl, tt)))))))))))))))))))))))
-          a (omega arith);
+          listed-same (λ (m : ℕ). keeps (ruleOf m) (value fresh) m) (λ (m : ℕ). true) 1 23 n refl a (omega arith);
     }
 
 -- ---- one value changed
@@ -41,11 +44,13 @@ defaults-legal =
 abbrev pub changed : (ℕ → ℤ) → ℕ → ℤ → ℕ → ℤ
 changed values k v n = if eqb n k then v else values n
 
-pub value-with : (p : Parameters) (k : ℕ) (v : ℤ) → length (p .values) ≡ 24 → k < 24 → (n : ℕ) → value (withValue p k v) n ≡ changed (value p) k v n
+pub value-with : (p : Parameters) (k : ℕ) (v : ℤ) → length (p .values) ≡ 24 → k < 24 → (n : ℕ) →
+    value (withValue p k v) n ≡ changed (value p) k v n
 unfolding value withValue
 value-with p k v size h n =
     by-cases (λ (w : ℤ). getD (set (p .values) k v) n (pos 0) ≡ w) (eqb n k) v (value p n)
-    (λ e. subst (λ (m : ℕ). getD (set (p .values) k v) m (pos 0) ≡ v) (sym (eqb-true n k e)) (getD-set-same (p .values) k v (pos 0) (omega arith)))
+    (λ e. subst (λ (m : ℕ). getD (set (p .values) k v) m (pos 0) ≡ v) (sym (eqb-true n k e))
+    (getD-set-same (p .values) k v (pos 0) (omega arith)))
     (λ e. getD-set-other (p .values) k n v (pos 0) (eqb-false n k e))
 
 pub keeps-same : (r : Rule) (f g : ℕ → ℤ) (n : ℕ) → ((m : ℕ) → f m ≡ g m) → keeps r f n ≡ keeps r g n
@@ -67,23 +72,51 @@ by-place {A} n k f g h = go (ltb n k) refl (eqb n k) refl
 pub and-true : {b : Bool} → b ≡ true → b && true ≡ true
 and-true e = rw e refl
 
--- row by row: those before SL and RS, those after them, and these two
+-- row by row: those of SL and RS, and the others
 pub legal-by : (p : Parameters) → length (p .values) ≡ 24 → value p 0 ≡ pos 0 →
-    ((n : ℕ) → 1 ≤ n → n ≤ 19 → keeps (ruleOf n) (value p) n ≡ true) → ((n : ℕ) → 22 ≤ n → n ≤ 23 → keeps (ruleOf n) (value p) n ≡ true) →
+    ((n : ℕ) → 1 ≤ n → n ≤ 23 → (n ≡ 20 → ⊥) → (n ≡ 21 → ⊥) → keeps (ruleOf n) (value p) n ≡ true) →
     keeps (ruleOf 20) (value p) 20 ≡ true → keeps (ruleOf 21) (value p) 21 ≡ true → Legal p
-legal-by p size unused before after sl rs =
+legal-by p size unused others sl rs =
     let P : ℕ → Type 0 = λ m. keeps (ruleOf m) (value p) m ≡ true in
     record {
       size = size;
       unused = unused;
       rules = λ n a b.
-          by-place n 20 (λ l. before n a (omega arith)) (λ q. subst P (sym q) sl)
-          (λ l. by-place n 21 (λ k. absurd (omega arith)) (λ q. subst P (sym q) rs) (λ k. after n (omega arith) b));
+          by-place n 20 (λ l. others n a b (λ q. omega arith) (λ q. omega arith)) (λ q. subst P (sym q) sl)
+          (λ l. by-place n 21 (λ k. absurd (omega arith)) (λ q. subst P (sym q) rs)
+          (λ k. others n a b (λ q. omega arith) (λ q. omega arith)));
     }
 
-pub rules-from : (p : Parameters) → Legal p → (many first : ℕ) → 1 ≤ first → first + many ≤ 24 → Each (λ (n : ℕ). keeps (ruleOf n) (value p) n ≡ true) first many
-rules-from p legal many first a b =
-    each-of (λ (n : ℕ). keeps (ruleOf n) (value p) n ≡ true) many first (λ n h l. legal .rules n (omega arith) (omega arith))
+-- ---- SL and RS limited anew
+
+module _ (p : Parameters) (size : length (p .values) ≡ 24) (m low high : ℕ) (l : m < 24) where
+  abbrev anew : Parameters
+  anew = limitedAnew p m low high
+
+  pub anew-size : length (anew .values) ≡ 24
+  unfolding limitedAnew withValue
+  anew-size = length-set (p .values) m _ ∙ size
+
+  -- the others stay
+  pub anew-other : (n : ℕ) → (n ≡ m → ⊥) → value anew n ≡ value p n
+  unfolding limitedAnew
+  anew-other n d = value-with p m _ size l n ∙ rw (ne-eqb n m d) refl
+
+  limited-is : value anew m ≡ limited (value p low) (value p high) (value p m)
+  unfolding limitedAnew
+  limited-is = value-with p m _ size l m ∙ rw (eq-eqb m m refl) refl
+
+  pub anew-value : (low ≡ m → ⊥) → (high ≡ m → ⊥) → value anew m ≡ limited (value anew low) (value anew high) (value p m)
+  anew-value a b = rw (anew-other low a, anew-other high b) limited-is
+
+-- a value limited to two others that are in order keeps its row
+pub limited-row : (f : ℕ → ℤ) (m low high : ℕ) (x : ℤ) → ruleOf m ≡ Between low high → leZ (f low) (f high) ≡ true →
+    f m ≡ limited (f low) (f high) x → keeps (ruleOf m) f m ≡ true
+limited-row f m low high x row order e =
+    let least : leZ (f low) (limited (f low) (f high) x) ≡ true =
+    omega (arith, integers, limited-low (f low) (f high) x (omega (arith, integers, order))) in
+    let most : leZ (limited (f low) (f high) x) (f high) ≡ true = omega (arith, integers, limited-high (f low) (f high) x) in
+    rw (row, e, least, most) refl
 
 -- ---- no other parameter's rule looks at SL or RS: within their limits they may take any values
 
@@ -101,14 +134,20 @@ module _ (p : Parameters) (legal : Legal p) (sl rs : ℤ) where
       value-with (withValue p 20 sl) 21 rs settings-size (omega arith) n ∙
       ap (λ (v : ℤ). if eqb n 21 then rs else v) (value-with p 20 sl (legal .size) (omega arith) n)
 
-  pub settings-legal : isWithin (t.LS p) (t.HS p) sl ≡ true → isWithin (t.LR p) (t.HR p) rs ≡ true → Legal (withValue (withValue p 20 sl) 21 rs)
+  pub settings-legal : isWithin (t.LS p) (t.HS p) sl ≡ true → isWithin (t.LR p) (t.HR p) rs ≡ true →
+      Legal (withValue (withValue p 20 sl) 21 rs)
   unfolding ruleOf withValue settings
   settings-legal e d =
       let q = withValue (withValue p 20 sl) 21 rs in
-      let same : (n : ℕ) → keeps (ruleOf n) (value q) n ≡ keeps (ruleOf n) settings n = λ n. keeps-same (ruleOf n) (value q) settings n settings-are in
+      let same : (n : ℕ) → keeps (ruleOf n) (value q) n ≡ keeps (ruleOf n) settings n =
+      λ n. keeps-same (ruleOf n) (value q) settings n settings-are in
+      let kept : (n : ℕ) → (n ≡ 20 → ⊥) → (n ≡ 21 → ⊥) → settings n ≡ value p n =
+      λ n a b. rw (ne-eqb n 21 b, ne-eqb n 20 a) refl in
       legal-by q (length-set (set (p .values) 20 sl) 21 rs ∙ settings-size) (settings-are 0 ∙ legal .unused)
-      (λ n a b. same n ∙ each-in (λ (m : ℕ). keeps (ruleOf m) settings m ≡ true) 19 1 n (rules-from p legal 19 1 (omega arith) (omega arith)) a (omega arith))
-      (λ n a b. same n ∙ each-in (λ (m : ℕ). keeps (ruleOf m) settings m ≡ true) 2 22 n (rules-from p legal 2 22 (omega arith) (omega arith)) a (omega arith))
+      (λ n a b u v.
+      let row = row-of n a b u v in
+      same n ∙ same-row (ruleOf n) (value p) settings n (row .own) (kept n u v)
+      (λ s. let most = partner-most n (row .most s) in kept (partner n) (λ q. omega arith) (λ q. omega arith)) ∙ legal .rules n a b)
       (same 20 ∙ and-true e) (same 21 ∙ and-true d)
 
 -- ---- what the rules come to, in orders of integers
@@ -122,7 +161,7 @@ pub record Inside (least v most : ℤ) : Type 0 where
   pub not-below : least ≤ℤ v
   pub not-above : v ≤ℤ most
 
--- of each parameter that a scan reckons with
+-- of each parameter that a scan computes with
 pub record Ranges (p : Parameters) : Type 0 where
   pub channel1 : Ordered (negℤ (pos 9999)) (t.L1 p) (t.H1 p) (pos 9999)
   pub channel2 : Ordered (negℤ (pos 9999)) (t.L2 p) (t.H2 p) (pos 9999)
@@ -149,10 +188,13 @@ ranged : (low high v : ℤ) → (isWithin low high v && true) ≡ true → Insid
 ranged low high v e = inside low high v (both (isWithin low high v) true e .0)
 
 -- the lower of a pair and the upper, from the rules of both
-ordered : (strict : Bool) (least most low high : ℤ) → (isWithin least most high && inOrder strict low high) ≡ true → (isWithin least most low && inOrder strict low high) ≡ true → Ordered least low high most
-ordered true least most low high d e = let h = both (isWithin least most high) (ltZ low high) d in let k = both (isWithin least most low) (ltZ low high) e in
+ordered : (strict : Bool) (least most low high : ℤ) → (isWithin least most high && inOrder strict low high) ≡ true →
+    (isWithin least most low && inOrder strict low high) ≡ true → Ordered least low high most
+ordered true least most low high d e =
+    let h = both (isWithin least most high) (ltZ low high) d in let k = both (isWithin least most low) (ltZ low high) e in
     omega (arith, integers, inside least most high (h .0), inside least most low (k .0), h .1)
-ordered false least most low high d e = let h = both (isWithin least most high) (leZ low high) d in let k = both (isWithin least most low) (leZ low high) e in
+ordered false least most low high d e =
+    let h = both (isWithin least most high) (leZ low high) d in let k = both (isWithin least most low) (leZ low high) e in
     omega (arith, integers, inside least most high (h .0), inside least most low (k .0), h .1)
 
 spanned : (least most low high : ℤ) → (isWithin least most high && ltZ low high) ≡ true → low <ℤ high
@@ -161,23 +203,25 @@ spanned least most low high d = let h = both (isWithin least most high) (ltZ low
 pub ranges : (p : Parameters) → Legal p → Ranges p
 unfolding ruleOf
 ranges p legal =
+    let row : (n : ℕ) → t.isFrom n 1 23 ≡ true → keeps (ruleOf n) (value p) n ≡ true =
+    λ n e. let h = is-from n 1 23 e in legal .rules n (h .0) (h .1) in
     record {
-      channel1 = ordered true _ _ _ _ (legal .rules 1 (omega arith) (omega arith)) (legal .rules 2 (omega arith) (omega arith));
-      channel2 = ordered true _ _ _ _ (legal .rules 3 (omega arith) (omega arith)) (legal .rules 4 (omega arith) (omega arith));
-      channel3 = ordered true _ _ _ _ (legal .rules 5 (omega arith) (omega arith)) (legal .rules 6 (omega arith) (omega arith));
-      span1 = spanned (negℤ (pos 9999)) (pos 9999) (t.L1 p) (t.H1 p) (legal .rules 1 (omega arith) (omega arith));
-      span2 = spanned (negℤ (pos 9999)) (pos 9999) (t.L2 p) (t.H2 p) (legal .rules 3 (omega arith) (omega arith));
-      span3 = spanned (negℤ (pos 9999)) (pos 9999) (t.L3 p) (t.H3 p) (legal .rules 5 (omega arith) (omega arith));
-      ratios = ordered false _ _ _ _ (legal .rules 7 (omega arith) (omega arith)) (legal .rules 8 (omega arith) (omega arith));
-      setpoints = ordered false _ _ _ _ (legal .rules 9 (omega arith) (omega arith)) (legal .rules 10 (omega arith) (omega arith));
-      outputs = ordered false _ _ _ _ (legal .rules 15 (omega arith) (omega arith)) (legal .rules 16 (omega arith) (omega arith));
-      low-deviation = ranged _ _ _ (legal .rules 14 (omega arith) (omega arith));
-      band = ranged _ _ _ (legal .rules 17 (omega arith) (omega arith));
-      integral-time = ranged _ _ _ (legal .rules 18 (omega arith) (omega arith));
-      derivative-time = ranged _ _ _ (legal .rules 19 (omega arith) (omega arith));
-      setpoint = ranged _ _ _ (legal .rules 20 (omega arith) (omega arith));
-      ratio = ranged _ _ _ (legal .rules 21 (omega arith) (omega arith));
-      bias = ranged _ _ _ (legal .rules 22 (omega arith) (omega arith));
+      channel1 = ordered true _ _ _ _ (row 1 refl) (row 2 refl);
+      channel2 = ordered true _ _ _ _ (row 3 refl) (row 4 refl);
+      channel3 = ordered true _ _ _ _ (row 5 refl) (row 6 refl);
+      span1 = spanned (negℤ (pos 9999)) (pos 9999) (t.L1 p) (t.H1 p) (row 1 refl);
+      span2 = spanned (negℤ (pos 9999)) (pos 9999) (t.L2 p) (t.H2 p) (row 3 refl);
+      span3 = spanned (negℤ (pos 9999)) (pos 9999) (t.L3 p) (t.H3 p) (row 5 refl);
+      ratios = ordered false _ _ _ _ (row 7 refl) (row 8 refl);
+      setpoints = ordered false _ _ _ _ (row 9 refl) (row 10 refl);
+      outputs = ordered false _ _ _ _ (row 15 refl) (row 16 refl);
+      low-deviation = ranged _ _ _ (row 14 refl);
+      band = ranged _ _ _ (row 17 refl);
+      integral-time = ranged _ _ _ (row 18 refl);
+      derivative-time = ranged _ _ _ (row 19 refl);
+      setpoint = ranged _ _ _ (row 20 refl);
+      ratio = ranged _ _ _ (row 21 refl);
+      bias = ranged _ _ _ (row 22 refl);
     }
 
 -- ---- every value lies in -9999..9999
@@ -190,7 +234,8 @@ bounded (Free least most) = isWithin (negℤ (pos 9999)) most least && leZ most 
 bounded (Pair least most strict) = isWithin (negℤ (pos 9999)) most least && leZ most (pos 9999)
 bounded (Between low high) = false
 
-between-most : (least most v : ℤ) → isWithin (negℤ (pos 9999)) most least && leZ most (pos 9999) ≡ true → isWithin least most v ≡ true → natAbs v ≤ 9999
+between-most : (least most v : ℤ) → isWithin (negℤ (pos 9999)) most least && leZ most (pos 9999) ≡ true → isWithin least most v ≡ true →
+    natAbs v ≤ 9999
 between-most least most v b e =
     let h = both (isWithin (negℤ (pos 9999)) most least) (leZ most (pos 9999)) b in
     let k = inside (negℤ (pos 9999)) most least (h .0) in
@@ -206,15 +251,19 @@ bounded-most (Pair least most strict) f v b e = between-most least most v b e
 bounded-most (Between low high) f v b e = never b
 
 pub value-most : (p : Parameters) → Legal p → (n : ℕ) → 1 ≤ n → n ≤ 23 → natAbs (value p n) ≤ 9999
-unfolding ruleOf
+unfolding ruleOf listed
 value-most p legal n a b =
     let r = ranges p legal in
     let P : ℕ → Type 0 = λ m. natAbs (value p m) ≤ 9999 in
-    let B : ℕ → Type 0 = λ m. bounded (ruleOf m) ≡ true in
-    let most : (m : ℕ) → 1 ≤ m → m ≤ 23 → B m → P m = λ m h l e. bounded-most (ruleOf m) (value p) (value p m) e (both (inRange (ruleOf m) (value p) (value p m)) (pairInOrder (ruleOf m) (value p) m (value p m)) (legal .rules m h l) .0) in
+    let rows : ℕ → Bool = λ m. bounded (ruleOf m) in
+    let most : rows n ≡ true → P n =
+    λ e. bounded-most (ruleOf n) (value p) (value p n) e
+    (both (inRange (ruleOf n) (value p) (value p n)) (pairInOrder (ruleOf n) (value p) n (value p n)) (legal .rules n a b) .0) in
     by-place n 20
-    (λ l. most n a b (each-in B 19 1 n (refl, (refl, (refl, (refl, (refl, (refl, (refl, (refl, (refl, (refl, (refl, (refl, (refl, (refl, (refl, (refl, (refl, (refl, (refl, tt))))))))))))))))))) a (omega arith)))
-    (λ q. subst P (sym q) (omega (arith, integers, r .setpoints .not-below, r .setpoints .not-above, r .setpoint .not-below, r .setpoint .not-above, number (t.SL p), apart (t.SL p))))
+    (λ l. most (listed-same rows (λ (m : ℕ). true) 1 19 n refl a (omega arith)))
+    (λ q. subst P (sym q)
+    (omega (arith, integers, r .setpoints .not-below, r .setpoints .not-above, r .setpoint, number (t.SL p), apart (t.SL p))))
     (λ l. by-place n 21 (λ k. absurd (omega arith))
-    (λ q. subst P (sym q) (omega (arith, integers, r .ratios .not-below, r .ratios .not-above, r .ratio .not-below, r .ratio .not-above, number (t.RS p), apart (t.RS p))))
-    (λ k. most n a b (each-in B 2 22 n (refl, (refl, tt)) k (omega arith))))
+    (λ q. subst P (sym q)
+    (omega (arith, integers, r .ratios .not-below, r .ratios .not-above, r .ratio, number (t.RS p), apart (t.RS p))))
+    (λ k. most (listed-same rows (λ (m : ℕ). true) 22 2 n refl k (omega arith))))

@@ -1,9 +1,10 @@
 pub mod Legal
 pub mod LegalLaws
+pub mod PairLaws
 pub mod Range
 pub mod RuleLaws
 pub mod Table
 pub mod Written
 pub mod WrittenLaws
-pub mod Mended
-pub mod MendedLaws
+pub mod Repaired
+pub mod RepairedLaws

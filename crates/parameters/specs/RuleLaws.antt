@@ -6,13 +6,15 @@ use native.Mathlib.Omega.{arith}
 use lib.Dec.{eqb, leb, ltb}
 use borrow.Author.Tests.{le-leb, lt-leb, leb-true, eqb-true, eqb-false, ltb-true, ltb-false}
 use Rattle.integers.specs.Choice.{never}
+use Rattle.integers.specs.Listed.{listed, listed-same}
 use Rattle.parameters.specs.Legal.{isUnknown, isReadOnly}
-use Rattle.parameters.specs.Range.{Each, each-in}
 use Rattle.parameters.specs.Table.{ruleOf, isFrom}
 use Rattle.parameters.specs.declared.Rule.the-variants.{Unknown}
 
-pub row : (first many n : ℕ) → Each (λ (m : ℕ). ruleOf first ≡ ruleOf m) first many → first ≤ n → n < first + many → ruleOf first ≡ ruleOf n
-row first many n e h l = each-in (λ (m : ℕ). ruleOf first ≡ ruleOf m) many first n e h l
+-- the rules of so many numbers, computed and compared with the first one's by one `refl`
+pub row : (first many n : ℕ) → listed (λ (m : ℕ). ruleOf first) first many ≡ listed ruleOf first many →
+    first ≤ n → n < first + many → ruleOf first ≡ ruleOf n
+row first many n e h l = listed-same (λ (m : ℕ). ruleOf first) ruleOf first many n e h l
 
 pub row-beyond : (n : ℕ) → 33 ≤ n → Unknown ≡ ruleOf n
 unfolding ruleOf
@@ -78,7 +80,7 @@ known n e = (go (eqb n 0) refl, here (ltb n 33) refl)
 
 -- parameters 1 to 23, MD and DS
 pub settable : (n : ℕ) → isUnknown (ruleOf n) ≡ false → isReadOnly (ruleOf n) ≡ false → n ≤ 25
-unfolding ruleOf
+unfolding ruleOf listed
 settable n e d = go (ltb n 26) refl
   where
     go : (t : Bool) → ltb n 26 ≡ t → n ≤ 25
@@ -86,4 +88,4 @@ settable n e d = go (ltb n 26) refl
     go false q =
         let h = ltb-false n 26 q in
         let k = known n e in
-        never (sym (ap isReadOnly (row 26 7 n (refl, (refl, (refl, (refl, (refl, (refl, (refl, tt))))))) h (omega arith)) ∙ d))
+        never (sym (ap isReadOnly (row 26 7 n refl h (omega arith)) ∙ d))

@@ -10,7 +10,8 @@ use Rattle.parameters.specs.declared.Parameters.{Parameters}
 unfoldable pub limitedAnew : Parameters → ℕ → ℕ → ℕ → Parameters
 limitedAnew p n low high = withValue p n (limited (value p low) (value p high) (value p n))
 
--- "An accepted write of HS or LS limits SL anew, HR or LR limits RS": numbers 9 and 10 limit 20, numbers 7 and 8 limit 21
+-- "An accepted write of HS or LS limits SL anew, HR or LR limits RS": numbers 9 and 10 limit 20,
+-- numbers 7 and 8 limit 21
 unfoldable pub written : Parameters → ℕ → ℤ → Parameters
 written p n v =
     let next = withValue p n v in

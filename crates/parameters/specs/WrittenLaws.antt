@@ -1,19 +1,18 @@
 -- A write whose value is in range and in order leaves the parameters legal.
 use mathlib.Core.Path.{_≡_, refl, sym, ap, _∙_, subst}
 use mathlib.Core.Bool.{Bool, true, false, _&&_}
-use Prim.Native.Nat.{ℕ, _+_, _-_, _%_, _≤_, _<_}
+use Prim.Native.Nat.{ℕ, _≤_}
 use native.Mathlib.Omega.{arith}
 use lib.Dec.{eqb}
 use lib.IntN.{ℤ}
-use lib.ListN.{length, set, length-set}
+use lib.ListN.{length, length-set}
 use lib.Signed.{leZ}
 use borrow.Author.Tests.{eqb-true, eqb-false, eq-eqb, ne-eqb}
 use Rattle.integers.specs.Choice.{if_then_else_, by-cases, never, both}
-use Rattle.integers.specs.Limit.{limited, limited-low, limited-high}
-use Rattle.integers.specs.Parts.{integers}
-use Rattle.parameters.specs.Legal.{Legal, keeps, inRange, pairInOrder, isWithin, inOrder, partner, ordered}
-use Rattle.parameters.specs.LegalLaws.{changed, value-with, and-true, legal-by}
-use Rattle.parameters.specs.Range.{each-in}
+use Rattle.integers.specs.Limit.{limited}
+use Rattle.parameters.specs.Legal.{Legal, keeps, inRange, pairInOrder, isWithin, partner, ordered}
+use Rattle.parameters.specs.LegalLaws.{changed, value-with, and-true, legal-by, anew-size, anew-other, anew-value, limited-row}
+use Rattle.parameters.specs.PairLaws.{partner-differs, partner-most, partner-twice, turned, isPair, isBetween, Row, row-of, same-row}
 use Rattle.parameters.specs.RuleLaws.{is-from, not-from}
 use Rattle.parameters.specs.Table.{value, withValue, ruleOf, isFrom}
 use Rattle.parameters.specs.Written.{limitedAnew, written}
@@ -21,115 +20,7 @@ use Rattle.parameters.specs.declared.Parameters.{Parameters}
 use Rattle.parameters.specs.declared.Rule.{Rule}
 use Rattle.parameters.specs.declared.Rule.the-variants.{Unknown, ReadOnly, Word, Free, Pair, Between}
 
--- ---- pairs
-
--- odd or even
-by-parity : (P : ℕ → Bool → Type 0) (n : ℕ) → (n % 2 ≡ 1 → P (n + 1) true) → (n % 2 ≡ 0 → P (n - 1) false) → P (partner n) (eqb (n % 2) 1)
-by-parity P n f g = go (eqb (n % 2) 1) refl
-  where
-    go : (b : Bool) → eqb (n % 2) 1 ≡ b → P (if b then n + 1 else n - 1) b
-    go true e = f (eqb-true (n % 2) 1 e)
-    go false e = let h = eqb-false (n % 2) 1 e in g (omega arith)
-
-partner-differs : (n : ℕ) → 1 ≤ n → partner n ≡ n → ⊥
-partner-differs n h = by-parity (λ m b. m ≡ n → ⊥) n (λ o q. omega arith) (λ o q. omega arith)
-
-partner-most : (n : ℕ) → n ≤ 16 → partner n ≤ 16
-partner-most n h = by-parity (λ m b. m ≤ 16) n (λ o. omega arith) (λ o. omega arith)
-
--- seen from the other one of the pair
-partner-twice : (n : ℕ) → 1 ≤ n → partner (partner n) ≡ n
-partner-twice n h =
-    by-parity (λ m b. partner m ≡ n) n
-    (λ o. by-parity (λ m b. m ≡ n) (n + 1) (λ q. omega arith) (λ q. omega arith))
-    (λ o. by-parity (λ m b. m ≡ n) (n - 1) (λ q. omega arith) (λ q. omega arith))
-
-turned : (strict : Bool) (n : ℕ) (v w : ℤ) → 1 ≤ n → ordered strict (partner n) v w ≡ ordered strict n w v
-turned strict n v w h =
-    by-parity (λ m b. ordered strict m v w ≡ (if b then inOrder strict v w else inOrder strict w v)) n
-    (λ o. rw (ne-eqb ((n + 1) % 2) 1 (λ q. omega arith)) refl)
-    (λ o. rw (eq-eqb ((n - 1) % 2) 1 (omega arith)) refl)
-
-abbrev isPair : Rule → Bool
-isPair Unknown = false
-isPair ReadOnly = false
-isPair (Word least most) = false
-isPair (Free least most) = false
-isPair (Pair least most strict) = true
-isPair (Between low high) = false
-
-abbrev isBetween : Rule → Bool
-isBetween Unknown = false
-isBetween ReadOnly = false
-isBetween (Word least most) = false
-isBetween (Free least most) = false
-isBetween (Pair least most strict) = false
-isBetween (Between low high) = true
-
--- both of a pair stand in one row, below SL and RS
-record Paired (n : ℕ) : Type 0 where
-  most : n ≤ 16
-  row : ruleOf (partner n) ≡ ruleOf n
-
-paired : (n : ℕ) → 1 ≤ n → n ≤ 19 → isPair (ruleOf n) ≡ true → Paired n
-unfolding ruleOf
-paired n a b =
-    let yes : (m : ℕ) → m ≤ 16 → ruleOf (partner m) ≡ ruleOf m → isPair (ruleOf m) ≡ true → Paired m = λ m h q e. record { most = h; row = q } in
-    each-in (λ (m : ℕ). isPair (ruleOf m) ≡ true → Paired m) 19 1 n (
-      yes 1 (omega arith) refl,
-      (
-        yes 2 (omega arith) refl,
-        (
-          yes 3 (omega arith) refl,
-          (
-            yes 4 (omega arith) refl,
-            (
-              yes 5 (omega arith) refl,
-              (
-                yes 6 (omega arith) refl,
-                (
-                  yes 7 (omega arith) refl,
-                  (
-                    yes 8 (omega arith) refl,
-                    (
-                      yes 9 (omega arith) refl,
-                      (
-                        yes 10 (omega arith) refl,
-                        (
-                          yes 11 (omega arith) refl,
-                          (
-                            yes 12 (omega arith) refl,
-                            (never, (never, (yes 15 (omega arith) refl, (yes 16 (omega arith) refl, (never, (never, (never, tt))))))),
-                          ),
-                        ),
-                      ),
-                    ),
-                  ),
-                ),
-              ),
-            ),
-          ),
-        ),
-      ),
-    )
-    a (omega arith)
-
--- only SL and RS lie between two others
-no-between : (n : ℕ) → 1 ≤ n → n ≤ 19 → isBetween (ruleOf n) ≡ false
-unfolding ruleOf
-no-between n a b =
-    each-in (λ (m : ℕ). isBetween (ruleOf m) ≡ false) 19 1 n
-    (refl, (refl, (refl, (refl, (refl, (refl, (refl, (refl, (refl, (refl, (refl, (refl, (refl, (refl, (refl, (refl, (refl, (refl, (refl, tt))))))))))))))))))) a (omega arith)
-
--- ---- what a row says depends on its own value and, in a pair, on the other one's
-
-same-row : (r : Rule) (f g : ℕ → ℤ) (n : ℕ) → isBetween r ≡ false → g n ≡ f n → (isPair r ≡ true → g (partner n) ≡ f (partner n)) → keeps r g n ≡ keeps r f n
-same-row Unknown f g n b e p = refl
-same-row ReadOnly f g n b e p = refl
-same-row (Word least most) f g n b e p = rw e refl
-same-row (Free least most) f g n b e p = rw e refl
-same-row (Pair least most strict) f g n b e p = rw (e, p refl) refl
-same-row (Between low high) f g n b e p = never (sym b)
+-- ---- a row after a write of its own value, or of the other one of its pair
 
 own-row : (r : Rule) (f g : ℕ → ℤ) (n : ℕ) (v : ℤ) → isBetween r ≡ false → g n ≡ v → (isPair r ≡ true → g (partner n) ≡ f (partner n)) →
     inRange r f v ≡ true → pairInOrder r f n v ≡ true → keeps r g n ≡ true
@@ -164,69 +55,63 @@ module _ (p : Parameters) (legal : Legal p) (k : ℕ) (v : ℤ) (first : 1 ≤ k
   unfolding next
   next-is n = value-with p k v (legal .size) (omega arith) n
 
-  -- one more value set, of those at 20 and 21
-  set-later : (m : ℕ) (w : ℤ) → m < 24 → (n : ℕ) → (n ≡ m → ⊥) → value (withValue next m w) n ≡ changed (value p) k v n
-  set-later m w l n d = value-with next m w next-size l n ∙ rw (ne-eqb n m d) (next-is n)
-
   -- the three ways of a write: SL limited anew, RS limited anew, neither
-  by-way : (P : Parameters → Type 0) → (isFrom k 9 10 ≡ true → P (limitedAnew next 20 10 9)) → (isFrom k 9 10 ≡ false → isFrom k 7 8 ≡ true → P (limitedAnew next 21 8 7)) →
+  by-way : (P : Parameters → Type 0) → (isFrom k 9 10 ≡ true → P (limitedAnew next 20 10 9)) →
+      (isFrom k 9 10 ≡ false → isFrom k 7 8 ≡ true → P (limitedAnew next 21 8 7)) →
       (isFrom k 9 10 ≡ false → isFrom k 7 8 ≡ false → P next) → P (written p k v)
   unfolding written next
   by-way P setpoint ratio neither =
       by-cases P (isFrom k 9 10) _ _ setpoint (λ e. by-cases P (isFrom k 7 8) _ _ (ratio e) (neither e))
 
   pub elsewhere : (n : ℕ) → (n ≡ 20 → ⊥) → (n ≡ 21 → ⊥) → value (written p k v) n ≡ changed (value p) k v n
-  unfolding limitedAnew
   elsewhere n a b =
-      by-way (λ (q : Parameters). value q n ≡ changed (value p) k v n) (λ e. set-later 20 _ (omega arith) n a) (λ e d. set-later 21 _ (omega arith) n b) (λ e d. next-is n)
+      by-way (λ (q : Parameters). value q n ≡ changed (value p) k v n)
+      (λ e. anew-other next next-size 20 10 9 (omega arith) n a ∙ next-is n)
+      (λ e d. anew-other next next-size 21 8 7 (omega arith) n b ∙ next-is n)
+      (λ e d. next-is n)
 
   written-size : length (written p k v .values) ≡ 24
-  unfolding limitedAnew withValue
   written-size =
-      by-way (λ (q : Parameters). length (q .values) ≡ 24) (λ e. length-set (next .values) 20 _ ∙ next-size) (λ e d. length-set (next .values) 21 _ ∙ next-size) (λ e d. next-size)
+      by-way (λ (q : Parameters). length (q .values) ≡ 24) (λ e. anew-size next next-size 20 10 9 (omega arith))
+      (λ e d. anew-size next next-size 21 8 7 (omega arith)) (λ e d. next-size)
 
   -- ---- the values at 20 and 21
 
-  limited-value : (m low high : ℕ) → m < 24 → (low ≡ m → ⊥) → (high ≡ m → ⊥) → let q = limitedAnew next m low high in
-      value q m ≡ limited (value q low) (value q high) (value next m)
-  unfolding limitedAnew
-  limited-value m low high l a b =
-      let w = limited (value next low) (value next high) (value next m) in
-      let q = withValue next m w in
-      let low-is : value q low ≡ value next low = value-with next m w next-size l low ∙ rw (ne-eqb low m a) refl in
-      let high-is : value q high ≡ value next high = value-with next m w next-size l high ∙ rw (ne-eqb high m b) refl in
-      rw (low-is, high-is) (value-with next m w next-size l m ∙ rw (eq-eqb m m refl) refl)
-
   setpoint-anew : isFrom k 9 10 ≡ true → let g = value (written p k v) in g 20 ≡ limited (g 10) (g 9) (value next 20)
   setpoint-anew e =
-      by-way (λ (q : Parameters). value q 20 ≡ limited (value q 10) (value q 9) (value next 20)) (λ f. limited-value 20 10 9 (omega arith) (λ q. omega arith) (λ q. omega arith))
+      by-way (λ (q : Parameters). value q 20 ≡ limited (value q 10) (value q 9) (value next 20))
+      (λ f. anew-value next next-size 20 10 9 (omega arith) (λ q. omega arith) (λ q. omega arith))
       (λ f d. never (sym f ∙ e)) (λ f d. never (sym f ∙ e))
 
   ratio-anew : isFrom k 7 8 ≡ true → let g = value (written p k v) in g 21 ≡ limited (g 8) (g 7) (value next 21)
   ratio-anew e =
-      by-way (λ (q : Parameters). value q 21 ≡ limited (value q 8) (value q 7) (value next 21)) (λ f. let x = is-from k 9 10 f in let y = is-from k 7 8 e in absurd (omega arith))
-      (λ f d. limited-value 21 8 7 (omega arith) (λ q. omega arith) (λ q. omega arith)) (λ f d. never (sym d ∙ e))
+      by-way (λ (q : Parameters). value q 21 ≡ limited (value q 8) (value q 7) (value next 21))
+      (λ f. let x = is-from k 9 10 f in let y = is-from k 7 8 e in absurd (omega arith))
+      (λ f d. anew-value next next-size 21 8 7 (omega arith) (λ q. omega arith) (λ q. omega arith)) (λ f d. never (sym d ∙ e))
 
   setpoint-stays : isFrom k 9 10 ≡ false → value (written p k v) 20 ≡ changed (value p) k v 20
-  unfolding limitedAnew
   setpoint-stays e =
-      by-way (λ (q : Parameters). value q 20 ≡ changed (value p) k v 20) (λ f. never (sym e ∙ f)) (λ f d. set-later 21 _ (omega arith) 20 (λ q. omega arith)) (λ f d. next-is 20)
+      by-way (λ (q : Parameters). value q 20 ≡ changed (value p) k v 20) (λ f. never (sym e ∙ f))
+      (λ f d. anew-other next next-size 21 8 7 (omega arith) 20 (λ q. omega arith) ∙ next-is 20) (λ f d. next-is 20)
 
   ratio-stays : isFrom k 7 8 ≡ false → value (written p k v) 21 ≡ changed (value p) k v 21
-  unfolding limitedAnew
   ratio-stays e =
-      by-way (λ (q : Parameters). value q 21 ≡ changed (value p) k v 21) (λ f. set-later 20 _ (omega arith) 21 (λ q. omega arith)) (λ f d. never (sym e ∙ d)) (λ f d. next-is 21)
+      by-way (λ (q : Parameters). value q 21 ≡ changed (value p) k v 21)
+      (λ f. anew-other next next-size 20 10 9 (omega arith) 21 (λ q. omega arith) ∙ next-is 21) (λ f d. never (sym e ∙ d))
+      (λ f d. next-is 21)
 
   module _ (range : inRange (ruleOf k) (value p) v ≡ true) (order : pairInOrder (ruleOf k) (value p) k v ≡ true) where
-    row-kept : (n : ℕ) → 1 ≤ n → n ≤ 23 → (n ≡ 20 → ⊥) → (n ≡ 21 → ⊥) → isBetween (ruleOf n) ≡ false → (isPair (ruleOf n) ≡ true → Paired n) →
-        keeps (ruleOf n) (value (written p k v)) n ≡ true
-    row-kept n a b c d between pair = own (eqb n k) refl
+    row-kept : (n : ℕ) → 1 ≤ n → n ≤ 23 → (n ≡ 20 → ⊥) → (n ≡ 21 → ⊥) → keeps (ruleOf n) (value (written p k v)) n ≡ true
+    row-kept n a b c d = own (eqb n k) refl
       where
+        row : Row n
+        row = row-of n a b c d
+
         g : ℕ → ℤ
         g = value (written p k v)
 
         partner-is : isPair (ruleOf n) ≡ true → g (partner n) ≡ changed (value p) k v (partner n)
-        partner-is e = let m = partner-most n (pair e .most) in elsewhere (partner n) (λ q. omega arith) (λ q. omega arith)
+        partner-is e = let m = partner-most n (row .most e) in elsewhere (partner n) (λ q. omega arith) (λ q. omega arith)
 
         same-value : (m : ℕ) → (m ≡ k → ⊥) → changed (value p) k v m ≡ value p m
         same-value m h = rw (ne-eqb m k h) refl
@@ -237,46 +122,35 @@ module _ (p : Parameters) (legal : Legal p) (k : ℕ) (v : ℤ) (first : 1 ≤ k
         other : (n ≡ k → ⊥) → (t : Bool) → isPair (ruleOf n) ≡ t → (u : Bool) → eqb (partner n) k ≡ u → keeps (ruleOf n) g n ≡ true
         other h true e true q =
             let here = eqb-true (partner n) k q in
-            other-row (ruleOf n) (value p) g n v a e (elsewhere n c d ∙ same-value n h) (partner-is e ∙ new-value (partner n) here) (legal .rules n a b)
-            (ap (λ (r : Rule). pairInOrder r (value p) (partner n) v) (sym (pair e .row)) ∙ rw here order)
+            other-row (ruleOf n) (value p) g n v a e (elsewhere n c d ∙ same-value n h) (partner-is e ∙ new-value (partner n) here)
+            (legal .rules n a b)
+            (ap (λ (r : Rule). pairInOrder r (value p) (partner n) v) (sym (row .paired e)) ∙ rw here order)
         other h true e false q =
-            same-row (ruleOf n) (value p) g n between (elsewhere n c d ∙ same-value n h)
+            same-row (ruleOf n) (value p) g n (row .own) (elsewhere n c d ∙ same-value n h)
             (λ s. partner-is s ∙ same-value (partner n) (eqb-false (partner n) k q)) ∙ legal .rules n a b
         other h false e u q =
-            same-row (ruleOf n) (value p) g n between (elsewhere n c d ∙ same-value n h) (λ s. never (sym e ∙ s)) ∙ legal .rules n a b
+            same-row (ruleOf n) (value p) g n (row .own) (elsewhere n c d ∙ same-value n h) (λ s. never (sym e ∙ s)) ∙ legal .rules n a b
 
         own : (t : Bool) → eqb n k ≡ t → keeps (ruleOf n) g n ≡ true
         own true e =
             let here = eqb-true n k e in
-            own-row (ruleOf n) (value p) g n v between (elsewhere n c d ∙ new-value n here)
+            own-row (ruleOf n) (value p) g n v (row .own) (elsewhere n c d ∙ new-value n here)
             (λ s. partner-is s ∙ same-value (partner n) (λ q. partner-differs n a (q ∙ sym here)))
             (rw here range) (rw here order)
         own false e = other (eqb-false n k e) (isPair (ruleOf n)) refl (eqb (partner n) k) refl
-
-    kept-to-19 : (n : ℕ) → 1 ≤ n → n ≤ 19 → keeps (ruleOf n) (value (written p k v)) n ≡ true
-    kept-to-19 n a b = row-kept n a (omega arith) (λ q. omega arith) (λ q. omega arith) (no-between n a b) (paired n a b)
-
-    kept-from-22 : (n : ℕ) → 22 ≤ n → n ≤ 23 → keeps (ruleOf n) (value (written p k v)) n ≡ true
-    unfolding ruleOf
-    kept-from-22 n a b =
-        each-in (λ (m : ℕ). (m ≡ 20 → ⊥) → (m ≡ 21 → ⊥) → keeps (ruleOf m) (value (written p k v)) m ≡ true) 2 22 n
-        (λ c d. row-kept 22 (omega arith) (omega arith) c d refl never, (λ c d. row-kept 23 (omega arith) (omega arith) c d refl never, tt)) a (omega arith)
-        (λ q. omega arith) (λ q. omega arith)
 
     -- SL and RS: limited anew, or as before between limits as before
     between-kept : (m low high : ℕ) (anew : Bool) (x : ℤ) → 1 ≤ m → m ≤ 23 → low ≤ 19 → high ≤ 19 → ruleOf m ≡ Between low high →
         let g = value (written p k v) in
         leZ (g low) (g high) ≡ true → (anew ≡ true → g m ≡ limited (g low) (g high) x) →
         (anew ≡ false → (g m ≡ changed (value p) k v m) × (low ≡ k → ⊥) × (high ≡ k → ⊥)) → keeps (ruleOf m) g m ≡ true
-    between-kept m low high true x a b l h row sound limits stays =
-        let g = value (written p k v) in
-        let least : leZ (g low) (limited (g low) (g high) x) ≡ true = omega (arith, integers, limited-low (g low) (g high) x (omega (arith, integers, sound))) in
-        let most : leZ (limited (g low) (g high) x) (g high) ≡ true = omega (arith, integers, limited-high (g low) (g high) x) in
-        rw (row, limits refl, least, most) refl
+    between-kept m low high true x a b l h row sound limits stays = limited-row (value (written p k v)) m low high x row sound (limits refl)
     between-kept m low high false x a b l h row sound limits stays =
         let s = stays refl in
-        let low-is : value (written p k v) low ≡ value p low = elsewhere low (λ q. omega arith) (λ q. omega arith) ∙ rw (ne-eqb low k (s .1)) refl in
-        let high-is : value (written p k v) high ≡ value p high = elsewhere high (λ q. omega arith) (λ q. omega arith) ∙ rw (ne-eqb high k (s .2)) refl in
+        let low-is : value (written p k v) low ≡ value p low =
+        elsewhere low (λ q. omega arith) (λ q. omega arith) ∙ rw (ne-eqb low k (s .1)) refl in
+        let high-is : value (written p k v) high ≡ value p high =
+        elsewhere high (λ q. omega arith) (λ q. omega arith) ∙ rw (ne-eqb high k (s .2)) refl in
         rw (row, low-is, high-is, s .0) (own (eqb m k) refl)
       where
         own : (t : Bool) → eqb m k ≡ t → (isWithin (value p low) (value p high) (if t then v else value p m) && true) ≡ true
@@ -287,10 +161,13 @@ module _ (p : Parameters) (legal : Legal p) (k : ℕ) (v : ℤ) (first : 1 ≤ k
     unfolding ruleOf
     written-legal =
         let g = value (written p k v) in
-        let kept-9 = kept-to-19 9 (omega arith) (omega arith) in
-        let kept-7 = kept-to-19 7 (omega arith) (omega arith) in
-        legal-by (written p k v) written-size (elsewhere 0 (λ q. omega arith) (λ q. omega arith) ∙ rw (ne-eqb 0 k (λ q. omega arith)) (legal .unused)) kept-to-19 kept-from-22
-        (between-kept 20 10 9 (isFrom k 9 10) (value next 20) (omega arith) (omega arith) (omega arith) (omega arith) refl (both (inRange (ruleOf 9) g (g 9)) (leZ (g 10) (g 9)) kept-9 .1) setpoint-anew
+        let kept-9 = row-kept 9 (omega arith) (omega arith) (λ q. omega arith) (λ q. omega arith) in
+        let kept-7 = row-kept 7 (omega arith) (omega arith) (λ q. omega arith) (λ q. omega arith) in
+        legal-by (written p k v) written-size
+        (elsewhere 0 (λ q. omega arith) (λ q. omega arith) ∙ rw (ne-eqb 0 k (λ q. omega arith)) (legal .unused)) row-kept
+        (between-kept 20 10 9 (isFrom k 9 10) (value next 20) (omega arith) (omega arith) (omega arith) (omega arith) refl
+        (both (inRange (ruleOf 9) g (g 9)) (leZ (g 10) (g 9)) kept-9 .1) setpoint-anew
         (λ e. (setpoint-stays e, not-from k 9 10 e 10 (omega arith) (omega arith), not-from k 9 10 e 9 (omega arith) (omega arith))))
-        (between-kept 21 8 7 (isFrom k 7 8) (value next 21) (omega arith) (omega arith) (omega arith) (omega arith) refl (both (inRange (ruleOf 7) g (g 7)) (leZ (g 8) (g 7)) kept-7 .1) ratio-anew
+        (between-kept 21 8 7 (isFrom k 7 8) (value next 21) (omega arith) (omega arith) (omega arith) (omega arith) refl
+        (both (inRange (ruleOf 7) g (g 7)) (leZ (g 8) (g 7)) kept-7 .1) ratio-anew
         (λ e. (ratio-stays e, not-from k 7 8 e 8 (omega arith) (omega arith), not-from k 7 8 e 7 (omega arith) (omega arith))))

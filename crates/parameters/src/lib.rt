@@ -5,10 +5,12 @@ ghost use Rattle.parameters.specs.Table.{value, withValue};
 mod rows;
 mod written;
 
-// The values by their numbers; entry 0 is not used.
+// The values by their numbers, IC the last; entry 0 is not used.
 pub struct Parameters {
-    pub values: [i64; 24],
+    pub values: [i64; VALUE_COUNT],
 }
+
+pub const VALUE_COUNT: usize = IC as usize + 1;
 
 // What a parameter's number asks of a value that is written: the row of the table that it stands in.
 pub enum Rule {
@@ -20,7 +22,8 @@ pub enum Rule {
     Word(i64, i64),
     // a range alone, from least to most
     Free(i64, i64),
-    // a range, and an order: the upper one of a pair has the odd number and the lower one the next; strictly in order where true
+    // a range, and an order: the upper one of a pair has the odd number and the lower one the next;
+    // strictly in order where true
     Pair(i64, i64, bool),
     // between two other parameters, the lower and the upper one, named by their numbers
     Between(u64, u64),
@@ -91,20 +94,28 @@ pub const ER: u64 = 31;
 
 pub const MP: u64 = 32;
 
+// The greatest output, in units: as HO and LO hold it, and as OP, electrical output and a sample do.
+pub const OUTPUT_MOST: i64 = 9999;
+
+pub const OP_MOST: u16 = OUTPUT_MOST as u16;
+
+// IC: channel 1's sample is rooted.
+pub const ROOT: i64 = 1;
+
 impl Parameters {
     // The value of a parameter, 0 for a number above 23. The contract rules out a neighbour's value.
     pub fn get(self, number: u64) -> i64
         ensures { λ r. ⌜ r ≡ value self number ⌝ }
     {
         let place = number as usize;
-        if number < 24 { self.values[place] } else { 0 }
+        if number <= IC { self.values[place] } else { 0 }
     }
 
     // The same but for one value. The contract rules out that another one changes.
     pub fn with(mut self, number: u64, to: i64) -> Parameters
         ensures { λ r. ⌜ r ≡ withValue self number to ⌝ }
     {
-        if number < 24 {
+        if number <= IC {
             self.values[number as usize] = to;
         }
         self

@@ -86,8 +86,8 @@ impl Rule {
         }
     }
 
-    // Whether v and the stored value of the other one are in order. The contract rules out the wrong sense, another partner, and equal ends
-    // of a channel.
+    // Whether v and the stored value of the other one are in order. The contract rules out the wrong
+    // sense, another partner, and equal ends of a channel.
     pub fn pair_in_order(self, p: Parameters, number: u64, v: i64) -> bool
         requires { ⌜ 1 ≤ number × number ≤ 32 ⌝ }
         ensures { λ r. ⌜ r ≡ pairInOrder self (value p) number v ⌝ }

@@ -21,8 +21,8 @@ impl Parameters {
     {
         let next = self.with(number, v);
         match number {
-            9..=10 => next.limited_anew(crate::SL, crate::LS, crate::HS),
-            7..=8 => next.limited_anew(crate::RS, crate::LR, crate::HR),
+            crate::HS..=crate::LS => next.limited_anew(crate::SL, crate::LS, crate::HS),
+            crate::HR..=crate::LR => next.limited_anew(crate::RS, crate::LR, crate::HR),
             _ => next,
         }
     }

@@ -36,7 +36,8 @@ pub fn root(sample: u16) -> u16
     found as u16
 }
 
-// n / d nearest, halves up, with the sign of q: halves away from zero. Only magnitudes far below the type's end are asked for.
+// n / d nearest, halves up, with the sign of q: halves away from zero. Only magnitudes far below the
+// type's end are asked for.
 fn with_sign(q: i64, n: u64, d: u64) -> i64
     requires { ⌜ (n ≤ 100000000) × (1 ≤ d) ⌝ }
     ensures { λ r. ⌜ r ≡ fromSign (isNegative q) (halfUp n d) ⌝ }
@@ -45,7 +46,8 @@ fn with_sign(q: i64, n: u64, d: u64) -> i64
     integers::signed(integers::negative(q), size)
 }
 
-// 100 × q / s, nearest, halves away from zero. The contract rules out a half toward zero and one that goes up below zero.
+// 100 × q / s, nearest, halves away from zero. The contract rules out a half toward zero and one that
+// goes up below zero.
 pub fn ratio(q: i64, s: u64) -> i64
     requires { ⌜ RatioRange q s ⌝ }
     ensures { λ r. ⌜ r ≡ ratioQuotient q s ⌝ }
@@ -53,7 +55,8 @@ pub fn ratio(q: i64, s: u64) -> i64
     with_sign(q, 100 * integers::magnitude(q), s)
 }
 
-// q × s / 100, nearest, halves away from zero: the quotient with S2.3 ON. The contract rules out what that of `ratio` does.
+// q × s / 100, nearest, halves away from zero: the quotient with S2.3 ON. The contract rules out what
+// that of `ratio` does.
 pub fn inverse_ratio(q: i64, s: u64) -> i64
     requires { ⌜ RatioRange q s ⌝ }
     ensures { λ r. ⌜ r ≡ inverseQuotient q s ⌝ }

@@ -1,3 +1,3 @@
-pub mod Reckoning
-pub mod ReckoningLaws
+pub mod Computation
+pub mod ComputationLaws
 pub mod Setpoints

@@ -8,10 +8,10 @@ use Rattle.integers.specs.Limit.{limited}
 use Rattle.scaling.specs.Ratio.{ratioQuotient, inverseQuotient}
 use Rattle.scaling.specs.Root.{rootOf}
 use Rattle.scaling.specs.Scale.{scaled}
-use Rattle.signals.specs.Signals.{buttonsOf, pushOf, isOpen}
+use Rattle.signals.specs.Signals.{buttonsOf, adjustmentOf, isOpen}
 use Rattle.signals.specs.declared.Input.{Input}
-use Rattle.signals.specs.declared.Push.{Push}
-use Rattle.signals.specs.declared.Push.the-variants.{Raise, Lower, Neither}
+use Rattle.signals.specs.declared.Adjustment.{Adjustment}
+use Rattle.signals.specs.declared.Adjustment.the-variants.{Raise, Lower, Neither}
 use Rattle.signals.specs.declared.Switches.{Switches}
 use Rattle.modes.specs.Modes.{isAutomatic, isTrack, isRemote, isRatio}
 use Rattle.modes.specs.declared.Mode.{Mode}
@@ -34,8 +34,8 @@ thirdChannel p i = scaled (L3 p) (H3 p) (i .sample3)
 
 -- ---- step 4
 
--- "one of them moves .. by .., the result then limited to"; "Raise and Lower together do nothing": `pushOf`
-abbrev pub moved : Push → ℤ → ℤ → ℤ → ℤ → ℤ
+-- "one of them moves .. by .., the result then limited to"; "Raise and Lower together do nothing": `adjustmentOf`
+abbrev pub moved : Adjustment → ℤ → ℤ → ℤ → ℤ → ℤ
 moved Raise by low high v = limited low high (v +ℤ by)
 moved Lower by low high v = limited low high (v -ℤ by)
 moved Neither by low high v = v
@@ -44,7 +44,7 @@ moved Neither by low high v = v
 unfoldable pub movedByHand : Input → Bool → ℤ → ℤ → ℤ → ℤ → ℤ
 movedByHand i here by low high v =
     let b = buttonsOf (i .buttons) in
-    if b .sp && here then moved (pushOf b) by low high v else v
+    if b .sp && here then moved (adjustmentOf b) by low high v else v
 
 -- "RS by 12 in Ratio"
 unfoldable pub ratioAfter : Parameters → Mode → Input → ℤ
@@ -79,8 +79,8 @@ remoteSetpoint p trim i = scaled (L1 p) (H1 p) (i .sample2) +ℤ trim
 abbrev pub quotientOf : Bool → ℤ → ℕ → ℤ
 quotientOf inverse q s = if inverse then inverseQuotient q s else ratioQuotient q s
 
--- "In Ratio s is the sum RS + trim, that sum limited to LR..HR" and so 1 or more, "q is channel 2 scaled by 2L, 2H, and SP is 100 × q / s + RB, or with
--- S2.3 ON q × s / 100 + RB"; the quotient is rounded before RB is added
+-- "In Ratio s is the sum RS + trim, that sum limited to LR..HR" and so 1 or more, "q is channel 2 scaled by 2L,
+-- 2H, and SP is 100 × q / s + RB, or with S2.3 ON q × s / 100 + RB"; the quotient is rounded before RB is added
 unfoldable pub ratioSetpoint : Parameters → Bool → ℤ → ℤ → Input → ℤ
 ratioSetpoint p inverse rs trim i =
     let q = scaled (L2 p) (H2 p) (i .sample2) in

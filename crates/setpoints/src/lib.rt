@@ -7,13 +7,15 @@ ghost use Rattle.scaling.specs.Ratio.{RatioRange};
 ghost use Rattle.scaling.specs.Scale.{scaled, ChannelRange};
 ghost use Rattle.parameters.specs.Legal.{Legal};
 ghost use Rattle.parameters.specs.Table.{value, HS, LS};
-ghost use Rattle.setpoints.specs.Reckoning.{reckoned, lowAlarm, highAlarm};
-ghost use Rattle.setpoints.specs.ReckoningLaws.{Sampled};
-ghost use Rattle.setpoints.specs.Setpoints.{firstSample, processVariable, thirdChannel, moved, movedByHand, ratioAfter, setpointMoved, setpointAfter, trimOf, localSetpoint, remoteSetpoint, quotientOf, ratioSetpoint, setpointIn, measuredPower};
+ghost use Rattle.setpoints.specs.Computation.{computed, lowAlarm, highAlarm};
+ghost use Rattle.setpoints.specs.ComputationLaws.{SampleRange};
+ghost use Rattle.setpoints.specs.Setpoints.{firstSample, processVariable, thirdChannel, moved, movedByHand};
+ghost use Rattle.setpoints.specs.Setpoints.{ratioAfter, setpointMoved, setpointAfter, trimOf, localSetpoint};
+ghost use Rattle.setpoints.specs.Setpoints.{remoteSetpoint, quotientOf, ratioSetpoint, setpointIn, measuredPower};
 use modes::Mode;
 use parameters::Parameters;
+use signals::Adjustment;
 use signals::Input;
-use signals::Push;
 use signals::Switches;
 
 // PV, SP, ER and MP of a scan.
@@ -25,10 +27,18 @@ pub struct Readings {
 }
 
 // What steps 1, 4 and 5 leave: the parameters with SL and RS moved, and the readings.
-pub struct Reckoned {
+pub struct Computed {
     pub parameters: Parameters,
     pub readings: Readings,
 }
+
+// What Raise or Lower moves RS and SL by while SP is held.
+const RATIO_STEP: i64 = 12;
+
+const SETPOINT_STEP: i64 = 1;
+
+// The magnitude of IC where channel 1's sample is rooted.
+const ROOT: u64 = parameters::ROOT as u64;
 
 // A sample scaled by the two parameters of these numbers.
 fn channel(p: Parameters, low: u64, high: u64, sample: u16) -> i64
@@ -45,7 +55,7 @@ fn first_sample(p: Parameters, sample: u16) -> u16
     ensures { λ r. ⌜ (r ≡ firstSample p sample) × (r ≤ 10000) ⌝ }
 {
     let ic = p.get(parameters::IC);
-    let rooted = integers::magnitude(ic) == 1;
+    let rooted = integers::magnitude(ic) == ROOT;
     if rooted {
         scaling::root(sample)
     } else {
@@ -54,7 +64,7 @@ fn first_sample(p: Parameters, sample: u16) -> u16
 }
 
 fn process_variable(p: Parameters, input: Input) -> i64
-    requires { ⌜ Legal p × Sampled input ⌝ }
+    requires { ⌜ Legal p × SampleRange input ⌝ }
     ensures { λ r. ⌜ r ≡ processVariable p input ⌝ }
 {
     let sample = first_sample(p, input.sample1);
@@ -65,26 +75,26 @@ fn process_variable(p: Parameters, input: Input) -> i64
 }
 
 fn third_channel(p: Parameters, input: Input) -> i64
-    requires { ⌜ Legal p × Sampled input ⌝ }
+    requires { ⌜ Legal p × SampleRange input ⌝ }
     ensures { λ r. ⌜ r ≡ thirdChannel p input ⌝ }
 {
     channel(p, parameters::L3, parameters::H3, input.sample3)
 }
 
-fn moved(push: Push, by: i64, low: i64, high: i64, v: i64) -> i64
+fn moved(adjustment: Adjustment, by: i64, low: i64, high: i64, v: i64) -> i64
     requires { ⌜ Small by × Small v ⌝ }
-    ensures { λ r. ⌜ r ≡ moved push by low high v ⌝ }
+    ensures { λ r. ⌜ r ≡ moved adjustment by low high v ⌝ }
 {
-    match push {
-        Push::Raise => {
+    match adjustment {
+        Adjustment::Raise => {
             let to = integers::plus(v, by);
             integers::limit(low, high, to)
         }
-        Push::Lower => {
+        Adjustment::Lower => {
             let to = integers::minus(v, by);
             integers::limit(low, high, to)
         }
-        Push::Neither => v,
+        Adjustment::Neither => v,
     }
 }
 
@@ -93,8 +103,8 @@ fn moved_by_hand(input: Input, here: bool, by: i64, low: i64, high: i64, v: i64)
     ensures { λ r. ⌜ r ≡ movedByHand input here by low high v ⌝ }
 {
     let b = signals::buttons_of(input.buttons);
-    let push = signals::push_of(b);
-    let to = moved(push, by, low, high, v);
+    let adjustment = signals::adjustment_of(b);
+    let to = moved(adjustment, by, low, high, v);
     integers::choose(b.sp & here, to, v)
 }
 
@@ -106,7 +116,7 @@ fn ratio_after(p: Parameters, mode: Mode, input: Input) -> i64
     let rs = p.get(parameters::RS);
     let low = p.get(parameters::LR);
     let high = p.get(parameters::HR);
-    moved_by_hand(input, ratio, 12, low, high, rs)
+    moved_by_hand(input, ratio, RATIO_STEP, low, high, rs)
 }
 
 fn setpoint_moved(p: Parameters, mode: Mode, input: Input) -> i64
@@ -118,7 +128,7 @@ fn setpoint_moved(p: Parameters, mode: Mode, input: Input) -> i64
     let sl = p.get(parameters::SL);
     let low = p.get(parameters::LS);
     let high = p.get(parameters::HS);
-    moved_by_hand(input, !ratio & !remote, 1, low, high, sl)
+    moved_by_hand(input, !ratio & !remote, SETPOINT_STEP, low, high, sl)
 }
 
 // SL after step 4. The contract rules out a setpoint that follows PV in an automatic mode or while channel 1 is open.
@@ -136,7 +146,7 @@ fn setpoint_after(p: Parameters, setpointtracks: bool, mode: Mode, input: Input,
 }
 
 fn trim_of(p: Parameters, measuredpower: bool, mode: Mode, input: Input) -> i64
-    requires { ⌜ Legal p × Sampled input ⌝ }
+    requires { ⌜ Legal p × SampleRange input ⌝ }
     ensures { λ r. ⌜ r ≡ trimOf p measuredpower mode input ⌝ }
 {
     let third = third_channel(p, input);
@@ -153,7 +163,7 @@ fn local_setpoint(sl: i64, ratioswitch: bool, trim: i64) -> i64
 }
 
 fn remote_setpoint(p: Parameters, trim: i64, input: Input) -> i64
-    requires { ⌜ Legal p × Sampled input × Small trim ⌝ }
+    requires { ⌜ Legal p × SampleRange input × Small trim ⌝ }
     ensures { λ r. ⌜ r ≡ remoteSetpoint p trim input ⌝ }
 {
     let second = channel(p, parameters::L1, parameters::H1, input.sample2);
@@ -172,7 +182,7 @@ fn ratio_quotient(inverse: bool, q: i64, s: u64) -> i64
 }
 
 fn ratio_setpoint(p: Parameters, inverse: bool, rs: i64, trim: i64, input: Input) -> i64
-    requires { ⌜ Legal p × Sampled input × Small rs × Small trim ⌝ }
+    requires { ⌜ Legal p × SampleRange input × Small rs × Small trim ⌝ }
     ensures { λ r. ⌜ r ≡ ratioSetpoint p inverse rs trim input ⌝ }
 {
     let q = channel(p, parameters::L2, parameters::H2, input.sample2);
@@ -195,7 +205,7 @@ fn setpoint_in(
     trim: i64,
     input: Input,
 ) -> i64
-    requires { ⌜ Legal p × Sampled input × Small sl × Small rs × Small trim ⌝ }
+    requires { ⌜ Legal p × SampleRange input × Small sl × Small rs × Small trim ⌝ }
     ensures { λ r. ⌜ r ≡ setpointIn p s mode sl rs trim input ⌝ }
 {
     let remote = modes::is_remote(mode);
@@ -219,18 +229,24 @@ fn limited_setpoint(p: Parameters, v: i64) -> i64
 }
 
 fn measured_power(p: Parameters, measuredpower: bool, input: Input) -> i64
-    requires { ⌜ Legal p × Sampled input ⌝ }
+    requires { ⌜ Legal p × SampleRange input ⌝ }
     ensures { λ r. ⌜ r ≡ measuredPower p measuredpower input ⌝ }
 {
     let third = third_channel(p, input);
     integers::choose(measuredpower, third, 0)
 }
 
-// Steps 1, 4 and 5 of an accepted scan in this mode. The contract rules out a rule of another mode, a limit left out, a trim added twice, and
-// any other parameter changed.
-pub fn reckon(p: Parameters, s: Switches, measuredpower: bool, mode: Mode, input: Input) -> Reckoned
-    requires { ⌜ Legal p × Sampled input ⌝ }
-    ensures { λ r. ⌜ r ≡ reckoned p s measuredpower mode input ⌝ }
+// Steps 1, 4 and 5 of an accepted scan in this mode. The contract rules out a rule of another mode, a
+// limit left out, a trim added twice, and any other parameter changed.
+pub fn compute(
+    p: Parameters,
+    s: Switches,
+    measuredpower: bool,
+    mode: Mode,
+    input: Input,
+) -> Computed
+    requires { ⌜ Legal p × SampleRange input ⌝ }
+    ensures { λ r. ⌜ r ≡ computed p s measuredpower mode input ⌝ }
 {
     let pv = process_variable(p, input);
     let sl = setpoint_after(p, s.setpointtracks, mode, input, pv);
@@ -245,7 +261,7 @@ pub fn reckon(p: Parameters, s: Switches, measuredpower: bool, mode: Mode, input
     let to = integers::choose(remote | ratio, sp, sl);
     let moved = p.with(parameters::SL, to);
     let parameters = moved.with(parameters::RS, rs);
-    Reckoned {
+    Computed {
         parameters,
         readings: Readings { pv, sp, er, mp },
     }

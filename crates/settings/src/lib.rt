@@ -1,16 +1,39 @@
-// The settings that an image carries, as the values of its fields, and back.
+// The settings that an image holds, as the values of its fields, and back.
 ghost use mathlib.Core.Path.{_≡_};
 ghost use Prim.Native.Nat.{_≤_};
-ghost use Rattle.signals.specs.Refusals.{numberIn, declinedBy};
+ghost use Rattle.signals.specs.Refusals.{numberIn, refusedBy};
 ghost use Rattle.fields.specs.Fields.{withSumcheck, saveTests, savedIn};
 ghost use Rattle.parameters.specs.Legal.{Legal};
-ghost use Rattle.settings.specs.Settings.{requestNumber, faultNumber, marksNumber, valueAt, valuesOf, imageOf};
+ghost use Rattle.settings.specs.Settings.{requestNumber, faultNumber, userBitsNumber, valueAt, valuesOf, imageOf};
 use modes::Request;
 use parameters::Parameters;
 use signals::Verdict;
-use words::Marks;
+use words::UserBits;
 
-pub mod carried;
+pub mod decoding;
+
+// The numbers of the requests and of the memory fault in their fields.
+const MANUAL: u16 = 0;
+
+const AUTO: u16 = 1;
+
+const REMOTE: u16 = 2;
+
+const FAULT_CLEAR: u16 = 0;
+
+const FAULT_SET: u16 = 1;
+
+// The bits of field 44h, and its value with all of them set.
+const USER1: u16 = 0;
+
+const USER2: u16 = 1;
+
+const MEASURED_POWER: u16 = 2;
+
+const USER_BITS_MOST: u16 = 7;
+
+// The place of the last parameter's field.
+const LAST_PARAMETER: usize = fields::OP - 1;
 
 // Parameters 1 to 23, OP, request, memory fault, and user bits with MD bit 4: in the order of their fields.
 pub struct Settings {
@@ -18,69 +41,70 @@ pub struct Settings {
     pub op: u16,
     pub request: Request,
     pub fault: bool,
-    pub marks: Marks,
+    pub userbits: UserBits,
 }
 
 fn request_number(request: Request) -> u16
     ensures { λ r. ⌜ r ≡ requestNumber request ⌝ }
 {
     match request {
-        Request::Manual => 0,
-        Request::Auto => 1,
-        Request::Remote => 2,
+        Request::Manual => MANUAL,
+        Request::Auto => AUTO,
+        Request::Remote => REMOTE,
     }
 }
 
 fn fault_number(fault: bool) -> u16
     ensures { λ r. ⌜ r ≡ faultNumber fault ⌝ }
 {
-    if fault { 1 } else { 0 }
+    if fault { FAULT_SET } else { FAULT_CLEAR }
 }
 
-fn marks_number(marks: Marks) -> u16
-    ensures { λ r. ⌜ r ≡ marksNumber marks ⌝ }
+fn user_bits_number(userbits: UserBits) -> u16
+    ensures { λ r. ⌜ r ≡ userBitsNumber userbits ⌝ }
 {
-    words::weight(marks.user1, 1)
-        + words::weight(marks.user2, 2)
-        + words::weight(marks.measuredpower, 4)
+    words::weight(userbits.user1, 1 << USER1)
+        + words::weight(userbits.user2, 1 << USER2)
+        + words::weight(userbits.measuredpower, 1 << MEASURED_POWER)
 }
 
 impl Settings {
     // The value of the field with this place, the sumcheck's not among them.
-    fn value_at(self, place: u64) -> u16
+    fn value_at(self, place: usize) -> u16
         requires { ⌜ Legal (self .parameters) × place ≤ 26 ⌝ }
         ensures { λ r. ⌜ r ≡ valueAt self place ⌝ }
     {
         let parameters = self.parameters;
         let request = self.request;
-        let marks = self.marks;
+        let userbits = self.userbits;
         match place {
-            0..=22 => integers::as_word(parameters.get(place + 1)),
-            23 => self.op,
-            24 => request_number(request),
-            25 => fault_number(self.fault),
-            _ => marks_number(marks),
+            0..=LAST_PARAMETER => integers::as_word(parameters.get((place + 1) as u64)),
+            fields::OP => self.op,
+            fields::REQUEST => request_number(request),
+            fields::FAULT => fault_number(self.fault),
+            _ => user_bits_number(userbits),
         }
     }
 
     // The values of all fields, the sumcheck behind them.
-    fn values(self) -> [u16; 28]
+    fn values(self) -> [u16; fields::FIELD_COUNT]
         requires { ⌜ Legal (self .parameters) ⌝ }
         ensures { λ r. ⌜ r ≡ withSumcheck (valuesOf self) ⌝ }
     {
-        let mut values: [u16; 28] = [0; 28];
+        let mut values: [u16; fields::FIELD_COUNT] = [0; fields::FIELD_COUNT];
         let mut place: usize = 0;
-        while place < 27 {
-            values[place] = self.value_at(place as u64);
+        while place < fields::SUMCHECK {
+            values[place] = self.value_at(place);
             place += 1;
         }
         fields::with_sumcheck(values)
     }
 
-    // Lays the image down in a lent buffer. The contract gives the verdict and every byte of the buffer.
+    // Encodes the image in the caller's buffer. The contract gives the verdict and every byte of the buffer.
     pub fn save(self, buffer: &mut [u8]) -> Verdict
         requires { ⌜ Legal (self .parameters) ⌝ }
-        ensures { λ r. ⌜ (numberIn r ≡ declinedBy (saveTests (now (buffer .entry)))) × (now (buffer .exit) ≡ savedIn (imageOf self) (now (buffer .entry))) ⌝ }
+        ensures { λ r. ⌜ (numberIn r ≡ refusedBy (saveTests (now (buffer .entry))))
+            × (now (buffer .exit) ≡ savedIn (imageOf self) (now (buffer .entry))) ⌝ }
     {
         let values = self.values();
         fields::save(values, buffer)

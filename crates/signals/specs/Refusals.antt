@@ -8,7 +8,9 @@ use Rattle.integers.specs.Choice.{if_then_else_}
 use Rattle.signals.specs.Bits.{bit}
 use Rattle.signals.specs.declared.Input.{Input}
 use Rattle.signals.specs.declared.Refusal.{Refusal}
-use Rattle.signals.specs.declared.Refusal.the-variants.{Sample, ButtonBits, SensorBits, Number, ReadOnly, Range, Pair, Setpoint, RequestBits, RemotePin, Cause, ImageLength, ImageField, ImageValue, ShortBuffer}
+use Rattle.signals.specs.declared.Refusal.the-variants.{Sample, ButtonBits, SensorBits, Number, ReadOnly, Range, Pair}
+use Rattle.signals.specs.declared.Refusal.the-variants.{Setpoint, RequestBits, RemotePin, Cause}
+use Rattle.signals.specs.declared.Refusal.the-variants.{ImageLength, ImageField, ImageValue, ShortBuffer}
 use Rattle.signals.specs.declared.Verdict.{Verdict}
 use Rattle.signals.specs.declared.Verdict.the-variants.{Accepted, Refused}
 
@@ -36,9 +38,9 @@ numberIn Accepted = none
 numberIn (Refused refusal) = some (numberOf refusal)
 
 -- "Within a group the lowest number wins.": of tests listed by their numbers, the number of the first that holds
-unfoldable pub declinedBy : List (Bool × ℕ) → Option ℕ
-declinedBy [] = none
-declinedBy (t ∷ ts) = if t .0 then some (t .1) else declinedBy ts
+unfoldable pub refusedBy : List (Bool × ℕ) → Option ℕ
+refusedBy [] = none
+refusedBy (t ∷ ts) = if t .0 then some (t .1) else refusedBy ts
 
 -- "Plant: 1 a sample above 10000; 2 button bits 5 or 4 set; 3 sensor bits above 1 set."
 unfoldable pub scanTests : Input → List (Bool × ℕ)

@@ -2,8 +2,16 @@
 ghost use mathlib.Core.Path.{_≡_};
 ghost use Prim.Native.Nat.{_<_};
 ghost use Rattle.signals.specs.Bits.{bit};
-ghost use Rattle.signals.specs.Refusals.{numberOf, numberIn, declinedBy, scanTests};
-ghost use Rattle.signals.specs.Signals.{switchesOf, pinsOf, buttonsOf, pushOf, isOpen, batteryLow};
+ghost use Rattle.signals.specs.Refusals.{numberOf, numberIn, refusedBy, scanTests};
+ghost use Rattle.signals.specs.Signals.{switchesOf, pinsOf, buttonsOf, adjustmentOf, isOpen, batteryLow};
+
+mod bits;
+
+// The upper end of a channel's range.
+const GREATEST_SAMPLE: u16 = 10000;
+
+// A sensor byte with both its bits set.
+const GREATEST_SENSORS: u8 = 3;
 
 // The pin byte, the samples of channels 1 to 3, the button byte and the sensor byte of one scan.
 pub struct Input {
@@ -45,13 +53,14 @@ pub struct Buttons {
 }
 
 // What Raise and Lower ask for together.
-pub enum Push {
+pub enum Adjustment {
     Raise,
     Lower,
     Neither,
 }
 
-// Why a call is declined: 1 to 3 the plant's, 4 to 11 the writer's, of which 4 is a reader's too, 12 to 14 those of an image's bearer, 15 the lender's.
+// Why a call is refused: 1 to 3 the plant's, 4 to 11 the writer's, of which 4 is a reader's too, 12 to 14 a restart's,
+// 15 a save's.
 pub enum Refusal {
     // 1: a sample above 10000
     Sample,
@@ -104,14 +113,14 @@ pub fn switches_of(sw: u16) -> Switches
     ensures { λ r. ⌜ r ≡ switchesOf sw ⌝ }
 {
     Switches {
-        ratio: bit(sw, 15),
-        displayinversion: bit(sw, 14),
-        inverseratio: bit(sw, 13),
-        inverseoutput: bit(sw, 12),
-        powerfail: bit(sw, 11),
-        setpointtracks: bit(sw, 10),
-        minutes: bit(sw, 8),
-        balanceoff: bit(sw, 7),
+        ratio: bit(sw, bits::S2_1),
+        displayinversion: bit(sw, bits::S2_2),
+        inverseratio: bit(sw, bits::S2_3),
+        inverseoutput: bit(sw, bits::S2_4),
+        powerfail: bit(sw, bits::S2_5),
+        setpointtracks: bit(sw, bits::S2_6),
+        minutes: bit(sw, bits::S2_8),
+        balanceoff: bit(sw, bits::S1_1),
     }
 }
 
@@ -121,9 +130,9 @@ pub fn pins_of(byte: u8) -> Pins
 {
     let word = byte as u16;
     Pins {
-        hold: bit(word, 7),
-        track: bit(word, 6),
-        remote: bit(word, 5),
+        hold: bit(word, bits::HOLD_PIN),
+        track: bit(word, bits::TRACK_PIN),
+        remote: bit(word, bits::REMOTE_PIN),
     }
 }
 
@@ -133,23 +142,31 @@ pub fn buttons_of(byte: u8) -> Buttons
 {
     let word = byte as u16;
     Buttons {
-        lower: bit(word, 7),
-        raise: bit(word, 6),
-        sp: bit(word, 3),
-        r: bit(word, 2),
-        a: bit(word, 1),
-        m: bit(word, 0),
+        lower: bit(word, bits::LOWER),
+        raise: bit(word, bits::RAISE),
+        sp: bit(word, bits::SP),
+        r: bit(word, bits::R),
+        a: bit(word, bits::A),
+        m: bit(word, bits::M),
     }
 }
 
 // The contract rules out a push while both are pressed.
-pub fn push_of(b: Buttons) -> Push
-    ensures { λ r. ⌜ r ≡ pushOf b ⌝ }
+pub fn adjustment_of(b: Buttons) -> Adjustment
+    ensures { λ r. ⌜ r ≡ adjustmentOf b ⌝ }
 {
     if b.raise {
-        if b.lower { Push::Neither } else { Push::Raise }
+        if b.lower {
+            Adjustment::Neither
+        } else {
+            Adjustment::Raise
+        }
     } else {
-        if b.lower { Push::Lower } else { Push::Neither }
+        if b.lower {
+            Adjustment::Lower
+        } else {
+            Adjustment::Neither
+        }
     }
 }
 
@@ -157,14 +174,14 @@ pub fn push_of(b: Buttons) -> Push
 pub fn is_open(input: Input) -> bool
     ensures { λ r. ⌜ r ≡ isOpen input ⌝ }
 {
-    bit(input.sensors as u16, 0)
+    bit(input.sensors as u16, bits::CHANNEL_1_OPEN)
 }
 
 // The contract rules out channel 1's bit.
 pub fn battery_low(input: Input) -> bool
     ensures { λ r. ⌜ r ≡ batteryLow input ⌝ }
 {
-    bit(input.sensors as u16, 1)
+    bit(input.sensors as u16, bits::BATTERY_LOW)
 }
 
 impl Refusal {
@@ -192,14 +209,17 @@ impl Refusal {
     }
 }
 
-// Whether a scan's input is acceptable, or the lowest refusal that applies. The contract rules out a refusal for a cause that is not listed, one
-// that is forgotten, and a higher number where a lower one applies.
+// Whether a scan's input is acceptable, or the lowest refusal that applies. The contract rules out a refusal for a
+// cause that is not listed, one that is forgotten, and a higher number where a lower one applies.
 pub fn scan_verdict(input: Input) -> Verdict
-    ensures { λ r. ⌜ numberIn r ≡ declinedBy (scanTests input) ⌝ }
+    ensures { λ r. ⌜ numberIn r ≡ refusedBy (scanTests input) ⌝ }
 {
-    let sample = (10000 < input.sample1) | (10000 < input.sample2) | (10000 < input.sample3);
-    let buttons = bit(input.buttons as u16, 5) | bit(input.buttons as u16, 4);
-    let sensors = 3 < input.sensors;
+    let sample = (GREATEST_SAMPLE < input.sample1)
+        | (GREATEST_SAMPLE < input.sample2)
+        | (GREATEST_SAMPLE < input.sample3);
+    let buttons = bit(input.buttons as u16, bits::RESERVED)
+        | bit(input.buttons as u16, bits::MEASURED_POWER);
+    let sensors = GREATEST_SENSORS < input.sensors;
     if sample {
         return Verdict::Refused(Refusal::Sample);
     }

@@ -1,4 +1,5 @@
--- The stored term by sign and magnitude, as 64 bits can reckon it; what its arguments' ranges come to; and that it is near its exact term.
+-- The stored term by sign and magnitude, as 64 bits can compute it; what its arguments' ranges come to;
+-- and that it is near its exact term.
 use mathlib.Core.Path.{_≡_, refl, sym, ap, _∙_, subst}
 use mathlib.Core.Bool.{Bool, true, false, not, cond}
 use Prim.Native.Nat.{ℕ, _+_, _*_, _≤_, _<_, min}
@@ -18,7 +19,8 @@ use Rattle.integers.specs.Sign.{fromSign, isNegative, fromSign-times, natAbs-fr
 use Rattle.terms.specs.Fraction.{Fraction, Positive, whole, atLeast, atMost, limited, stored, storedUnits}
 use Rattle.terms.specs.Near.{Near}
 use Rattle.terms.specs.NearLaws.{stored-near, limited-positive}
-use Rattle.terms.specs.Terms.{limitedTerm, storedTerm, proportionalTerm, integralTerm, derivativeTerm, scanNumerator, scanDenominator, TuningRange}
+use Rattle.terms.specs.Terms.{limitedTerm, storedTerm, proportionalTerm, integralTerm}
+use Rattle.terms.specs.Terms.{derivativeTerm, scanNumerator, scanDenominator, TuningRange}
 use Rattle.terms.specs.declared.Tuning.{Tuning}
 
 abbrev pub over : ℤ → ℕ → Fraction
@@ -47,7 +49,8 @@ module _ (n d : ℕ) where
   beyond : (minus : Bool) → 10000 * d < n → limitedTerm (over (fromSign minus n) d) ≡ whole (fromSign minus 10000)
   unfolding limitedTerm limited atMost atLeast whole
   beyond true h =
-      let low : ltZ (negℤ (pos n)) (negℤ (pos 10000) *ℤ pos d) ≡ true = omega (arith, integers, negation (pos n), negation (pos (10000 * d))) in
+      let low : ltZ (negℤ (pos n)) (negℤ (pos 10000) *ℤ pos d) ≡ true =
+      omega (arith, integers, negation (pos n), negation (pos (10000 * d))) in
       simp low
   beyond false h =
       let kept : ltZ (pos n) (negℤ (pos 10000) *ℤ pos d) ≡ false = omega (arith, integers, negation (pos (10000 * d))) in
@@ -58,7 +61,8 @@ module _ (n d : ℕ) where
   unfolding stored storedUnits nearestEven
   stored-parts minus some = rw fromSign-times (sym (nearestBy-fromSign halfEven minus (n * 65536) d (halfEven-zero d some)))
 
-  pub term-within : (minus : Bool) → 0 < d → n ≤ 10000 * d → fromSign minus (halfEven (n * 65536) d) ≡ storedTerm (over (fromSign minus n) d)
+  pub term-within : (minus : Bool) → 0 < d → n ≤ 10000 * d →
+      fromSign minus (halfEven (n * 65536) d) ≡ storedTerm (over (fromSign minus n) d)
   unfolding storedTerm
   term-within minus some h = stored-parts minus some ∙ ap stored (sym (within minus h))
 
@@ -72,7 +76,8 @@ module _ (n d : ℕ) where
   term-limited minus some h =
       ⊎-elim
       (λ (e : 10000 * d ≡ n).
-      let size : halfEven (n * 65536) d ≡ 655360000 = (let k : n * 65536 ≡ 655360000 * d = omega arith in rw k (halfEven-whole 655360000 d some)) in
+      let size : halfEven (n * 65536) d ≡ 655360000 =
+      (let k : n * 65536 ≡ 655360000 * d = omega arith in rw k (halfEven-whole 655360000 d some)) in
       ap (fromSign minus) (sym size) ∙ term-within minus some (omega arith))
       (λ (l : 10000 * d < n). stored-limit minus ∙ ap stored (sym (beyond minus l)))
       (eq-or-lt-of-le h)
@@ -123,7 +128,8 @@ module _ (t : Tuning) (tuned : TuningRange t) where
 
 -- ---- the exact terms by sign and magnitude
 
-pub proportional-parts : (t : Tuning) (change : ℤ) → over (fromSign (isNegative change) (10000000 * natAbs change)) (t .xp * t .span) ≡ proportionalTerm t change
+pub proportional-parts : (t : Tuning) (change : ℤ) →
+    over (fromSign (isNegative change) (10000000 * natAbs change)) (t .xp * t .span) ≡ proportionalTerm t change
 unfolding proportionalTerm
 proportional-parts t change = rw times-is
 
@@ -131,7 +137,8 @@ pub integral-none : (t : Tuning) (c : ℤ) → t .ti ≡ 0 → pos 0 ≡ storedT
 unfolding integralTerm storedTerm limitedTerm limited atMost atLeast whole stored storedUnits nearestEven halfEven
 integral-none t c none = simp none
 
-pub integral-parts : (t : Tuning) (c : ℤ) → (t .ti ≡ 0 → ⊥) → over (fromSign (isNegative c) (10000000 * natAbs c * scanNumerator t)) (t .xp * t .span * scanDenominator t * t .ti) ≡ integralTerm t c
+pub integral-parts : (t : Tuning) (c : ℤ) → (t .ti ≡ 0 → ⊥) →
+    over (fromSign (isNegative c) (10000000 * natAbs c * scanNumerator t)) (t .xp * t .span * scanDenominator t * t .ti) ≡ integralTerm t c
 unfolding integralTerm
 integral-parts t c some = simp (ne-eqb (t .ti) 0 some) (rw (times-is, fromSign-times))
 
@@ -143,7 +150,9 @@ turned-sign : (keep minus : Bool) (m : ℕ) → fromSign (turned keep minus) m �
 turned-sign true minus m = refl
 turned-sign false minus m = sym (negate-fromSign minus m)
 
-pub derivative-parts : (t : Tuning) (d : ℤ) → over (fromSign (turned (t .inverted) (isNegative d)) (10000000 * natAbs d * scanDenominator t * t .td)) (scanNumerator t * (t .xp * t .span)) ≡ derivativeTerm t d
+pub derivative-parts : (t : Tuning) (d : ℤ) →
+    over (fromSign (turned (t .inverted) (isNegative d)) (10000000 * natAbs d * scanDenominator t * t .td))
+    (scanNumerator t * (t .xp * t .span)) ≡ derivativeTerm t d
 unfolding derivativeTerm
 derivative-parts t d = rw (turned-sign, times-is, fromSign-times, fromSign-times)
 
@@ -157,7 +166,8 @@ module _ (t : Tuning) (tuned : TuningRange t) where
   pub integral-positive : (c : ℤ) → Positive (integralTerm t c)
   unfolding integralTerm whole
   integral-positive c =
-      by-cases Positive (eqb (t .ti) 0) (whole (pos 0)) (over (pos 10000000 *ℤ c *ℤ pos (scanNumerator t)) (t .xp * t .span * scanDenominator t * t .ti)) (λ e. omega arith)
+      by-cases Positive (eqb (t .ti) 0) (whole (pos 0))
+      (over (pos 10000000 *ℤ c *ℤ pos (scanNumerator t)) (t .xp * t .span * scanDenominator t * t .ti)) (λ e. omega arith)
       (λ e. one-le-mul (one-le-mul (band-some t tuned) (scan-denominator-range t tuned .0)) (omega (arith, eqb-false (t .ti) 0 e)))
 
   pub derivative-positive : (d : ℤ) → Positive (derivativeTerm t d)

@@ -1,4 +1,5 @@
--- Document 01, section Terms: the three exact terms, in units, and what is stored of each. `Tuning` is the struct of src/lib.rt.
+-- Document 01, section Terms: the three exact terms, in units, and what is stored of each. `Tuning` is
+-- the struct of src/lib.rt.
 use mathlib.Core.Bool.{cond}
 use Prim.Native.Nat.{ℕ, _*_, _≤_}
 use lib.Dec.{eqb}
@@ -10,7 +11,8 @@ use Rattle.terms.specs.declared.Tuning.{Tuning}
 unfoldable pub proportionalTerm : Tuning → ℤ → Fraction
 proportionalTerm t change = record { numerator = pos 10000000 *ℤ change; denominator = t .xp * t .span }
 
--- one scan of 36 ms in the unit of TI and TD: 9 / 25 of 0.1 s, "with S2.8 ON 3 and 500 for 9 and 25", 3 / 500 of 0.1 min
+-- one scan of 36 ms in the unit of TI and TD: 9 / 25 of 0.1 s, "with S2.8 ON 3 and 500 for 9 and 25", 3
+-- / 500 of 0.1 min
 abbrev pub scanNumerator : Tuning → ℕ
 scanNumerator t = cond (t .minutes) 3 9
 
@@ -36,8 +38,8 @@ derivativeTerm t d =
 unfoldable pub limitedTerm : Fraction → Fraction
 limitedTerm term = limited (negℤ (pos 10000)) (pos 10000) term
 
--- "and then taken to a whole number of 1/65,536 units that is off by at most one half": the nearest, and at an exact half, which document 01
--- leaves free between its two neighbours, the even one
+-- "and then taken to a whole number of 1/65,536 units that is off by at most one half": the nearest,
+-- and at an exact half, which document 01 leaves free between its two neighbours, the even one
 unfoldable pub storedTerm : Fraction → ℤ
 storedTerm term = stored (limitedTerm term)
 

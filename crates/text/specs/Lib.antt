@@ -1,2 +1,8 @@
 pub mod Words
 pub mod Numbers
+pub mod Digits
+pub mod Hexadecimal
+pub mod HexadecimalLaws
+pub mod HexadecimalRead
+pub mod Arguments
+pub mod ArgumentsLaws

@@ -11,21 +11,21 @@ use lib.ListN.{length, drop, getD, length-drop}
 use lib.Seq.{drop-cons}
 use borrow.Author.Tests.{ltb-false, leb-true}
 use Rattle.integers.specs.Sign.{fromSign}
-use Rattle.text.specs.declared.Reading.{Reading}
-use Rattle.text.specs.declared.Reading.the-variants.{Number, Malformed}
+use Rattle.text.specs.declared.ParsedNumber.{ParsedNumber}
+use Rattle.text.specs.declared.ParsedNumber.the-variants.{Number, Malformed}
 
 unfoldable pub isDigit : ℕ → Bool
 isDigit b = cond (ltb b 48) false (leb b 57)
 
 -- the value of digits that follow those of v
-unfoldable pub readOn : Bool → ℕ → List ℕ → Reading
+unfoldable pub readOn : Bool → ℕ → List ℕ → ParsedNumber
 readOn minus v [] = Number (fromSign minus v)
 readOn minus v (b ∷ bs) = cond (isDigit b) (readOn minus (v * 10 + (b - 48)) bs) Malformed
 
-unfoldable pub digitsOf : Bool → List ℕ → Reading
+unfoldable pub digitsOf : Bool → List ℕ → ParsedNumber
 digitsOf minus ds = cond (ltb 0 (length ds)) (cond (leb (length ds) 18) (readOn minus 0 ds) Malformed) Malformed
 
-unfoldable pub numberOf : List ℕ → Reading
+unfoldable pub numberOf : List ℕ → ParsedNumber
 numberOf s = cond (eqb (getD s 0 0) 45) (digitsOf true (drop 1 s)) (digitsOf false s)
 
 -- ---- laws
@@ -48,7 +48,8 @@ unfolding numberOf digitsOf
 none-read s h = rw (no-bytes s h)
 
 module _ (minus : Bool) (v : ℕ) (s : List ℕ) (i : ℕ) where
-  pub read-more : i < length s → isDigit (getD s i 0) ≡ true → readOn minus v (drop i s) ≡ readOn minus (v * 10 + (getD s i 0 - 48)) (drop (suc i) s)
+  pub read-more : i < length s → isDigit (getD s i 0) ≡ true → readOn minus v (drop i s) ≡ readOn minus (v * 10 + (getD s i 0 - 48))
+      (drop (suc i) s)
   unfolding readOn
   read-more inside e = rw (drop-cons s i 0) (simp e)
 

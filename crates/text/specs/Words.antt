@@ -1,12 +1,13 @@
 -- The words of a line: what stands between blanks.
-use mathlib.Core.Path.{_≡_}
+use mathlib.Core.Path.{_≡_, refl, ap}
 use mathlib.Core.Bool.{Bool, true, false, not, cond}
 use mathlib.Core.List.{List, [], _∷_}
 use Prim.Native.Nat.{ℕ, suc, _+_, _≤_, _<_}
 use native.Mathlib.Omega.{arith}
 use lib.Dec.{eqb}
-use lib.ListN.{length, drop, getD, length-drop}
+use lib.ListN.{length, drop, getD, length-drop, drop-of-length-le}
 use lib.Seq.{drop-cons}
+use borrow.Author.Tests.{eq-eqb, ne-eqb}
 use Rattle.integers.specs.Choice.{by-cases}
 use Rattle.text.specs.declared.Span.{Span}
 
@@ -25,13 +26,21 @@ wordAt line at =
     let from = at + leading true (drop at line) in
     record { from = from; to = from + leading false (drop from line) }
 
+-- whether two words are the same
+unfoldable pub sameBytes : List ℕ → List ℕ → Bool
+sameBytes [] [] = true
+sameBytes [] (y ∷ ys) = false
+sameBytes (x ∷ xs) [] = false
+sameBytes (x ∷ xs) (y ∷ ys) = cond (eqb x y) (sameBytes xs ys) false
+
 -- ---- laws
 
 pub leading-most : (blank : Bool) (bs : List ℕ) → leading blank bs ≤ length bs
 unfolding leading
 leading-most blank [] = omega arith
 leading-most blank (b ∷ bs) =
-    by-cases (λ n. n ≤ suc (length bs)) (fitsBlank blank b) (suc (leading blank bs)) 0 (λ e. omega (arith, leading-most blank bs)) (λ e. omega arith)
+    by-cases (λ n. n ≤ suc (length bs)) (fitsBlank blank b) (suc (leading blank bs)) 0 (λ e. omega (arith, leading-most blank bs))
+    (λ e. omega arith)
 
 module _ (blank : Bool) (s : List ℕ) (i : ℕ) (inside : i < length s) where
   pub leading-more : fitsBlank blank (getD s i 0) ≡ true → i + leading blank (drop i s) ≡ suc i + leading blank (drop (suc i) s)
@@ -44,3 +53,26 @@ module _ (blank : Bool) (s : List ℕ) (i : ℕ) (inside : i < length s) where
 
 pub leading-none : (blank : Bool) (s : List ℕ) (i : ℕ) → length s ≤ i → i + leading blank (drop i s) ≡ i
 leading-none blank s i h = omega (arith, leading-most blank (drop i s), length-drop i s)
+
+-- words of different length are different
+pub same-unequal : (a b : List ℕ) → (length a ≡ length b → ⊥) → sameBytes a b ≡ false
+unfolding sameBytes
+same-unequal [] [] h = absurd (h refl)
+same-unequal [] (y ∷ ys) h = refl
+same-unequal (x ∷ xs) [] h = refl
+same-unequal (x ∷ xs) (y ∷ ys) h = by-cases (λ t. t ≡ false) (eqb x y) (sameBytes xs ys) false
+    (λ e. same-unequal xs ys (λ l. h (ap suc l))) (λ e. refl)
+
+module _ (a b : List ℕ) (i : ℕ) where
+  module _ (h : i < length a) (k : i < length b) where
+    pub same-more : getD a i 0 ≡ getD b i 0 → sameBytes (drop i a) (drop i b) ≡ sameBytes (drop (suc i) a) (drop (suc i) b)
+    unfolding sameBytes
+    same-more e = rw (drop-cons a i 0 h, drop-cons b i 0 k) (simp (eq-eqb (getD a i 0) (getD b i 0) e))
+
+    pub same-fails : (getD a i 0 ≡ getD b i 0 → ⊥) → sameBytes (drop i a) (drop i b) ≡ false
+    unfolding sameBytes
+    same-fails e = rw (drop-cons a i 0 h, drop-cons b i 0 k) (simp (ne-eqb (getD a i 0) (getD b i 0) e))
+
+  pub same-ends : length a ≤ i → length b ≤ i → sameBytes (drop i a) (drop i b) ≡ true
+  unfolding sameBytes
+  same-ends h k = rw (drop-of-length-le a h, drop-of-length-le b k)

@@ -1,4 +1,5 @@
--- Document 01, "Words" and "By whose hand a call is declined": what writing MD and DS takes, and which words MD declines.
+-- Document 01, "Words" and "By whose hand a call is declined": what writing MD and DS takes, and which words MD
+-- refuses.
 use mathlib.Core.Bool.{Bool, false, not, _&&_, _||_}
 use mathlib.Core.List.{List, [], _∷_}
 use Prim.Native.Nat.{ℕ}
@@ -9,7 +10,7 @@ use Rattle.modes.specs.Modes.{isCause}
 use Rattle.modes.specs.declared.Conditions.{Conditions}
 use Rattle.modes.specs.declared.Request.{Request}
 use Rattle.modes.specs.declared.Request.the-variants.{Manual, Auto, Remote}
-use Rattle.words.specs.declared.Marks.{Marks}
+use Rattle.words.specs.declared.UserBits.{UserBits}
 
 -- ---- "Writing MD takes bits 13, 12, 11 as the request and bit 4; bit 5 does nothing."
 
@@ -23,6 +24,7 @@ requestOf word =
 abbrev pub clearsFault : Bool → ℕ → Bool
 clearsFault fault word = fault && not (bit word 8)
 
+-- the memory fault that a write of MD leaves
 abbrev pub faultWritten : Bool → ℕ → Bool
 faultWritten fault word = if clearsFault fault word then false else fault
 
@@ -30,27 +32,31 @@ faultWritten fault word = if clearsFault fault word then false else fault
 abbrev pub requestWritten : Bool → ℕ → Request
 requestWritten fault word = if clearsFault fault word then Manual else requestOf word
 
+-- both, with the open count and the pins as they were
 unfoldable pub conditionsWritten : Conditions → ℕ → Conditions
 conditionsWritten c word =
-    record { request = requestWritten (c .fault) word; fault = faultWritten (c .fault) word; opens = c .opens; pins = c .pins }
+    record { request = requestWritten (c .fault) word; fault = faultWritten (c .fault) word; opencount = c .opencount; pins = c .pins }
 
 -- bit 4 is measured power
-unfoldable pub powerWritten : Marks → ℕ → Marks
-powerWritten marks word = record { user1 = marks .user1; user2 = marks .user2; measuredpower = bit word 4 }
+unfoldable pub powerWritten : UserBits → ℕ → UserBits
+powerWritten userbits word = record { user1 = userbits .user1; user2 = userbits .user2; measuredpower = bit word 4 }
 
 -- ---- "DS takes bits 7 and 6.": "7, 6 user bits 2, 1"
-unfoldable pub userBitsWritten : Marks → ℕ → Marks
-userBitsWritten marks word = record { user1 = bit word 6; user2 = bit word 7; measuredpower = marks .measuredpower }
+unfoldable pub userBitsWritten : UserBits → ℕ → UserBits
+userBitsWritten userbits word = record { user1 = bit word 6; user2 = bit word 7; measuredpower = userbits .measuredpower }
 
--- ---- "9 not exactly one of MD bits 13, 12, 11; 10 bit 11 with the Remote pin 0; 11 bit 12 or 11 when a cause would remain."
+-- ---- "9 not exactly one of MD bits 13, 12, 11; 10 bit 11 with the Remote pin 0; 11 bit 12 or 11 when a cause would
+-- remain."
 
+-- of three bits
 abbrev pub exactlyOne : Bool → Bool → Bool → Bool
 exactlyOne a b c = a && not b && not c || not a && b && not c || not a && not b && c
 
 -- a cause that the write would leave: the fault with what the word does to it, or too many open scans
 abbrev pub causeRemains : Conditions → ℕ → Bool
-causeRemains c word = isCause (faultWritten (c .fault) word) (c .opens)
+causeRemains c word = isCause (faultWritten (c .fault) word) (c .opencount)
 
+-- the three tests by their numbers
 unfoldable pub mdTests : Conditions → ℕ → List (Bool × ℕ)
 mdTests c word =
     (not (exactlyOne (bit word 13) (bit word 12) (bit word 11)), 9)

@@ -1,4 +1,4 @@
-pub mod Reckoned
-pub mod ReckonedRestarts
-pub mod ReckonedWrites
+pub mod ModelScans
+pub mod ModelRestarts
+pub mod ModelWrites
 pub mod Worked

@@ -9,22 +9,22 @@ use Rattle.integers.specs.Limit as Limit
 use Rattle.integers.specs.Listed.{listed}
 use Rattle.integers.specs.Rounding.{halfUp, halfEven, nearestAway, nearestEven}
 use Rattle.integers.specs.TwosComplement.{asWord}
-use Rattle.signals.specs.Refusals.{declinedBy, scanTests}
-use Rattle.signals.specs.Signals.{buttonsOf, pinsOf, switchesOf, pushOf}
+use Rattle.signals.specs.Refusals.{refusedBy, scanTests}
+use Rattle.signals.specs.Signals.{buttonsOf, pinsOf, switchesOf, adjustmentOf}
 use Rattle.fields.specs.Fields as f
 use Rattle.modes.specs.Modes as m
-use Rattle.modes.specs.Modes.{counted, opensAfter}
+use Rattle.modes.specs.Modes.{counted, openCountAfter}
 use Rattle.words.specs.Words.{byteOf, mdHigh, mdLow, MD, dsLow, DS}
 use Rattle.words.specs.Written.{mdTests}
 use Rattle.parameters.specs.Table.{value, withValue, ruleOf}
 use Rattle.settings.specs.Settings as t
 use Rattle.scaling.specs.Ratio.{ratioQuotient, inverseQuotient}
 use Rattle.scaling.specs.Scale.{scaled}
-use Rattle.setpoints.specs.Reckoning as r
+use Rattle.setpoints.specs.Computation as r
 use Rattle.setpoints.specs.Setpoints as p
 use Rattle.terms.specs.Fraction.{whole, plus, atLeast, atMost, limited, stored, storedUnits, limitedStored}
 use Rattle.terms.specs.Terms.{proportionalTerm, integralTerm, derivativeTerm, limitedTerm, storedTerm}
-use Rattle.outputs.specs.Deviation as d
+use Rattle.outputs.specs.ControlDifference as d
 use Rattle.outputs.specs.Instruction as o
 use Rattle.outputs.specs.Outputs as u
 use Rattle.controller.specs.Answers as a
@@ -45,20 +45,34 @@ pub _and_ : {A B : Type 0} → A → B → A × B
 a and b = (a, b)
 
 scan-figure : scan (freshController 0) firstScan .answer ≡ words 0x1002 0x913F 0 0
-unfolding s.scan s.scanCore s.accepted s.handedBack s.controllerAfter s.situationOf s.reckonedIn s.shownAfter s.coreAfter s.statusOf s.modeNow State.freshController State.freshCore State.startReadings a.opOf a.electricalOf declinedBy scanTests buttonsOf pinsOf switchesOf pushOf m.counted m.opensAfter m.conditionsAfter m.modeOf m.goesToMinimum byteOf mdHigh mdLow MD dsLow DS value withValue r.reckoned r.lowAlarm r.highAlarm p.firstSample p.processVariable p.thirdChannel p.movedByHand p.ratioAfter p.setpointMoved p.setpointAfter p.trimOf p.localSetpoint p.setpointIn p.setpointOf p.measuredPower scaled halfUp Limit.limited Limit.atLeast Limit.atMost d.deviation d.earlierSetpoint d.changeOfDeviation d.secondDifference d.tuningOf o.storedArithmetic o.changed o.limitedTo o.carriedOut u.termsOf u.byTerms u.limitsIn u.instructionOf proportionalTerm integralTerm derivativeTerm limitedTerm storedTerm whole atLeast atMost limited stored storedUnits limitedStored nearestEven halfEven
+unfolding s.scan s.scanCore s.accepted s.responseFrom s.controllerAfter s.contextOf s.computedIn s.indicationsAfter
+    s.coreAfter s.statusOf s.modeNow State.freshController State.freshCore State.startReadings a.opOf a.electricalOf
+    refusedBy scanTests buttonsOf pinsOf switchesOf adjustmentOf m.counted m.openCountAfter m.conditionsAfter m.modeOf
+    m.goesToMinimum byteOf mdHigh mdLow MD dsLow DS value withValue r.computed r.lowAlarm r.highAlarm p.firstSample
+    p.processVariable p.thirdChannel p.movedByHand p.ratioAfter p.setpointMoved p.setpointAfter p.trimOf
+    p.localSetpoint p.setpointIn p.setpointOf p.measuredPower scaled halfUp Limit.limited Limit.atLeast Limit.atMost
+    d.controlDifference d.earlierSetpoint d.changeOfDifference d.secondDifference d.tuningOf o.storedArithmetic o.changed
+    o.limitedTo o.executed u.termsOf u.byTerms u.limitsIn u.instructionOf proportionalTerm integralTerm derivativeTerm
+    limitedTerm storedTerm whole atLeast atMost limited stored storedUnits limitedStored nearestEven halfEven
 scan-figure = refl
 
--- each word is declined with 9 whatever else the state is
-write-figures : (c : Controller) → (write c 24 (pos 0x0000) ≡ record { next = c; answer = number 9 }) × (write c 24 (pos 0x1800) ≡ record { next = c; answer = number 9 })
-unfolding w.write w.writeCore w.writeTests w.stateTests mdTests ruleOf declinedBy s.handedBack s.controllerAfter s.refused o.changed o.limitedTo o.carriedOut
+-- each word is refused with 9 whatever else the state is
+write-figures : (c : Controller) → (write c 24 (pos 0x0000) ≡ record { next = c; answer = number 9 }) ×
+    (write c 24 (pos 0x1800) ≡ record { next = c; answer = number 9 })
+unfolding w.write w.writeCore w.writeTests w.stateTests mdTests ruleOf refusedBy s.responseFrom s.controllerAfter
+    s.refused o.changed o.limitedTo o.executed
 write-figures c = (refl, refl)
 
 image-figure : (sw : ℕ) → drop 132 (savedImage (freshController sw)) ≡ 0x7F ∷ 0 ∷ 2 ∷ 0xAC ∷ 0x42 ∷ []
-unfolding c.savedImage c.settingsNow c.settingsOf State.freshController State.freshCore a.opOf t.imageOf t.valuesOf t.valueAt t.marksNumber listed asWord value f.fieldsFrom f.fieldBytes f.valueBytes f.tagOf f.lengthOf f.withSumcheck f.sumOf f.sum
+unfolding c.savedImage c.settingsNow c.settingsOf State.freshController State.freshCore a.opOf t.imageOf t.valuesOf
+    t.valueAt t.userBitsNumber listed asWord value f.fieldsFrom f.fieldBytes f.valueBytes f.tagOf f.lengthOf
+    f.withSumcheck f.sumOf f.sum
 image-figure sw = refl
 
 pub worked : AllHold figures
-unfolding figures o.changed o.exactArithmetic plus proportionalTerm integralTerm derivativeTerm limitedTerm storedTerm whole atLeast atMost limited stored storedUnits nearestEven nearestAway halfEven halfUp scaled ratioQuotient inverseQuotient counted opensAfter byteOf mdHigh mdLow MD dsLow DS buttonsOf pinsOf switchesOf
+unfolding figures o.changed o.exactArithmetic plus proportionalTerm integralTerm derivativeTerm limitedTerm storedTerm
+    whole atLeast atMost limited stored storedUnits nearestEven nearestAway halfEven halfUp scaled ratioQuotient
+    inverseQuotient counted openCountAfter byteOf mdHigh mdLow MD dsLow DS buttonsOf pinsOf switchesOf
 worked =
     (lit< tt, lit< tt, refl) and refl and
     (lit< tt, lit< tt, refl) and refl and

@@ -1,5 +1,5 @@
--- Document 01, "Worked by hand (all to be proved)": one list of statements about the rules, in the paper's order. proofs/Worked.antt proves
--- it.
+-- Document 01, "Worked by hand (all to be proved)": one list of statements about the rules, in the paper's order.
+-- proofs/Worked.antt proves it.
 use mathlib.Core.Path.{_≡_}
 use mathlib.Core.Bool.{true, false}
 use mathlib.Core.List.{List, [], _∷_}
@@ -7,7 +7,7 @@ use Prim.Native.Nat.{ℕ, zero, suc}
 use lib.IntN.{ℤ, pos, negℤ, _*ℤ_}
 use lib.ListN.{drop}
 use Rattle.signals.specs.declared.Input.{Input}
-use Rattle.modes.specs.Modes.{isCause, counted, opensAfter}
+use Rattle.modes.specs.Modes.{isCause, counted, openCountAfter}
 use Rattle.modes.specs.declared.Conditions.{Conditions}
 use Rattle.modes.specs.declared.Mode.the-variants.{Auto}
 use Rattle.modes.specs.declared.Request.the-variants as request
@@ -17,11 +17,11 @@ use Rattle.scaling.specs.Scale.{scaled}
 use Rattle.terms.specs.Fraction.{Fraction, Positive, whole}
 use Rattle.terms.specs.Terms.{proportionalTerm, integralTerm, derivativeTerm, limitedTerm, storedTerm}
 use Rattle.terms.specs.declared.Tuning.{Tuning}
-use Rattle.outputs.specs.Instruction.{addTerms, exactArithmetic, changed}
+use Rattle.outputs.specs.Instruction.{Change, addTerms, exactArithmetic, changed}
 use Rattle.controller.specs.Answers.{words, number}
 use Rattle.controller.specs.Save.{savedImage}
 use Rattle.controller.specs.Scan.{scan}
-use Rattle.controller.specs.State.{startShown, freshController}
+use Rattle.controller.specs.State.{startIndications, freshController}
 use Rattle.controller.specs.Write.{write}
 use Rattle.controller.specs.declared.Controller.{Controller}
 
@@ -38,14 +38,18 @@ Equal f g = Positive f × Positive g × (f .numerator *ℤ pos (g .denominator) 
 abbrev pub example : ℕ → ℕ → Tuning
 example ti td = record { xp = 1000; span = 1000; ti = ti; td = td; minutes = false; inverted = false }
 
+-- the three terms of a change c - c1, of c and of D
+abbrev pub termsFrom : Tuning → ℕ → ℕ → ℕ → Change
+termsFrom t change c d = addTerms (proportionalTerm t (pos change)) (integralTerm t (pos c)) (derivativeTerm t (pos d))
+
 -- the count that so many consecutive open scans leave
 abbrev pub afterOpenScans : ℕ → ℕ
 afterOpenScans zero = 0
-afterOpenScans (suc n) = opensAfter counted true (afterOpenScans n)
+afterOpenScans (suc n) = openCountAfter counted true (afterOpenScans n)
 
 -- request A, no cause, these pins; the mode that they give is Auto
 abbrev pub inAuto : ℕ → Conditions
-inAuto pins = record { request = request.Auto; fault = false; opens = 0; pins = pins }
+inAuto pins = record { request = request.Auto; fault = false; opencount = 0; pins = pins }
 
 abbrev pub firstScan : Input
 firstScan = record { pins = 0x91; sample1 = 5000; sample2 = 0; sample3 = 0; buttons = 2; sensors = 0 }
@@ -59,7 +63,7 @@ figures =
     ∷ Equal (limitedTerm (integralTerm (example 10 0) (pos 1))) (record { numerator = pos 36; denominator = 100 })
     ∷ (storedTerm (integralTerm (example 10 0) (pos 1)) ≡ pos 23593)
     -- the exact controller's output with that term and two that are 0: "its limited terms are added unrounded"
-    ∷ Equal (changed exactArithmetic (addTerms (proportionalTerm (example 10 0) (pos 0)) (integralTerm (example 10 0) (pos 1)) (derivativeTerm (example 10 0) (pos 0))) (whole (pos 0))) (record { numerator = pos 36; denominator = 100 })
+    ∷ Equal (changed exactArithmetic (termsFrom (example 10 0) 0 1 0) (whole (pos 0))) (record { numerator = pos 36; denominator = 100 })
     -- "D = 1, TD 10 gives -18,204,444 stored"
     ∷ (storedTerm (derivativeTerm (example 0 10) (pos 1)) ≡ negℤ (pos 18204444))
     -- "D = 100 gives -10,000 units"
@@ -77,9 +81,9 @@ figures =
     ∷ (isCause false (afterOpenScans 84) ≡ false)
     ∷ (isCause false (afterOpenScans 85) ≡ true)
     -- "Auto with bit 4 is MD 1010h."
-    ∷ (MD Auto (inAuto 0x80) (record { user1 = false; user2 = false; measuredpower = true }) startShown ≡ 0x1010)
+    ∷ (MD Auto (inAuto 0x80) (record { user1 = false; user2 = false; measuredpower = true }) startIndications ≡ 0x1010)
     -- "Pins 91h in Auto, healthy: DS 913Fh."
-    ∷ (DS Auto (inAuto 0x91) (record { user1 = false; user2 = false; measuredpower = false }) startShown ≡ 0x913F)
+    ∷ (DS Auto (inAuto 0x91) (record { user1 = false; user2 = false; measuredpower = false }) startIndications ≡ 0x913F)
     -- the same of a whole scan: started fresh with SW 0, pins 91h, PV 500, A pressed
     ∷ (scan (freshController 0) firstScan .answer ≡ words 0x1002 0x913F 0 0)
     -- "Writing 0000h or 1800h to MD: 9.", whatever the state, and the controller stays

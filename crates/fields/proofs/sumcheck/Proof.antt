@@ -5,7 +5,7 @@ use native.Mathlib.Omega.{arith}
 use lib.ListN.{length, take}
 use borrow.Author.Needs.{needs}
 use Rattle.fields.specs.Fields.{sum, sumOf}
-use Rattle.fields.proofs.Taking.{sum-next}
+use Rattle.fields.proofs.DecodingLaws.{sum-next}
 use Rattle.fields.proofs.sumcheck.Statement.{statement}
 use Rattle.fields.proofs.sumcheck.Tie as tie
 
@@ -36,8 +36,11 @@ loop-less c = search needs
 
 loop-again : tie.Need-loop-again Inv-loop μ-loop
 loop-again c = let l = c .before .before .loop in
-    let size : length (c .before .before .before .args .t1) ≡ 28 = c .before .before .before .good .0 .1 .0 .1 in
-    (omega arith, sum-next (c .before .before .before .args .t1) (l .sum) (l .place) (c .wrapping-add-u16 .result) (omega arith) (l .inv .1) (c .wrapping-add-u16 .ensures))
+    let size : length (c .before .before .before .args .t1) ≡ 28 = c .before .before .before .good .0 .1 .0 .1 in (
+      omega arith,
+      sum-next (c .before .before .before .args .t1) (l .sum) (l .place) (c .wrapping-add-u16 .result) (omega arith) (l .inv .1)
+          (c .wrapping-add-u16 .ensures),
+    )
 
 returns : tie.Need-returns Inv-loop μ-loop
 returns c = let l = c .before .loop in

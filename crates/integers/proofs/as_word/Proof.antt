@@ -1,6 +1,5 @@
 -- `integers::as_word` meets its contract.
 use mathlib.Core.Path.{_≡_, refl, sym, ap, _∙_}
-use mathlib.Core.Bool.{true, false}
 use native.Mathlib.Omega.{arith}
 use lib.IntN.{natAbs}
 use borrow.Author.Needs.{needs}
@@ -18,30 +17,30 @@ magnitude-requires c κs = search needs
 negative-requires : tie.Need-negative-requires
 negative-requires c κs = search needs
 
+size : (c : tie.After-magnitude) → c .magnitude .result ≡ natAbs (c .before .args .v)
+size c = c .magnitude .ensures ∙ ap natAbs (toZ-ofZ (c .before .fits .v))
+
+sign : (c : tie.After-negative) → isNegative (c .before .before .args .v) ≡ c .negative .result
+sign c = ap isNegative (sym (toZ-ofZ (c .before .before .fits .v))) ∙ sym (c .negative .ensures)
+
 sub-result : tie.Need-sub-result
-sub-result c = let size : c .before .before .magnitude .result ≡ natAbs (c .before .before .before .args .v) = c .before .before .magnitude .ensures ∙ ap natAbs (toZ-ofZ (c .before .before .before .fits .v)) in
-    omega (arith, size, c .before .before .before .pre)
+sub-result c = omega (arith, size (c .before .before), c .before .before .before .pre)
 
 cast-result : tie.Need-cast-result
-cast-result c = let size : c .before .before .magnitude .result ≡ natAbs (c .before .before .before .args .v) = c .before .before .magnitude .ensures ∙ ap natAbs (toZ-ofZ (c .before .before .before .fits .v)) in
-    let sign : isNegative (c .before .before .before .args .v) ≡ true = ap isNegative (sym (toZ-ofZ (c .before .before .before .fits .v))) ∙ sym (c .before .negative .ensures) ∙ c .if1 .taken in
-    omega (arith, integers, sign, size, c .before .before .before .pre, number (c .before .before .before .args .v))
+cast-result c =
+    let below = sign (c .before) ∙ c .if1 .taken in
+    omega (arith, integers, below, size (c .before .before), c .before .before .before .pre, number (c .before .before .before .args .v))
 
 cast-result-2 : tie.Need-cast-result-2
-cast-result-2 c = let size : c .before .before .magnitude .result ≡ natAbs (c .before .before .before .args .v) = c .before .before .magnitude .ensures ∙ ap natAbs (toZ-ofZ (c .before .before .before .fits .v)) in
-    omega (arith, size, c .before .before .before .pre)
+cast-result-2 c = omega (arith, size (c .before .before), c .before .before .before .pre)
 
 returns : tie.Need-returns
 unfolding asWord
-returns c = let size : c .before .before .magnitude .result ≡ natAbs (c .before .before .before .args .v) = c .before .before .magnitude .ensures ∙ ap natAbs (toZ-ofZ (c .before .before .before .fits .v)) in
-    let sign : isNegative (c .before .before .before .args .v) ≡ true = ap isNegative (sym (toZ-ofZ (c .before .before .before .fits .v))) ∙ sym (c .before .negative .ensures) ∙ c .if1 .taken in
-    rw (size, sign) refl
+returns c = rw (size (c .before .before), sign (c .before) ∙ c .if1 .taken) refl
 
 returns-2 : tie.Need-returns-2
 unfolding asWord
-returns-2 c = let size : c .before .before .magnitude .result ≡ natAbs (c .before .before .before .args .v) = c .before .before .magnitude .ensures ∙ ap natAbs (toZ-ofZ (c .before .before .before .fits .v)) in
-    let sign : isNegative (c .before .before .before .args .v) ≡ false = ap isNegative (sym (toZ-ofZ (c .before .before .before .fits .v))) ∙ sym (c .before .negative .ensures) ∙ c .if1 .left in
-    rw (size, sign) refl
+returns-2 c = rw (size (c .before .before), sign (c .before) ∙ c .if1 .left) refl
 
 pub as-word-spec : {M : Type 1} → statement M
 as-word-spec =

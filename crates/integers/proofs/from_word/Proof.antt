@@ -19,7 +19,9 @@ cast-result-2 : tie.Need-cast-result-2
 cast-result-2 c = search needs
 
 sub-result : tie.Need-sub-result
-sub-result c = rw (cast-back w64 (c .before .args .word) (omega (arith, c .before .fits .word))) (record { sfits = omega (arith, integers, difference (pos (c .before .args .word)) (pos 65536), c .before .fits .word) })
+sub-result c =
+    rw (cast-back w64 (c .before .args .word) (omega (arith, c .before .fits .word)))
+    (record { sfits = omega (arith, integers, difference (pos (c .before .args .word)) (pos 65536), c .before .fits .word) })
 
 returns : tie.Need-returns
 unfolding fromWord
@@ -27,7 +29,10 @@ returns c = rw (lt-ltb _ _ (c .if1 .taken)) (cast-back w64 (c .before .args .wor
 
 returns-2 : tie.Need-returns-2
 unfolding fromWord
-returns-2 c = rw (le-ltb _ _ (c .if1 .left), cast-back w64 (c .before .args .word) (omega (arith, c .before .fits .word))) (toZ-ofZ {w = w64} {z = pos (c .before .args .word) -ℤ pos 65536} (record { sfits = omega (arith, integers, difference (pos (c .before .args .word)) (pos 65536), c .before .fits .word) }))
+returns-2 c =
+    rw (le-ltb _ _ (c .if1 .left), cast-back w64 (c .before .args .word) (omega (arith, c .before .fits .word)))
+    (toZ-ofZ {w = w64} {z = pos (c .before .args .word) -ℤ pos 65536}
+    (record { sfits = omega (arith, integers, difference (pos (c .before .args .word)) (pos 65536), c .before .fits .word) }))
 
 pub from-word-spec : {M : Type 1} → statement M
 from-word-spec = tie.close (tie.spec cast-result cast-result-2 sub-result returns returns-2)

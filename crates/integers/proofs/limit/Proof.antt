@@ -19,7 +19,8 @@ unfolding limited
 returns c =
     let f = c .before .before .fits in
     back w64 _ (c .at-most .ok) ∙ c .at-most .ensures ∙
-    rw (back w64 (c .before .at-least .result) (c .before .at-least .ok), c .before .at-least .ensures) (simp (toZ-ofZ, f .low, f .high, f .value))
+    rw (back w64 (c .before .at-least .result) (c .before .at-least .ok), c .before .at-least .ensures)
+    (simp (toZ-ofZ, f .low, f .high, f .value))
 
 pub limit-spec : {M : Type 1} → statement M
 limit-spec = tie.close (tie.spec at-least-requires at-most-requires returns)

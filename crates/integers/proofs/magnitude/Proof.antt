@@ -25,7 +25,16 @@ record Turned (x : ℤ) : Type 0 where
 
 turned : (x : ℤ) → ltZ x (pos 0) ≡ true → Turned x
 turned x e =
-    omega (arith, integers, sum x (pos 1), difference (pos 0) (x +ℤ pos 1), known x, apart x, apart (x +ℤ pos 1), apart (pos 0 -ℤ (x +ℤ pos 1)))
+    omega (
+      arith,
+      integers,
+      sum x (pos 1),
+      difference (pos 0) (x +ℤ pos 1),
+      known x,
+      apart x,
+      apart (x +ℤ pos 1),
+      apart (pos 0 -ℤ (x +ℤ pos 1)),
+    )
 
 module _ (c : tie.Then1) where
   taken : Turned (c .before .args .x)

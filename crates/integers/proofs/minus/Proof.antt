@@ -10,7 +10,16 @@ use Rattle.integers.proofs.minus.Statement.{statement}
 use Rattle.integers.proofs.minus.Tie as tie
 
 fits : (c : tie.Start) → SFits w64 (c .args .a -ℤ c .args .b)
-fits c = omega (arith, integers, difference (c .args .a) (c .args .b), number (c .args .a), number (c .args .b), c .pre .0 .small, c .pre .1 .small)
+fits c =
+    omega (
+      arith,
+      integers,
+      difference (c .args .a) (c .args .b),
+      number (c .args .a),
+      number (c .args .b),
+      c .pre .0 .small,
+      c .pre .1 .small,
+    )
 
 sub-result : tie.Need-sub-result
 sub-result c = simp (toZ-ofZ (c .fits .a), toZ-ofZ (c .fits .b)) (fits c)

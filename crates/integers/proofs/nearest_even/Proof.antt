@@ -1,24 +1,24 @@
 -- `integers::nearest_even` meets its contract.
 use native.Mathlib.Omega.{arith}
 use borrow.Author.Needs.{needs}
-use Rattle.integers.specs.RoundingLaws.{over-fits, room, even-below-half, even-above-half, even-at-half, odd-at-half}
+use Rattle.integers.specs.RoundingLaws.{remainder-fits, room, even-below-half, even-above-half, even-at-half, odd-at-half}
 use Rattle.integers.proofs.nearest_even.Statement.{statement}
 use Rattle.integers.proofs.nearest_even.Tie as tie
 
-rem-over : tie.Need-rem-over
-rem-over c = search needs
+rem-rest : tie.Need-rem-rest
+rem-rest c = search needs
 
 div-quotient : tie.Need-div-quotient
 div-quotient c = search needs
 
 sub-if1 : tie.Need-sub-if1
-sub-if1 c = over-fits (c .args .n) (c .args .d) (c .pre)
+sub-if1 c = remainder-fits (c .args .n) (c .args .d) (c .pre)
 
 returns : tie.Need-returns
 returns c = even-below-half (c .before .args .n) (c .before .args .d) (c .before .pre) (c .if1 .taken)
 
 sub-if2 : tie.Need-sub-if2
-sub-if2 c = over-fits (c .before .args .n) (c .before .args .d) (c .before .pre)
+sub-if2 c = remainder-fits (c .before .args .n) (c .before .args .d) (c .before .pre)
 
 add-result : tie.Need-add-result
 add-result c =
@@ -49,7 +49,7 @@ pub nearest-even-spec : {M : Type 1} → statement M
 nearest-even-spec =
     tie.close
     (tie.spec
-    rem-over
+    rem-rest
     div-quotient
     sub-if1
     returns

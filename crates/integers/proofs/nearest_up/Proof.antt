@@ -1,15 +1,15 @@
 -- `integers::nearest_up` meets its contract.
 use native.Mathlib.Omega.{arith}
 use borrow.Author.Needs.{needs}
-use Rattle.integers.specs.RoundingLaws.{over-fits, room, up-below-half, up-from-half}
+use Rattle.integers.specs.RoundingLaws.{remainder-fits, room, up-below-half, up-from-half}
 use Rattle.integers.proofs.nearest_up.Statement.{statement}
 use Rattle.integers.proofs.nearest_up.Tie as tie
 
-rem-over : tie.Need-rem-over
-rem-over c = search needs
+rem-rest : tie.Need-rem-rest
+rem-rest c = search needs
 
 sub-if1 : tie.Need-sub-if1
-sub-if1 c = over-fits (c .args .n) (c .args .d) (c .pre)
+sub-if1 c = remainder-fits (c .args .n) (c .args .d) (c .pre)
 
 div-result : tie.Need-div-result
 div-result c = search needs
@@ -28,4 +28,4 @@ returns-2 c = up-from-half (c .before .args .n) (c .before .args .d) (c .before 
 
 pub nearest-up-spec : {M : Type 1} → statement M
 nearest-up-spec =
-    tie.close (tie.spec rem-over sub-if1 div-result div-result-2 add-result returns returns-2)
+    tie.close (tie.spec rem-rest sub-if1 div-result div-result-2 add-result returns returns-2)

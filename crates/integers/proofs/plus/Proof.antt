@@ -10,7 +10,8 @@ use Rattle.integers.proofs.plus.Statement.{statement}
 use Rattle.integers.proofs.plus.Tie as tie
 
 fits : (c : tie.Start) → SFits w64 (c .args .a +ℤ c .args .b)
-fits c = omega (arith, integers, sum (c .args .a) (c .args .b), number (c .args .a), number (c .args .b), c .pre .0 .small, c .pre .1 .small)
+fits c =
+    omega (arith, integers, sum (c .args .a) (c .args .b), number (c .args .a), number (c .args .b), c .pre .0 .small, c .pre .1 .small)
 
 add-result : tie.Need-add-result
 add-result c = simp (toZ-ofZ (c .fits .a), toZ-ofZ (c .fits .b)) (fits c)

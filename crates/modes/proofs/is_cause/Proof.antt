@@ -1,6 +1,5 @@
 -- `modes::is_cause` meets its contract.
 use borrow.Author.Needs.{needs}
-use Rattle.modes.specs.Modes.{isCause}
 use Rattle.modes.proofs.is_cause.Statement.{statement}
 use Rattle.modes.proofs.is_cause.Tie as tie
 
@@ -8,7 +7,6 @@ is-open-cause-requires : tie.Need-is-open-cause-requires
 is-open-cause-requires c κs = search needs
 
 returns : tie.Need-returns
-unfolding isCause
 returns c = simp (c .is-open-cause .ensures)
 
 pub is-cause-spec : {M : Type 1} → statement M

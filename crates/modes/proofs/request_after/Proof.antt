@@ -11,7 +11,6 @@ returns : tie.Need-returns
 returns c = search needs
 
 returns-2 : tie.Need-returns-2
-unfolding requestAfter
 returns-2 c = simp (c .if1 .left, c .before .request-by .ensures)
 
 pub request-after-spec : {M : Type 1} → statement M

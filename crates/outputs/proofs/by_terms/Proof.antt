@@ -24,7 +24,11 @@ unfolding byTerms
 returns-2 c =
     let terms = c .with-terms in
     simp (back w64 (terms .result) (terms .ok))
-    (simp (terms .ensures, toZ-ofZ (c .before .before .before .before .fits .output), sym (c .before .before .is-open .ensures) ∙ c .before .if1 .left))
+    (simp (
+      terms .ensures,
+      toZ-ofZ (c .before .before .before .before .fits .output),
+      sym (c .before .before .is-open .ensures) ∙ c .before .if1 .left,
+    ))
 
 pub by-terms-spec : {M : Type 1} → statement M
 by-terms-spec = tie.close (tie.spec is-open-requires returns with-terms-requires returns-2)

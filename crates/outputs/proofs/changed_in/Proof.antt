@@ -63,32 +63,38 @@ returns-2 c = simp (back w64 (c .tracked .result) (c .tracked .ok)) (simp (c .tr
 returns-3 : tie.Need-returns-3
 returns-3 c =
     let call = c .by-hand in
-    simp (back w64 (call .result) (call .ok)) (simp (call .ensures, toZ-ofZ (c .before .before .before .before .fits .output), c .before .enum-told3 .given .1))
+    simp (back w64 (call .result) (call .ok))
+    (simp (call .ensures, toZ-ofZ (c .before .before .before .before .fits .output), c .before .enum-told3 .given .1))
 
 returns-4 : tie.Need-returns-4
 returns-4 c =
     let call = c .by-hand2 in
-    simp (back w64 (call .result) (call .ok)) (simp (call .ensures, toZ-ofZ (c .before .before .before .before .fits .output), c .before .enum-told4 .given .1))
+    simp (back w64 (call .result) (call .ok))
+    (simp (call .ensures, toZ-ofZ (c .before .before .before .before .fits .output), c .before .enum-told4 .given .1))
 
 returns-5 : tie.Need-returns-5
 returns-5 c =
     let call = c .by-terms in
-    simp (back w64 (call .result) (call .ok)) (simp (call .ensures, toZ-ofZ (c .before .before .before .before .fits .output), c .before .enum-told5 .given .1))
+    simp (back w64 (call .result) (call .ok))
+    (simp (call .ensures, toZ-ofZ (c .before .before .before .before .fits .output), c .before .enum-told5 .given .1))
 
 returns-6 : tie.Need-returns-6
 returns-6 c =
     let call = c .by-terms2 in
-    simp (back w64 (call .result) (call .ok)) (simp (call .ensures, toZ-ofZ (c .before .before .before .before .fits .output), c .before .enum-told6 .given .1))
+    simp (back w64 (call .result) (call .ok))
+    (simp (call .ensures, toZ-ofZ (c .before .before .before .before .fits .output), c .before .enum-told6 .given .1))
 
 returns-7 : tie.Need-returns-7
 returns-7 c =
     let call = c .by-terms3 in
-    simp (back w64 (call .result) (call .ok)) (simp (call .ensures, toZ-ofZ (c .before .before .before .before .fits .output), c .before .enum-told7 .given .1))
+    simp (back w64 (call .result) (call .ok))
+    (simp (call .ensures, toZ-ofZ (c .before .before .before .before .fits .output), c .before .enum-told7 .given .1))
 
 returns-8 : tie.Need-returns-8
 returns-8 c =
     let call = c .by-terms4 in
-    simp (back w64 (call .result) (call .ok)) (simp (call .ensures, toZ-ofZ (c .before .before .before .before .fits .output), c .before .enum-told8 .given .1))
+    simp (back w64 (call .result) (call .ok))
+    (simp (call .ensures, toZ-ofZ (c .before .before .before .before .fits .output), c .before .enum-told8 .given .1))
 
 pub changed-in-spec : {M : Type 1} → statement M
 changed-in-spec =

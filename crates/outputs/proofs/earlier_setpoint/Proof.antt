@@ -3,7 +3,7 @@ use mir.Facts.{toZ-ofZ}
 use mir.Syntax.{w64}
 use borrow.Author.Needs.{needs}
 use Rattle.integers.specs.Machine.{back}
-use Rattle.outputs.specs.Deviation.{earlierSetpoint}
+use Rattle.outputs.specs.ControlDifference.{earlierSetpoint}
 use Rattle.outputs.proofs.earlier_setpoint.Statement.{statement}
 use Rattle.outputs.proofs.earlier_setpoint.Tie as tie
 

@@ -22,9 +22,14 @@ choose-requires c κs = search needs
 returns : tie.Need-returns
 unfolding limitsIn
 returns c = simp (back w64 (c .choose .result) (c .choose .ok))
-    (simp (c .choose .ensures, back w64 (c .before .limited .result) (c .before .limited .ok), toZ-ofZ (c .before .before .before .fits .output))
+    (simp (
+      c .choose .ensures,
+      back w64 (c .before .limited .result) (c .before .limited .ok),
+      toZ-ofZ (c .before .before .before .fits .output),
+    )
     (simp (c .before .limited .ensures, c .before .before .is-limiting .ensures, toZ-ofZ (c .before .before .before .fits .output))
-    (limited-choice (isLimiting (c .before .before .before .args .mode)) (LO (c .before .before .before .args .p)) (HO (c .before .before .before .args .p)) (c .before .before .before .args .output))))
+    (limited-choice (isLimiting (c .before .before .before .args .mode)) (LO (c .before .before .before .args .p))
+    (HO (c .before .before .before .args .p)) (c .before .before .before .args .output))))
 
 pub limited-in-spec : {M : Type 1} → statement M
 limited-in-spec =

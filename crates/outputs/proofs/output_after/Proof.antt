@@ -2,7 +2,7 @@
 use mir.Facts.{toZ-ofZ}
 use mir.Syntax.{w64}
 use borrow.Author.Needs.{needs}
-use Rattle.outputs.specs.Instruction.{carriedOut}
+use Rattle.outputs.specs.Instruction.{executed}
 use Rattle.integers.specs.Machine.{back}
 use Rattle.outputs.specs.Outputs.{instructionOf}
 use Rattle.outputs.proofs.output_after.Statement.{statement}
@@ -15,7 +15,7 @@ limited-in-requires : tie.Need-limited-in-requires
 limited-in-requires c κs = search needs
 
 returns : tie.Need-returns
-unfolding carriedOut instructionOf
+unfolding executed instructionOf
 returns c =
     let limited-in = c .limited-in in
     let changed-in = c .before .changed-in in

@@ -5,9 +5,9 @@ use lib.IntN.{_+ℤ_, _-ℤ_}
 use mir.Val.{toZ, ofZ}
 use mir.Syntax.{w64}
 use Rattle.outputs.specs.OutputLaws.{twice, small-of, sum-most, difference-most, reading-size}
-use Rattle.setpoints.specs.ReckoningLaws.{reading-back, reading-small}
+use Rattle.setpoints.specs.ComputationLaws.{reading-back, reading-small}
 use Rattle.integers.specs.Machine.{back}
-use Rattle.outputs.specs.Deviation.{secondDifference}
+use Rattle.outputs.specs.ControlDifference.{secondDifference}
 use Rattle.outputs.proofs.second_difference.Statement.{statement}
 use Rattle.outputs.proofs.second_difference.Tie as tie
 
@@ -16,7 +16,8 @@ plus-requires c κs =
     let pv = c .before .before .pre .1 .pv-read in
     simp (reading-back pv) (reading-small _ pv, reading-small _ pv)
 
-double-is : (c : tie.After-plus) → let past = c .before .before .before .args .past in toZ w64 (ofZ w64 (c .plus .result)) ≡ past .pv +ℤ past .pv
+double-is : (c : tie.After-plus) → let past = c .before .before .before .args .past in
+    toZ w64 (ofZ w64 (c .plus .result)) ≡ past .pv +ℤ past .pv
 double-is c = back w64 (c .plus .result) (c .plus .ok) ∙ c .plus .ensures ∙ simp (reading-back (c .before .before .before .pre .1 .pv-read))
 
 minus-requires : tie.Need-minus-requires
@@ -29,13 +30,17 @@ first-is : (c : tie.After-minus) → let start = c .before .before .before .befo
     toZ w64 (ofZ w64 (c .minus .result)) ≡ start .args .r .pv -ℤ (start .args .past .pv +ℤ start .args .past .pv)
 first-is c =
     let start = c .before .before .before .before .before in
-    back w64 (c .minus .result) (c .minus .ok) ∙ c .minus .ensures ∙ simp (reading-back (start .pre .0 .pv-read), double-is (c .before .before))
+    back w64 (c .minus .result) (c .minus .ok) ∙ c .minus .ensures ∙
+    simp (reading-back (start .pre .0 .pv-read), double-is (c .before .before))
 
 plus-requires-2 : tie.Need-plus-requires-2
 plus-requires-2 c κs =
     let pre = c .before .before .before .before .before .before .pre in
-    simp (first-is (c .before), reading-back (pre .1 .before-read))
-    (small-of (difference-most (reading-size (pre .0 .pv-read)) (sum-most (reading-size (pre .1 .pv-read)) (reading-size (pre .1 .pv-read)))) (omega arith), reading-small _ (pre .1 .before-read))
+    simp (first-is (c .before), reading-back (pre .1 .before-read)) (
+      small-of (difference-most (reading-size (pre .0 .pv-read))
+          (sum-most (reading-size (pre .1 .pv-read)) (reading-size (pre .1 .pv-read)))) (omega arith),
+      reading-small _ (pre .1 .before-read),
+    )
 
 returns : tie.Need-returns
 unfolding secondDifference

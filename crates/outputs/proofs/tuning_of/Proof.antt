@@ -1,9 +1,9 @@
 -- `outputs::tuning_of` meets its contract.
 use mir.Syntax.{w64}
 use borrow.Author.Needs.{needs}
-use Rattle.setpoints.specs.ReckoningLaws.{reading-small, low-reading, high-reading}
+use Rattle.setpoints.specs.ComputationLaws.{reading-small, low-reading, high-reading}
 use Rattle.integers.specs.Machine.{back}
-use Rattle.outputs.specs.Deviation.{tuningOf}
+use Rattle.outputs.specs.ControlDifference.{tuningOf}
 use Rattle.outputs.proofs.tuning_of.Statement.{statement}
 use Rattle.outputs.proofs.tuning_of.Tie as tie
 
@@ -24,8 +24,10 @@ minus-requires c κs =
     let get3 = c .get3 in
     let get2 = c .before .get2 in
     let start = c .before .before .before .before in
-    simp (back w64 (get2 .result) (get2 .ok), back w64 (get3 .result) (get3 .ok))
-    (rw (get2 .ensures) (reading-small _ (high-reading (start .args .p) (start .pre))), rw (get3 .ensures) (reading-small _ (low-reading (start .args .p) (start .pre))))
+    simp (back w64 (get2 .result) (get2 .ok), back w64 (get3 .result) (get3 .ok)) (
+      rw (get2 .ensures) (reading-small _ (high-reading (start .args .p) (start .pre))),
+      rw (get3 .ensures) (reading-small _ (low-reading (start .args .p) (start .pre))),
+    )
 
 get-requires-4 : tie.Need-get-requires-4
 get-requires-4 c κs = search needs

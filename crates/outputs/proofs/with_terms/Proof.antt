@@ -11,13 +11,14 @@ use Rattle.integers.specs.Machine.{back}
 use Rattle.terms.specs.Terms.{storedTerm, proportionalTerm, integralTerm, derivativeTerm, TuningRange}
 use Rattle.terms.specs.TermLaws.{proportional-positive, integral-positive, derivative-positive}
 use Rattle.terms.specs.declared.Tuning.{Tuning}
-use Rattle.setpoints.specs.ReckoningLaws.{reading-back, reading-small}
+use Rattle.setpoints.specs.ComputationLaws.{reading-back, reading-small}
 use Rattle.outputs.specs.declared.Past.{Past}
-use Rattle.outputs.specs.Deviation.{deviation, changeOfDeviation, secondDifference, tuningOf}
+use Rattle.outputs.specs.ControlDifference.{controlDifference, changeOfDifference, secondDifference, tuningOf}
 use Rattle.outputs.specs.History.{recalled}
 use Rattle.outputs.specs.Instruction.{changed, storedArithmetic}
 use Rattle.outputs.specs.Outputs.{termsOf}
-use Rattle.outputs.specs.OutputLaws.{Recalled, recalled-read, deviation-most, change-most, second-most, tuning-range, stored-size, stored-small, term-sized, small-of, sum-most}
+use Rattle.outputs.specs.OutputLaws.{PastRange, recalled-read, control-difference-most, change-most, second-most}
+use Rattle.outputs.specs.OutputLaws.{tuning-range, stored-size, stored-small, term-sized, small-of, sum-most}
 use Rattle.outputs.proofs.with_terms.Statement.{statement}
 use Rattle.outputs.proofs.with_terms.Tie as tie
 
@@ -30,21 +31,22 @@ recalled-requires c κs = search needs
 past-is : (c : tie.After-recalled) → let a = c .before .before .before .args in c .recalled .result ≡ recalled (a .h) (a .r)
 past-is c = c .recalled .ensures
 
-past-read : (c : tie.After-recalled) → Recalled (c .recalled .result)
+past-read : (c : tie.After-recalled) → PastRange (c .recalled .result)
 past-read c =
     let start = c .before .before .before in
     rw (past-is c) (recalled-read (start .args .h) (start .args .r) (start .pre .2) (start .pre .1))
 
-change-of-deviation-requires : tie.Need-change-of-deviation-requires
-change-of-deviation-requires c κs = (c .before .before .before .pre .1, past-read c)
+change-of-difference-requires : tie.Need-change-of-difference-requires
+change-of-difference-requires c κs = (c .before .before .before .pre .1, past-read c)
 
-deviation-requires : tie.Need-deviation-requires
-deviation-requires c κs =
+control-difference-requires : tie.Need-control-difference-requires
+control-difference-requires c κs =
     let read = c .before .before .before .before .before .before .pre .1 in
     simp (reading-back (read .sp-read), reading-back (read .pv-read)) (reading-small _ (read .sp-read), reading-small _ (read .pv-read))
 
 second-difference-requires : tie.Need-second-difference-requires
-second-difference-requires c κs = (c .before .before .before .before .before .before .before .pre .1, past-read (c .before .before .before .before))
+second-difference-requires c κs =
+    (c .before .before .before .before .before .before .before .pre .1, past-read (c .before .before .before .before))
 
 -- the terms' arguments, in the definition's words
 module _ (c : tie.After-second-difference) where
@@ -68,26 +70,26 @@ module _ (c : tie.After-second-difference) where
   unfolding tuning start
   tuned = tuning-range (start .args .p) (start .args .x .switches) (start .pre .0)
 
-  past-known : Recalled past
+  past-known : PastRange past
   unfolding past start
   past-known = recalled-read (start .args .h) (start .args .r) (start .pre .2) (start .pre .1)
 
   change : ℤ
-  change = changeOfDeviation (start .args .x .switches) (start .args .x .mode) (start .args .r) past
+  change = changeOfDifference (start .args .x .switches) (start .args .x .mode) (start .args .r) past
 
-  change-is : let call = c .before .before .before .before .change-of-deviation in toZ w64 (ofZ w64 (call .result)) ≡ change
+  change-is : let call = c .before .before .before .before .change-of-difference in toZ w64 (ofZ w64 (call .result)) ≡ change
   unfolding change past start
   change-is =
-      let call = c .before .before .before .before .change-of-deviation in
+      let call = c .before .before .before .before .change-of-difference in
       back w64 (call .result) (call .ok) ∙ call .ensures ∙ simp (past-is (c .before .before .before .before .before))
 
   now : ℤ
-  now = deviation inverse (start .args .r .sp) (start .args .r .pv)
+  now = controlDifference inverse (start .args .r .sp) (start .args .r .pv)
 
-  now-is : let call = c .before .deviation in toZ w64 (ofZ w64 (call .result)) ≡ now
+  now-is : let call = c .before .control-difference in toZ w64 (ofZ w64 (call .result)) ≡ now
   unfolding now inverse start
   now-is =
-      let call = c .before .deviation in
+      let call = c .before .control-difference in
       let read = start .pre .1 in
       back w64 (call .result) (call .ok) ∙ call .ensures ∙ simp (reading-back (read .sp-read), reading-back (read .pv-read))
 
@@ -106,9 +108,11 @@ proportional-requires c κs =
     simp (tuning-is c, change-is c)
     (tuned c, change-most _ _ _ _ (start c .pre .1) (past-known c))
 
-proportional-is : (c : tie.After-proportional) → toZ w64 (ofZ w64 (c .proportional .result)) ≡ storedTerm (proportionalTerm (tuning (c .before)) (change (c .before)))
+proportional-is : (c : tie.After-proportional) →
+    toZ w64 (ofZ w64 (c .proportional .result)) ≡ storedTerm (proportionalTerm (tuning (c .before)) (change (c .before)))
 proportional-is c =
-    back w64 (c .proportional .result) (c .proportional .ok) ∙ c .proportional .ensures ∙ simp (tuning-is (c .before), change-is (c .before))
+    back w64 (c .proportional .result) (c .proportional .ok) ∙ c .proportional .ensures ∙
+    simp (tuning-is (c .before), change-is (c .before))
 
 plus-requires : tie.Need-plus-requires
 unfolding start
@@ -117,19 +121,22 @@ plus-requires c κs =
     simp (toZ-ofZ (s .fits .output), proportional-is c)
     (stored-small (s .args .output) (s .pre .3), small-of (term-sized _ (proportional-positive _ (tuned (c .before)) _)) (omega arith))
 
-one-is : (c : tie.After-plus) → let b = c .before .before in toZ w64 (ofZ w64 (c .plus .result)) ≡ start b .args .output +ℤ storedTerm (proportionalTerm (tuning b) (change b))
+one-is : (c : tie.After-plus) → let b = c .before .before in
+    toZ w64 (ofZ w64 (c .plus .result)) ≡ start b .args .output +ℤ storedTerm (proportionalTerm (tuning b) (change b))
 unfolding start
 one-is c =
-    back w64 (c .plus .result) (c .plus .ok) ∙ c .plus .ensures ∙ simp (toZ-ofZ (start (c .before .before) .fits .output), proportional-is (c .before))
+    back w64 (c .plus .result) (c .plus .ok) ∙ c .plus .ensures ∙
+    simp (toZ-ofZ (start (c .before .before) .fits .output), proportional-is (c .before))
 
 integral-requires : tie.Need-integral-requires
 unfolding start now
 integral-requires c κs =
     let b = c .before .before in
     let read = start b .pre .1 in
-    simp (tuning-is b, now-is b) (tuned b, deviation-most _ _ _ (read .sp-read) (read .pv-read))
+    simp (tuning-is b, now-is b) (tuned b, control-difference-most _ _ _ (read .sp-read) (read .pv-read))
 
-integral-is : (c : tie.After-integral) → let b = c .before .before .before in toZ w64 (ofZ w64 (c .integral .result)) ≡ storedTerm (integralTerm (tuning b) (now b))
+integral-is : (c : tie.After-integral) → let b = c .before .before .before in
+    toZ w64 (ofZ w64 (c .integral .result)) ≡ storedTerm (integralTerm (tuning b) (now b))
 integral-is c =
     let b = c .before .before .before in
     back w64 (c .integral .result) (c .integral .ok) ∙ c .integral .ensures ∙ simp (tuning-is b, now-is b)
@@ -145,7 +152,8 @@ plus-requires-2 c κs =
     )
 
 two-is : (c : tie.After-plus2) → let b = c .before .before .before .before in
-    toZ w64 (ofZ w64 (c .plus2 .result)) ≡ (start b .args .output +ℤ storedTerm (proportionalTerm (tuning b) (change b))) +ℤ storedTerm (integralTerm (tuning b) (now b))
+    toZ w64 (ofZ w64 (c .plus2 .result))
+    ≡ (start b .args .output +ℤ storedTerm (proportionalTerm (tuning b) (change b))) +ℤ storedTerm (integralTerm (tuning b) (now b))
 two-is c =
     back w64 (c .plus2 .result) (c .plus2 .ok) ∙ c .plus2 .ensures ∙ simp (one-is (c .before .before), integral-is (c .before))
 
@@ -155,7 +163,8 @@ derivative-requires c κs =
     let b = c .before .before .before .before in
     simp (tuning-is b, second-is b) (tuned b, second-most _ _ (start b .pre .1) (past-known b))
 
-derivative-is : (c : tie.After-derivative) → let b = c .before .before .before .before .before in toZ w64 (ofZ w64 (c .derivative .result)) ≡ storedTerm (derivativeTerm (tuning b) (second b))
+derivative-is : (c : tie.After-derivative) → let b = c .before .before .before .before .before in
+    toZ w64 (ofZ w64 (c .derivative .result)) ≡ storedTerm (derivativeTerm (tuning b) (second b))
 derivative-is c =
     let b = c .before .before .before .before .before in
     back w64 (c .derivative .result) (c .derivative .ok) ∙ c .derivative .ensures ∙ simp (tuning-is b, second-is b)
@@ -166,7 +175,8 @@ plus-requires-3 c κs =
     let b = c .before .before .before .before .before in
     let s = start b in
     simp (two-is (c .before), derivative-is c) (
-      small-of (sum-most (sum-most (stored-size (s .pre .3)) (term-sized _ (proportional-positive _ (tuned b) _))) (term-sized _ (integral-positive _ (tuned b) _))) (omega arith),
+      small-of (sum-most (sum-most (stored-size (s .pre .3)) (term-sized _ (proportional-positive _ (tuned b) _)))
+          (term-sized _ (integral-positive _ (tuned b) _))) (omega arith),
       small-of (term-sized _ (derivative-positive _ (tuned b) _)) (omega arith),
     )
 
@@ -181,8 +191,8 @@ with-terms-spec =
     (tie.spec
     tuning-of-requires
     recalled-requires
-    change-of-deviation-requires
-    deviation-requires
+    change-of-difference-requires
+    control-difference-requires
     second-difference-requires
     proportional-requires
     plus-requires

@@ -1,4 +1,5 @@
--- `scaling::root` meets its contract. The root is at least `found` and below `beyond`, and each turn halves what lies between.
+-- `scaling::root` meets its contract. The root is at least `found` and below `beyond`, and each turn
+-- halves what lies between.
 use Prim.Native.Nat.{_+_, _-_, _*_, _/_, _≤_, _<_}
 use native.Mathlib.Omega.{arith}
 use Rattle.scaling.specs.Root.{squares, root-from, root-is, root-same}
@@ -6,7 +7,8 @@ use Rattle.scaling.proofs.root.Statement.{statement}
 use Rattle.scaling.proofs.root.Tie as tie
 
 abbrev Inv-loop : tie.InvT-loop
-Inv-loop sample n found₀ beyond₀ found beyond = (found < beyond) × (beyond ≤ 10001) × (found * found ≤ 10000 * sample) × (10000 * sample < beyond * beyond)
+Inv-loop sample n found₀ beyond₀ found beyond =
+    (found < beyond) × (beyond ≤ 10001) × (found * found ≤ 10000 * sample) × (10000 * sample < beyond * beyond)
 
 abbrev μ-loop : tie.MeasureT-loop
 μ-loop sample n found₀ beyond₀ found beyond = beyond - found

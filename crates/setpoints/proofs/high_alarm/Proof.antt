@@ -3,7 +3,7 @@ use mir.Facts.{toZ-ofZ}
 use mir.Syntax.{w64}
 use borrow.Author.Needs.{needs}
 use Rattle.integers.specs.Machine.{back}
-use Rattle.setpoints.specs.Reckoning.{highAlarm}
+use Rattle.setpoints.specs.Computation.{highAlarm}
 use Rattle.setpoints.proofs.high_alarm.Statement.{statement}
 use Rattle.setpoints.proofs.high_alarm.Tie as tie
 

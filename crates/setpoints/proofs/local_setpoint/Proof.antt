@@ -2,7 +2,7 @@
 use mir.Facts.{toZ-ofZ}
 use mir.Syntax.{w64}
 use borrow.Author.Needs.{needs}
-use Rattle.setpoints.specs.ReckoningLaws.{added-small}
+use Rattle.setpoints.specs.ComputationLaws.{added-small}
 use Rattle.integers.specs.Machine.{back}
 use Rattle.setpoints.specs.Setpoints.{localSetpoint}
 use Rattle.setpoints.proofs.local_setpoint.Statement.{statement}
@@ -15,8 +15,11 @@ plus-requires : tie.Need-plus-requires
 plus-requires c κs =
     let start = c .before in
     let choose = c .choose in
-    simp (toZ-ofZ (start .fits .sl), back w64 (choose .result) (choose .ok))
-    (start .pre .0, rw (choose .ensures, toZ-ofZ (start .fits .trim)) (added-small (start .args .ratioswitch) (start .args .trim) (start .pre .1)))
+    simp (toZ-ofZ (start .fits .sl), back w64 (choose .result) (choose .ok)) (
+      start .pre .0,
+      rw (choose .ensures, toZ-ofZ (start .fits .trim))
+          (added-small (start .args .ratioswitch) (start .args .trim) (start .pre .1)),
+    )
 
 returns : tie.Need-returns
 unfolding localSetpoint

@@ -3,9 +3,9 @@ use native.Mathlib.Omega.{arith}
 use mir.Facts.{toZ-ofZ}
 use mir.Syntax.{w64}
 use borrow.Author.Needs.{needs}
-use Rattle.setpoints.specs.ReckoningLaws.{deviation-small, zero-minus}
+use Rattle.setpoints.specs.ComputationLaws.{deviation-small, zero-minus}
 use Rattle.integers.specs.Machine.{back}
-use Rattle.setpoints.specs.Reckoning.{lowAlarm}
+use Rattle.setpoints.specs.Computation.{lowAlarm}
 use Rattle.setpoints.proofs.low_alarm.Statement.{statement}
 use Rattle.setpoints.proofs.low_alarm.Tie as tie
 

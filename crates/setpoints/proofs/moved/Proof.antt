@@ -6,7 +6,6 @@ use mir.Syntax.{w64}
 use borrow.Author.Needs.{needs}
 use Rattle.integers.specs.Machine.{back}
 use Rattle.integers.specs.Machine.{back}
-use Rattle.setpoints.specs.Setpoints.{moved}
 use Rattle.setpoints.proofs.moved.Statement.{statement}
 use Rattle.setpoints.proofs.moved.Tie as tie
 
@@ -32,7 +31,6 @@ enum-told-3 : tie.Need-enum-told-3
 enum-told-3 c = search needs
 
 returns : tie.Need-returns
-unfolding moved
 returns c =
     let limit = c .limit in
     let plus = c .before .plus in
@@ -42,7 +40,6 @@ returns c =
     (simp (plus .ensures, toZ-ofZ (start .fits .by), toZ-ofZ (start .fits .v))))
 
 returns-2 : tie.Need-returns-2
-unfolding moved
 returns-2 c =
     let limit2 = c .limit2 in
     let minus = c .before .minus in

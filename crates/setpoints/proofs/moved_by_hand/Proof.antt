@@ -10,8 +10,8 @@ use Rattle.setpoints.proofs.moved_by_hand.Tie as tie
 buttons-of-requires : tie.Need-buttons-of-requires
 buttons-of-requires c κs = search needs
 
-push-of-requires : tie.Need-push-of-requires
-push-of-requires c κs = search needs
+adjustment-of-requires : tie.Need-adjustment-of-requires
+adjustment-of-requires c κs = search needs
 
 moved-requires : tie.Need-moved-requires
 moved-requires c κs = search needs
@@ -25,17 +25,17 @@ returns c =
     let choose = c .choose in
     let b1 = c .before .before in
     let moved = b1 .moved in
-    let push-of = b1 .before .push-of in
+    let adjustment-of = b1 .before .adjustment-of in
     let b2 = b1 .before .before in
     let buttons-of = b2 .buttons-of in
     let start = b2 .before in
     simp (back w64 (choose .result) (choose .ok))
     (simp (choose .ensures, back w64 (moved .result) (moved .ok), toZ-ofZ (start .fits .v))
     (simp (moved .ensures, toZ-ofZ (start .fits .by), toZ-ofZ (start .fits .low), toZ-ofZ (start .fits .high), toZ-ofZ (start .fits .v))
-    (simp (push-of .ensures)
+    (simp (adjustment-of .ensures)
     (simp (buttons-of .ensures)))))
 
 pub moved-by-hand-spec : {M : Type 1} → statement M
 moved-by-hand-spec =
     tie.close
-    (tie.spec buttons-of-requires push-of-requires moved-requires choose-requires returns)
+    (tie.spec buttons-of-requires adjustment-of-requires moved-requires choose-requires returns)

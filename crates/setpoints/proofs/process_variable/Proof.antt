@@ -1,7 +1,7 @@
 -- `setpoints::process_variable` meets its contract.
 use mir.Syntax.{w64}
 use borrow.Author.Needs.{needs}
-use Rattle.setpoints.specs.ReckoningLaws.{range1}
+use Rattle.setpoints.specs.ComputationLaws.{range1}
 use Rattle.integers.specs.Machine.{back}
 use Rattle.setpoints.specs.Setpoints.{processVariable}
 use Rattle.setpoints.proofs.process_variable.Statement.{statement}

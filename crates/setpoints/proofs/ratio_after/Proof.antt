@@ -2,7 +2,7 @@
 use native.Mathlib.Omega.{arith}
 use mir.Syntax.{w64}
 use borrow.Author.Needs.{needs}
-use Rattle.setpoints.specs.ReckoningLaws.{ratio-small}
+use Rattle.setpoints.specs.ComputationLaws.{ratio-small}
 use Rattle.integers.specs.Machine.{back}
 use Rattle.setpoints.specs.Setpoints.{ratioAfter}
 use Rattle.setpoints.proofs.ratio_after.Statement.{statement}

@@ -6,7 +6,6 @@ use mir.Syntax.{w64}
 use borrow.Author.Needs.{needs}
 use Rattle.integers.specs.Machine.{back}
 use Rattle.integers.specs.Machine.{back}
-use Rattle.setpoints.specs.Setpoints.{quotientOf}
 use Rattle.setpoints.proofs.ratio_quotient.Statement.{statement}
 use Rattle.setpoints.proofs.ratio_quotient.Tie as tie
 
@@ -17,7 +16,6 @@ ratio-requires : tie.Need-ratio-requires
 ratio-requires c κs = search needs
 
 returns : tie.Need-returns
-unfolding quotientOf
 returns c =
     let inverse-ratio = c .inverse-ratio in
     let start = c .before .before in
@@ -25,7 +23,6 @@ returns c =
     (simp (inverse-ratio .ensures, toZ-ofZ (start .fits .q)))
 
 returns-2 : tie.Need-returns-2
-unfolding quotientOf
 returns-2 c =
     let ratio = c .ratio in
     let start = c .before .before in

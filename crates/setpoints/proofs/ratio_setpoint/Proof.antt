@@ -9,7 +9,7 @@ use Rattle.integers.specs.Limit.{limited}
 use Rattle.scaling.specs.Scale.{scaled}
 use Rattle.scaling.specs.Ratio.{RatioRange}
 use Rattle.parameters.specs.Table.{H2, L2, HR, LR}
-use Rattle.setpoints.specs.ReckoningLaws.{range2, ratio-range, quotient-small, bias-small}
+use Rattle.setpoints.specs.ComputationLaws.{range2, ratio-range, quotient-small, bias-small}
 use Rattle.integers.specs.Machine.{back}
 use Rattle.setpoints.specs.Setpoints.{ratioSetpoint}
 use Rattle.setpoints.proofs.ratio_setpoint.Statement.{statement}
@@ -46,13 +46,16 @@ s-is c =
     (simp (limit .ensures, back w64 (plus .result) (plus .ok), back w64 (get2 .result) (get2 .ok), back w64 (get .result) (get .ok))
     (simp (plus .ensures, get2 .ensures, get .ensures, toZ-ofZ (start .fits .rs), toZ-ofZ (start .fits .trim))))
 
-q-is : (c : tie.After-channel) → toZ w64 (ofZ w64 (c .channel .result)) ≡ scaled (L2 (c .before .args .p)) (H2 (c .before .args .p)) (c .before .args .input .sample2)
+q-is : (c : tie.After-channel) →
+    toZ w64 (ofZ w64 (c .channel .result)) ≡ scaled (L2 (c .before .args .p)) (H2 (c .before .args .p)) (c .before .args .input .sample2)
 q-is c = back w64 (c .channel .result) (c .channel .ok) ∙ c .channel .ensures
 
-in-range : (c : tie.After-magnitude) → RatioRange (toZ w64 (ofZ w64 (c .before .before .before .before .before .channel .result))) (c .magnitude .result)
+in-range : (c : tie.After-magnitude) →
+    RatioRange (toZ w64 (ofZ w64 (c .before .before .before .before .before .channel .result))) (c .magnitude .result)
 in-range c =
     let start = c .before .before .before .before .before .before in
-    rw (q-is (c .before .before .before .before .before), s-is c) (ratio-range (start .args .p) (start .pre .0) (start .args .input) (start .pre .1) _)
+    rw (q-is (c .before .before .before .before .before), s-is c)
+    (ratio-range (start .args .p) (start .pre .0) (start .args .input) (start .pre .1) _)
 
 ratio-quotient-requires : tie.Need-ratio-quotient-requires
 ratio-quotient-requires c κs = in-range c
@@ -65,8 +68,10 @@ plus-requires-2 c κs =
     let quotient = c .before .ratio-quotient in
     let get3 = c .get3 in
     let start = c .before .before .before .before .before .before .before .before in
-    simp (back w64 (quotient .result) (quotient .ok), back w64 (get3 .result) (get3 .ok))
-    (rw (quotient .ensures) (quotient-small (start .args .inverse) _ _ (in-range (c .before .before))), rw (get3 .ensures) (bias-small (start .args .p) (start .pre .0)))
+    simp (back w64 (quotient .result) (quotient .ok), back w64 (get3 .result) (get3 .ok)) (
+      rw (quotient .ensures) (quotient-small (start .args .inverse) _ _ (in-range (c .before .before))),
+      rw (get3 .ensures) (bias-small (start .args .p) (start .pre .0)),
+    )
 
 returns : tie.Need-returns
 unfolding ratioSetpoint

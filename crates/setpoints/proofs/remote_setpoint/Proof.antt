@@ -1,7 +1,7 @@
 -- `setpoints::remote_setpoint` meets its contract.
 use mir.Facts.{toZ-ofZ}
 use mir.Syntax.{w64}
-use Rattle.setpoints.specs.ReckoningLaws.{range1, reading-small, scaled-reading}
+use Rattle.setpoints.specs.ComputationLaws.{range1, reading-small, scaled-reading}
 use Rattle.integers.specs.Machine.{back}
 use Rattle.setpoints.specs.Setpoints.{remoteSetpoint}
 use Rattle.setpoints.proofs.remote_setpoint.Statement.{statement}

@@ -42,7 +42,13 @@ returns-2 c =
     let start = b .before .before in
     let call = c .ratio-setpoint in
     simp (back w64 (call .result) (call .ok))
-    (simp (call .ensures, toZ-ofZ (start .fits .rs), toZ-ofZ (start .fits .trim), sym (b .before .is-remote .ensures) ∙ c .before .before .if1 .left, sym (b .is-ratio .ensures) ∙ c .before .if2 .taken))
+    (simp (
+      call .ensures,
+      toZ-ofZ (start .fits .rs),
+      toZ-ofZ (start .fits .trim),
+      sym (b .before .is-remote .ensures) ∙ c .before .before .if1 .left,
+      sym (b .is-ratio .ensures) ∙ c .before .if2 .taken,
+    ))
 
 local-setpoint-requires : tie.Need-local-setpoint-requires
 local-setpoint-requires c κs = search needs
@@ -54,7 +60,13 @@ returns-3 c =
     let start = b .before .before in
     let call = c .local-setpoint in
     simp (back w64 (call .result) (call .ok))
-    (simp (call .ensures, toZ-ofZ (start .fits .sl), toZ-ofZ (start .fits .trim), sym (b .before .is-remote .ensures) ∙ c .before .before .if1 .left, sym (b .is-ratio .ensures) ∙ c .before .if2 .left))
+    (simp (
+      call .ensures,
+      toZ-ofZ (start .fits .sl),
+      toZ-ofZ (start .fits .trim),
+      sym (b .before .is-remote .ensures) ∙ c .before .before .if1 .left,
+      sym (b .is-ratio .ensures) ∙ c .before .if2 .left,
+    ))
 
 pub setpoint-in-spec : {M : Type 1} → statement M
 setpoint-in-spec =

@@ -2,7 +2,7 @@
 use native.Mathlib.Omega.{arith}
 use mir.Syntax.{w64}
 use borrow.Author.Needs.{needs}
-use Rattle.setpoints.specs.ReckoningLaws.{setpoint-small}
+use Rattle.setpoints.specs.ComputationLaws.{setpoint-small}
 use Rattle.integers.specs.Machine.{back}
 use Rattle.setpoints.specs.Setpoints.{setpointMoved}
 use Rattle.setpoints.proofs.setpoint_moved.Statement.{statement}

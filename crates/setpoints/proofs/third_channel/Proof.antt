@@ -1,6 +1,6 @@
 -- `setpoints::third_channel` meets its contract.
 use mir.Syntax.{w64}
-use Rattle.setpoints.specs.ReckoningLaws.{range3}
+use Rattle.setpoints.specs.ComputationLaws.{range3}
 use Rattle.integers.specs.Machine.{back}
 use Rattle.setpoints.specs.Setpoints.{thirdChannel}
 use Rattle.setpoints.proofs.third_channel.Statement.{statement}

@@ -24,7 +24,16 @@ bit-requires-6 c κs = search needs
 
 returns : tie.Need-returns
 unfolding buttonsOf
-returns c = simp (c .bit6 .ensures, c .before .bit5 .ensures, c .before .before .bit4 .ensures, c .before .before .before .bit3 .ensures, c .before .before .before .before .bit2 .ensures, c .before .before .before .before .before .bit .ensures)
+returns c =
+    let earlier = c .before .before .before in
+    simp (
+      c .bit6 .ensures,
+      c .before .bit5 .ensures,
+      c .before .before .bit4 .ensures,
+      earlier .bit3 .ensures,
+      earlier .before .bit2 .ensures,
+      earlier .before .before .bit .ensures,
+    )
 
 pub buttons-of-spec : {M : Type 1} → statement M
 buttons-of-spec =

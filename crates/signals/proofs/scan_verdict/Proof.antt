@@ -2,7 +2,7 @@
 use mathlib.Core.Path.{_≡_, _∙_}
 use mathlib.Core.Bool.{_||_}
 use borrow.Author.Needs.{needs}
-use Rattle.signals.specs.Refusals.{declinedBy, scanTests}
+use Rattle.signals.specs.Refusals.{refusedBy, scanTests}
 use Rattle.signals.specs.Bits.{bit}
 use Rattle.signals.proofs.scan_verdict.Statement.{statement}
 use Rattle.signals.proofs.scan_verdict.Tie as tie
@@ -25,19 +25,19 @@ buttons-is : (c : tie.After-bit2) → let i = c .before .before .before .before 
 buttons-is c = simp (c .bit2 .ensures, c .before .before .bit .ensures)
 
 returns : tie.Need-returns
-unfolding declinedBy scanTests
+unfolding refusedBy scanTests
 returns c = simp (c .if1 .taken)
 
 returns-2 : tie.Need-returns-2
-unfolding declinedBy scanTests
+unfolding refusedBy scanTests
 returns-2 c = simp (c .before .if1 .left, buttons-is (c .before .before .before) ∙ c .if2 .taken)
 
 returns-3 : tie.Need-returns-3
-unfolding declinedBy scanTests
+unfolding refusedBy scanTests
 returns-3 c = simp (c .before .before .if1 .left, buttons-is (c .before .before .before .before) ∙ c .before .if2 .left, c .if3 .taken)
 
 returns-4 : tie.Need-returns-4
-unfolding declinedBy scanTests
+unfolding refusedBy scanTests
 returns-4 c = simp (c .before .before .if1 .left, buttons-is (c .before .before .before .before) ∙ c .before .if2 .left, c .if3 .left)
 
 pub scan-verdict-spec : {M : Type 1} → statement M

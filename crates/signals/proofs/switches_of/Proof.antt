@@ -30,7 +30,18 @@ bit-requires-8 c κs = search needs
 
 returns : tie.Need-returns
 unfolding switchesOf
-returns c = simp (c .bit8 .ensures, c .before .bit7 .ensures, c .before .before .bit6 .ensures, c .before .before .before .bit5 .ensures, c .before .before .before .before .bit4 .ensures, c .before .before .before .before .before .bit3 .ensures, c .before .before .before .before .before .before .bit2 .ensures, c .before .before .before .before .before .before .before .bit .ensures)
+returns c =
+    let earlier = c .before .before .before .before in
+    simp (
+      c .bit8 .ensures,
+      c .before .bit7 .ensures,
+      c .before .before .bit6 .ensures,
+      c .before .before .before .bit5 .ensures,
+      earlier .bit4 .ensures,
+      earlier .before .bit3 .ensures,
+      earlier .before .before .bit2 .ensures,
+      earlier .before .before .before .bit .ensures,
+    )
 
 pub switches-of-spec : {M : Type 1} → statement M
 switches-of-spec =

@@ -33,7 +33,8 @@ module _ (c : tie.After-scan-denominator) where
       bounded (10000000 * 39996) 500 (omega (arith, size-is (c .before)))
       (omega (arith, c .scan-denominator .ensures, scan-denominator-range (s .args .t) (s .pre .0)))
 
-  numerator-most : 10000000 * c .before .magnitude .result * c .scan-denominator .result * c .before .before .args .t .td ≤ 10000000 * 39996 * 500 * 9999
+  numerator-most : 10000000 * c .before .magnitude .result * c .scan-denominator .result * c .before .before .args .t .td
+      ≤ 10000000 * 39996 * 500 * 9999
   numerator-most = bounded (10000000 * 39996 * 500) 9999 part-most (c .before .before .pre .0 .td-most)
 
 mul-numerator-2 : tie.Need-mul-numerator-2
@@ -79,7 +80,15 @@ returns c =
     let d = c .before .before .before in
     let s = d .before .before .before .before .before in
     back w64 _ (c .stored-term .ok) ∙ c .stored-term .ensures ∙
-    simp (c .before .turn .ensures, c .before .before .negative .ensures, d .band .ensures, d .before .scan-numerator .ensures, d .before .before .before .scan-denominator .ensures, size-is (d .before .before .before .before), toZ-ofZ (s .fits .d))
+    simp (
+      c .before .turn .ensures,
+      c .before .before .negative .ensures,
+      d .band .ensures,
+      d .before .scan-numerator .ensures,
+      d .before .before .before .scan-denominator .ensures,
+      size-is (d .before .before .before .before),
+      toZ-ofZ (s .fits .d),
+    )
     (ap storedTerm (derivative-parts (s .args .t) (s .args .d)))
 
 pub derivative-spec : {M : Type 1} → statement M

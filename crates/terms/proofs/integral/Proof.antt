@@ -32,7 +32,8 @@ scan-numerator-requires c κs = search needs
 numerator-most : (c : tie.After-scan-numerator) → 10000000 * c .before .magnitude .result * c .scan-numerator .result ≤ 10000000 * 19998 * 9
 numerator-most c =
     let s = c .before .before .before .before in
-    bounded (10000000 * 19998) 9 (omega (arith, size-is (c .before))) (omega (arith, c .scan-numerator .ensures, scan-numerator-range (s .args .t) (s .pre .0)))
+    bounded (10000000 * 19998) 9 (omega (arith, size-is (c .before)))
+    (omega (arith, c .scan-numerator .ensures, scan-numerator-range (s .args .t) (s .pre .0)))
 
 mul-numerator-2 : tie.Need-mul-numerator-2
 mul-numerator-2 c = omega (arith, numerator-most c)
@@ -50,7 +51,8 @@ module _ (c : tie.After-scan-denominator) where
       bounded (9999 * 19998) 500 (omega (arith, c .before .band .ensures, band-most (s .args .t) (s .pre .0)))
       (omega (arith, c .scan-denominator .ensures, scan-denominator-range (s .args .t) (s .pre .0)))
 
-  denominator-most : c .before .band .result * c .scan-denominator .result * c .before .before .before .before .before .before .args .t .ti ≤ 9999 * 19998 * 500 * 9999
+  denominator-most : c .before .band .result * c .scan-denominator .result * c .before .before .before .before .before .before .args .t .ti
+      ≤ 9999 * 19998 * 500 * 9999
   denominator-most =
       let s = c .before .before .before .before .before .before in
       bounded (9999 * 19998 * 500) 9999 part-most (s .pre .0 .ti-most)
@@ -68,16 +70,28 @@ stored-term-requires : tie.Need-stored-term-requires
 stored-term-requires c κs =
     let s = c .before .before .before .before .before .before .before .before in
     let ti-some : 1 ≤ s .args .t .ti = omega arith in
-    let under-some : 1 ≤ c .before .before .scan-denominator .result = omega (arith, c .before .before .scan-denominator .ensures, scan-denominator-range (s .args .t) (s .pre .0)) in
-    let band-there : 1 ≤ c .before .before .before .band .result = omega (arith, c .before .before .before .band .ensures, band-some (s .args .t) (s .pre .0)) in
-    record { some = one-le-mul (one-le-mul band-there under-some) ti-some; small = omega (arith, numerator-most (c .before .before .before .before)) }
+    let under-some : 1 ≤ c .before .before .scan-denominator .result =
+    omega (arith, c .before .before .scan-denominator .ensures, scan-denominator-range (s .args .t) (s .pre .0)) in
+    let band-there : 1 ≤ c .before .before .before .band .result =
+    omega (arith, c .before .before .before .band .ensures, band-some (s .args .t) (s .pre .0)) in
+    record {
+      some = one-le-mul (one-le-mul band-there under-some) ti-some;
+      small = omega (arith, numerator-most (c .before .before .before .before));
+    }
 
 returns-2 : tie.Need-returns-2
 returns-2 c =
     let d = c .before in
     let s = d .before .before .before .before .before .before .before .before in
     back w64 _ (c .stored-term .ok) ∙ c .stored-term .ensures ∙
-    simp (d .negative .ensures, d .before .before .scan-denominator .ensures, d .before .before .before .band .ensures, d .before .before .before .before .scan-numerator .ensures, size-is (d .before .before .before .before .before), toZ-ofZ (s .fits .c))
+    simp (
+      d .negative .ensures,
+      d .before .before .scan-denominator .ensures,
+      d .before .before .before .band .ensures,
+      d .before .before .before .before .scan-numerator .ensures,
+      size-is (d .before .before .before .before .before),
+      toZ-ofZ (s .fits .c),
+    )
     (ap storedTerm (integral-parts (s .args .t) (s .args .c) (d .before .before .before .before .before .before .if1 .left)))
 
 pub integral-spec : {M : Type 1} → statement M

@@ -38,7 +38,12 @@ nearest-even-requires c κs = search needs
 signed-requires-2 : tie.Need-signed-requires-2
 signed-requires-2 c κs =
     let s = c .before .before in
-    omega (arith, within (c .before), c .nearest-even .ensures, halfEven-most (s .args .numerator * 65536) (s .args .denominator) (s .pre .some))
+    omega (
+      arith,
+      within (c .before),
+      c .nearest-even .ensures,
+      halfEven-most (s .args .numerator * 65536) (s .args .denominator) (s .pre .some),
+    )
 
 returns-2 : tie.Need-returns-2
 returns-2 c =

@@ -1,4 +1,5 @@
--- `text::digits` meets its contract. Every byte passed is a digit, so what is left, read on from their value, is what the whole reads.
+-- `text::digits` meets its contract. Every byte passed is a digit, so what is left, read on from their value, is what
+-- the whole reads.
 use mathlib.Core.Path.{_≡_, sym, ap, _∙_}
 use mathlib.Core.Bool.{true}
 use Prim.Native.Nat.{_-_, _^_, _≤_, _<_}
@@ -9,7 +10,7 @@ use mir.Syntax.{w64}
 use borrow.Author.Needs.{needs}
 use borrow.Author.Tests.{not-true, not-false, lt-ltb, le-leb, lt-leb}
 use Rattle.integers.specs.Machine.{back}
-use Rattle.text.specs.declared.Reading.the-variants.{Number}
+use Rattle.text.specs.declared.ParsedNumber.the-variants.{Number}
 use Rattle.text.specs.Numbers.{isDigit, readOn, digitsOf, digit-range, read-more, read-fails, read-ends, digits-more, digits-fit}
 use Rattle.text.proofs.digits.Statement.{statement}
 use Rattle.text.proofs.digits.Tie as tie
@@ -46,7 +47,8 @@ returns-3 : tie.Need-returns-3 Inv-loop μ-loop
 returns-3 c =
     let l = c .before .before .before .before in
     let s = l .before .before .before .before in
-    sym (l .loop .inv .2 ∙ read-fails (s .args .minus) (l .loop .value) (s .args .s .now) (l .loop .i) (search needs) (sym (c .before .is-digit .ensures) ∙ not-true _ (c .if3 .taken)))
+    sym (l .loop .inv .2 ∙ read-fails (s .args .minus) (l .loop .value) (s .args .s .now) (l .loop .i) (search needs)
+    (sym (c .before .is-digit .ensures) ∙ not-true _ (c .if3 .taken)))
 
 mul-value : tie.Need-mul-value Inv-loop μ-loop
 mul-value c =
@@ -57,7 +59,8 @@ digit-requires : tie.Need-digit-requires Inv-loop μ-loop
 digit-requires c κs = sym (c .before .is-digit .ensures) ∙ not-false _ (c .if3 .left)
 
 module _ (c : tie.After-digit Inv-loop μ-loop) where
-  is-one : isDigit (getD (c .before .before .before .before .before .before .before .before .before .args .s .now) (c .before .before .before .before .before .loop .i) 0) ≡ true
+  is-one : isDigit (getD (c .before .before .before .before .before .before .before .before .before .args .s .now)
+      (c .before .before .before .before .before .loop .i) 0) ≡ true
   is-one = sym (c .before .before .is-digit .ensures) ∙ not-false _ (c .before .if3 .left)
 
   digit-most : c .digit .result ≤ 9
@@ -77,8 +80,13 @@ loop-less c = search needs
 loop-again : tie.Need-loop-again Inv-loop μ-loop
 loop-again c =
     let l = c .before .before .before .before .before in
-    let s = l .before .before .before .before in
-    (search needs, digits-more (l .loop .value) (l .loop .i) (c .digit .result) (l .loop .inv .1) (digit-most c), l .loop .inv .2 ∙ rw (add-one, c .digit .ensures) (read-more (s .args .minus) (l .loop .value) (s .args .s .now) (l .loop .i) (search needs) (is-one c)))
+    let s = l .before .before .before .before in (
+      search needs,
+      digits-more (l .loop .value) (l .loop .i) (c .digit .result) (l .loop .inv .1) (digit-most c),
+      l .loop .inv .2 ∙
+          rw (add-one, c .digit .ensures)
+          (read-more (s .args .minus) (l .loop .value) (s .args .s .now) (l .loop .i) (search needs) (is-one c)),
+    )
 
 signed-requires : tie.Need-signed-requires Inv-loop μ-loop
 signed-requires c κs =

@@ -1,6 +1,7 @@
--- `text::run_end` meets its contract. Every byte passed fits, so the run's end seen from here is the run's end seen from its start.
-use mathlib.Core.Path.{_≡_, sym, _∙_}
-use Prim.Native.Nat.{_+_, _-_, _≤_}
+-- `text::run_end` meets its contract. Every byte passed fits, so the run's end seen from here is the run's end seen
+-- from its start.
+use mathlib.Core.Path.{_≡_, refl, sym, _∙_}
+use Prim.Native.Nat.{_+_, _-_}
 use native.Mathlib.Numerals.{add-one}
 use lib.ListN.{length, drop}
 use borrow.Author.Needs.{needs}
@@ -10,13 +11,13 @@ use Rattle.text.proofs.run_end.Statement.{statement}
 use Rattle.text.proofs.run_end.Tie as tie
 
 abbrev Inv-loop : tie.InvT-loop
-Inv-loop line at blank i₀ i = (i ≤ length line) × (i + leading blank (drop i line) ≡ at + leading blank (drop at line))
+Inv-loop line at blank i₀ i = i + leading blank (drop i line) ≡ at + leading blank (drop at line)
 
 abbrev μ-loop : tie.MeasureT-loop
 μ-loop line at blank i₀ i = length line - i
 
 loop-holds : tie.Need-loop-holds Inv-loop μ-loop
-loop-holds c = search needs
+loop-holds c = refl
 
 shared-slice-read-fits-blank : tie.Need-shared-slice-read-fits-blank Inv-loop μ-loop
 shared-slice-read-fits-blank c = search needs
@@ -28,7 +29,8 @@ returns : tie.Need-returns Inv-loop μ-loop
 returns c =
     let l = c .before .before .before .before in
     let s = l .before .before in
-    sym (leading-ends (s .args .blank) (s .args .line .now) (l .loop .i) (search needs) (sym (c .before .fits-blank .ensures) ∙ not-true _ (c .if1 .taken))) ∙ l .loop .inv .1
+    sym (leading-ends (s .args .blank) (s .args .line .now) (l .loop .i) (search needs)
+    (sym (c .before .fits-blank .ensures) ∙ not-true _ (c .if1 .taken))) ∙ l .loop .inv
 
 add-i : tie.Need-add-i Inv-loop μ-loop
 add-i c = search needs
@@ -40,13 +42,14 @@ loop-again : tie.Need-loop-again Inv-loop μ-loop
 loop-again c =
     let l = c .before .before .before .before in
     let s = l .before .before in
-    (search needs, rw add-one (sym (leading-more (s .args .blank) (s .args .line .now) (l .loop .i) (search needs) (sym (c .before .fits-blank .ensures) ∙ not-false _ (c .if1 .left))) ∙ l .loop .inv .1))
+    rw add-one (sym (leading-more (s .args .blank) (s .args .line .now) (l .loop .i) (search needs)
+    (sym (c .before .fits-blank .ensures) ∙ not-false _ (c .if1 .left))) ∙ l .loop .inv)
 
 returns-2 : tie.Need-returns-2 Inv-loop μ-loop
 returns-2 c =
     let l = c .before in
     let s = l .before .before in
-    sym (leading-none (s .args .blank) (s .args .line .now) (l .loop .i) (search needs)) ∙ l .loop .inv .1
+    sym (leading-none (s .args .blank) (s .args .line .now) (l .loop .i) (search needs)) ∙ l .loop .inv
 
 pub run-end-spec : {M : Type 1} → statement M
 run-end-spec =

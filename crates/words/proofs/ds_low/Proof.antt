@@ -18,7 +18,16 @@ byte-requires c κs = search needs
 
 returns : tie.Need-returns
 unfolding dsLow
-returns c = (simp (c .byte .ensures .0, c .before .before .before .before .ds-bit-4 .ensures, c .before .before .before .before .before .ds-bit-5 .ensures, c .before .before .before .before .before .before .is-cause .ensures), c .byte .ensures .1)
+returns c =
+    let bits = c .before .before .before .before in (
+      simp (
+        c .byte .ensures .0,
+        bits .ds-bit-4 .ensures,
+        bits .before .ds-bit-5 .ensures,
+        bits .before .before .is-cause .ensures,
+      ),
+      c .byte .ensures .1,
+    )
 
 pub ds-low-spec : {M : Type 1} → statement M
 ds-low-spec =

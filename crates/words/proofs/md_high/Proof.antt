@@ -18,7 +18,15 @@ byte-requires c κs = search needs
 
 returns : tie.Need-returns
 unfolding mdHigh
-returns c = (simp (c .byte .ensures .0, c .before .is-open-cause .ensures, c .before .before .pins-of .ensures, c .before .before .before .mode-bit .ensures), c .byte .ensures .1)
+returns c = (
+  simp (
+    c .byte .ensures .0,
+    c .before .is-open-cause .ensures,
+    c .before .before .pins-of .ensures,
+    c .before .before .before .mode-bit .ensures,
+  ),
+  c .byte .ensures .1,
+)
 
 pub md-high-spec : {M : Type 1} → statement M
 md-high-spec =

@@ -1,59 +1,21 @@
 -- `console::call::write` meets its contract.
-use mathlib.Core.Path.{sym, _∙_}
-use lib.ListN.{getD}
-use lib.IntN.{pos}
-use mir.Val.{toZ, ofZ}
-use mir.Syntax.{w64}
+use mathlib.Core.Path.{ap}
+use mir.Facts.{toZ-ofZ}
 use borrow.Author.Needs.{needs}
-use Rattle.integers.specs.Choice.{both}
-use Rattle.integers.specs.Machine.{held}
+use Rattle.console.specs.Calls.{stepOf}
 use Rattle.console.proofs.call.write.Statement.{statement}
 use Rattle.console.proofs.call.write.Tie as tie
 
-array-copy-out-number-in : tie.Need-array-copy-out-number-in
-array-copy-out-number-in c = search needs
+write-requires : tie.Need-write-requires
+write-requires c κs = search needs
 
-number-in-requires : tie.Need-number-in-requires
-number-in-requires c κs = search needs
-
-array-copy-out-v : tie.Need-array-copy-out-v
-array-copy-out-v c = search needs
-
-not-above-requires : tie.Need-not-above-requires
-not-above-requires c κs = search needs
-
-not-above-requires-2 : tie.Need-not-above-requires-2
-not-above-requires-2 c κs = search needs
-
-narrow-requires : tie.Need-narrow-requires
-narrow-requires c κs = let t = both (c .before .before .not-above .result) (c .before .not-above2 .result) (c .if1 .taken) in
-    let low = sym (c .before .before .not-above .ensures) ∙ t .0 in
-    let high = sym (c .before .not-above2 .ensures) ∙ t .1 in
-    held (toZ w64 (ofZ w64 (getD (c .before .before .before .before .before .before .args .t2) 1 (pos 0)))) low high
-
-written-requires : tie.Need-written-requires
-written-requires c κs = search needs
+reply-to-verdict-requires : tie.Need-reply-to-verdict-requires
+reply-to-verdict-requires c κs = tt
 
 returns : tie.Need-returns
-returns c = search needs
-
-no-call-requires : tie.Need-no-call-requires
-no-call-requires c κs = search needs
-
-returns-2 : tie.Need-returns-2
-returns-2 c = search needs
+returns c =
+    let w = c .before .before in
+    rw (c .reply-to-verdict .ensures) (rw (toZ-ofZ (w .before .fits .value)) at (ap stepOf (w .write .ensures)))
 
 pub write-spec : {M : Type 1} → statement M
-write-spec =
-    tie.close
-    (tie.spec
-    array-copy-out-number-in
-    number-in-requires
-    array-copy-out-v
-    not-above-requires
-    not-above-requires-2
-    narrow-requires
-    written-requires
-    returns
-    no-call-requires
-    returns-2)
+write-spec = tie.close (tie.spec write-requires reply-to-verdict-requires returns)

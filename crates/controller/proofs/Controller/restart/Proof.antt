@@ -2,11 +2,11 @@
 use mathlib.Core.Path.{_≡_, sym, ap, _∙_}
 use mathlib.Core.Option.{none, some}
 use borrow.Author.Needs.{needs}
-use Rattle.signals.specs.Refusals.{numberOf, numberIn, declinedBy}
-use Rattle.outputs.specs.Instruction.{carriedOut, changed, limitedTo}
+use Rattle.signals.specs.Refusals.{numberOf, numberIn, refusedBy}
+use Rattle.outputs.specs.Instruction.{executed, changed, limitedTo}
 use Rattle.controller.specs.Restart.{valuesIn, restartTests, restartAccepted, restartCore, controllerRestarted, restart}
 use Rattle.controller.specs.RestartLaws.{taken, taken-legal}
-use Rattle.controller.specs.Scan.{controllerAfter, refused, handedBack}
+use Rattle.controller.specs.Scan.{controllerAfter, refused, responseFrom}
 use Rattle.controller.proofs.Controller.restart.Statement.{statement}
 use Rattle.controller.proofs.Controller.restart.Tie as tie
 
@@ -20,21 +20,32 @@ enum-told : tie.Need-enum-told
 enum-told c = search needs
 
 values-of-requires : tie.Need-values-of-requires
-values-of-requires c κs = let e : declinedBy (restartTests (c .before .before .before .before .args .image .now)) ≡ none = sym (c .before .before .restart-verdict .ensures) ∙ ap numberIn (c .enum-told .given .1) in
+values-of-requires c κs =
+    let e : refusedBy (restartTests (c .before .before .before .before .args .image .now)) ≡ none =
+    sym (c .before .before .restart-verdict .ensures) ∙ ap numberIn (c .enum-told .given .1) in
     taken (c .before .before .before .before .args .image .now) e .size
 
 restarted-requires : tie.Need-restarted-requires
-restarted-requires c κs = let e : declinedBy (restartTests (c .before .before .before .before .before .args .image .now)) ≡ none = sym (c .before .before .before .restart-verdict .ensures) ∙ ap numberIn (c .before .enum-told .given .1) in
-    simp (c .values-of .ensures) (taken-legal (valuesIn (c .before .before .before .before .before .args .image .now)) (taken (c .before .before .before .before .before .args .image .now) e .legal))
+restarted-requires c κs =
+    let e : refusedBy (restartTests (c .before .before .before .before .before .args .image .now)) ≡ none =
+    sym (c .before .before .before .restart-verdict .ensures) ∙ ap numberIn (c .before .enum-told .given .1) in
+    simp (c .values-of .ensures)
+    (taken-legal (valuesIn (c .before .before .before .before .before .args .image .now))
+    (taken (c .before .before .before .before .before .args .image .now) e .legal))
 
 returns : tie.Need-returns
-unfolding restart restartCore handedBack controllerAfter refused carriedOut changed limitedTo
-returns c = let e : declinedBy (restartTests (c .before .before .before .before .before .args .image .now)) ≡ some (numberOf (c .before .verdict .given .0 .0)) = sym (c .before .before .before .restart-verdict .ensures) ∙ ap numberIn (c .before .verdict .given .1) in
+unfolding restart restartCore responseFrom controllerAfter refused executed changed limitedTo
+returns c =
+    let e : refusedBy (restartTests (c .before .before .before .before .before .args .image .now))
+    ≡ some (numberOf (c .before .verdict .given .0 .0)) =
+    sym (c .before .before .before .restart-verdict .ensures) ∙ ap numberIn (c .before .verdict .given .1) in
     simp e
 
 returns-2 : tie.Need-returns-2
-unfolding restart restartCore handedBack controllerAfter controllerRestarted restartAccepted
-returns-2 c = let e : declinedBy (restartTests (c .before .before .before .before .before .before .args .image .now)) ≡ none = sym (c .before .before .before .before .restart-verdict .ensures) ∙ ap numberIn (c .before .before .enum-told .given .1) in
+unfolding restart restartCore responseFrom controllerAfter controllerRestarted restartAccepted
+returns-2 c =
+    let e : refusedBy (restartTests (c .before .before .before .before .before .before .args .image .now)) ≡ none =
+    sym (c .before .before .before .before .restart-verdict .ensures) ∙ ap numberIn (c .before .before .enum-told .given .1) in
     simp (e, c .restarted .ensures, c .before .values-of .ensures)
 
 pub restart-spec : {M : Type 1} → statement M

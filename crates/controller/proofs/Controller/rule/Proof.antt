@@ -1,6 +1,7 @@
 -- `controller::Controller::rule` meets its contract.
 use mathlib.Core.Path.{refl}
 use native.Mathlib.Omega.{arith}
+use Rattle.integers.specs.Listed.{listed}
 use Rattle.parameters.specs.RuleLaws.{row, row-beyond}
 use Rattle.parameters.specs.Table.{ruleOf}
 use Rattle.controller.proofs.Controller.rule.Statement.{statement}
@@ -27,40 +28,40 @@ unfolding ruleOf
 returns-5 c = simp (c .match .keys5)
 
 returns-6 : tie.Need-returns-6
-unfolding ruleOf
-returns-6 c = row 1 6 (c .before .before .before .before .args .number) (refl, (refl, (refl, (refl, (refl, (refl, tt)))))) (omega arith) (omega arith)
+unfolding ruleOf listed
+returns-6 c = row 1 6 (c .before .before .before .before .args .number) refl (omega arith) (omega arith)
 
 returns-7 : tie.Need-returns-7
-unfolding ruleOf
-returns-7 c = row 7 2 (c .before .before .before .before .before .args .number) (refl, (refl, tt)) (omega arith) (omega arith)
+unfolding ruleOf listed
+returns-7 c = row 7 2 (c .before .before .before .before .before .args .number) refl (omega arith) (omega arith)
 
 returns-8 : tie.Need-returns-8
-unfolding ruleOf
-returns-8 c = row 9 4 (c .before .before .before .before .before .before .args .number) (refl, (refl, (refl, (refl, tt)))) (omega arith) (omega arith)
+unfolding ruleOf listed
+returns-8 c = row 9 4 (c .before .before .before .before .before .before .args .number) refl (omega arith) (omega arith)
 
 returns-9 : tie.Need-returns-9
-unfolding ruleOf
-returns-9 c = row 13 2 (c .before .before .before .before .before .before .args .number) (refl, (refl, tt)) (omega arith) (omega arith)
+unfolding ruleOf listed
+returns-9 c = row 13 2 (c .before .before .before .before .before .before .args .number) refl (omega arith) (omega arith)
 
 returns-10 : tie.Need-returns-10
-unfolding ruleOf
-returns-10 c = row 15 2 (c .before .before .before .args .number) (refl, (refl, tt)) (omega arith) (omega arith)
+unfolding ruleOf listed
+returns-10 c = row 15 2 (c .before .before .before .args .number) refl (omega arith) (omega arith)
 
 returns-11 : tie.Need-returns-11
-unfolding ruleOf
-returns-11 c = row 18 2 (c .before .before .before .before .args .number) (refl, (refl, tt)) (omega arith) (omega arith)
+unfolding ruleOf listed
+returns-11 c = row 18 2 (c .before .before .before .before .args .number) refl (omega arith) (omega arith)
 
 returns-12 : tie.Need-returns-12
-unfolding ruleOf
-returns-12 c = row 24 2 (c .before .before .before .before .before .args .number) (refl, (refl, tt)) (omega arith) (omega arith)
+unfolding ruleOf listed
+returns-12 c = row 24 2 (c .before .before .before .before .before .args .number) refl (omega arith) (omega arith)
 
 returns-13 : tie.Need-returns-13
-unfolding ruleOf
-returns-13 c = row 26 7 (c .before .before .before .before .before .before .args .number) (refl, (refl, (refl, (refl, (refl, (refl, (refl, tt))))))) (omega arith) (omega arith)
+unfolding ruleOf listed
+returns-13 c = row 26 7 (c .before .before .before .before .before .before .args .number) refl (omega arith) (omega arith)
 
 returns-14 : tie.Need-returns-14
-unfolding ruleOf
-returns-14 c = row 0 1 (c .before .before .before .args .number) (refl, tt) (omega arith) (omega arith)
+unfolding ruleOf listed
+returns-14 c = row 0 1 (c .before .before .before .args .number) refl (omega arith) (omega arith)
 
 returns-15 : tie.Need-returns-15
 returns-15 c = row-beyond (c .before .before .before .before .before .before .args .number) (omega arith)

@@ -2,10 +2,10 @@
 use mathlib.Core.Path.{_≡_, sym, ap, _∙_}
 use mathlib.Core.Option.{none, some}
 use borrow.Author.Needs.{needs}
-use Rattle.signals.specs.Refusals.{numberOf, numberIn, declinedBy, scanTests}
-use Rattle.controller.specs.Scan.{controllerAfter, accepted, coreAfter, scan, scanCore, refused, stepped, handedBack}
+use Rattle.signals.specs.Refusals.{numberOf, numberIn, refusedBy, scanTests}
+use Rattle.controller.specs.Scan.{controllerAfter, accepted, coreAfter, scan, scanCore, refused, stepped, responseFrom}
 use Rattle.controller.specs.ValidLaws.{sampled, stepped-valid}
-use Rattle.outputs.specs.Instruction.{carriedOut, changed, limitedTo}
+use Rattle.outputs.specs.Instruction.{executed, changed, limitedTo}
 use Rattle.controller.proofs.Controller.scan.Statement.{statement}
 use Rattle.controller.proofs.Controller.scan.Tie as tie
 
@@ -19,27 +19,30 @@ enum-told : tie.Need-enum-told
 enum-told c = search needs
 
 -- what an accepted verdict says
-none-declines : (c : tie.After-enum-told) → declinedBy (scanTests (c .before .before .before .args .input)) ≡ none
-none-declines c = sym (c .before .before .scan-verdict .ensures) ∙ ap numberIn (c .enum-told .given .1)
+none-refuses : (c : tie.After-enum-told) → refusedBy (scanTests (c .before .before .before .args .input)) ≡ none
+none-refuses c = sym (c .before .before .scan-verdict .ensures) ∙ ap numberIn (c .enum-told .given .1)
 
 stepped-requires : tie.Need-stepped-requires
-stepped-requires c κs = (c .before .before .before .pre, sampled (c .before .before .before .args .input) (none-declines c))
+stepped-requires c κs = (c .before .before .before .pre, sampled (c .before .before .before .args .input) (none-refuses c))
 
 words-requires : tie.Need-words-requires
 words-requires c κs =
     let start = c .before .before .before .before in
-    rw (c .stepped .ensures) (stepped-valid (start .args .self) (start .args .input) (start .pre) (sampled (start .args .input) (none-declines (c .before))) .stored)
+    rw (c .stepped .ensures)
+    (stepped-valid (start .args .self) (start .args .input) (start .pre)
+    (sampled (start .args .input) (none-refuses (c .before))) .stored)
 
-some-declines : (c : tie.After-verdict) → declinedBy (scanTests (c .before .before .before .args .input)) ≡ some (numberOf (c .verdict .given .0 .0))
-some-declines c = sym (c .before .before .scan-verdict .ensures) ∙ ap numberIn (c .verdict .given .1)
+some-refuses : (c : tie.After-verdict) →
+    refusedBy (scanTests (c .before .before .before .args .input)) ≡ some (numberOf (c .verdict .given .0 .0))
+some-refuses c = sym (c .before .before .scan-verdict .ensures) ∙ ap numberIn (c .verdict .given .1)
 
 returns : tie.Need-returns
-unfolding scan scanCore handedBack controllerAfter refused carriedOut changed limitedTo
-returns c = simp (some-declines (c .before))
+unfolding scan scanCore responseFrom controllerAfter refused executed changed limitedTo
+returns c = simp (some-refuses (c .before))
 
 returns-2 : tie.Need-returns-2
-unfolding scan scanCore handedBack controllerAfter stepped accepted coreAfter
-returns-2 c = simp (none-declines (c .before .before), c .words .ensures) (simp (c .before .stepped .ensures))
+unfolding scan scanCore responseFrom controllerAfter stepped accepted coreAfter
+returns-2 c = simp (none-refuses (c .before .before), c .words .ensures) (simp (c .before .stepped .ensures))
 
 pub scan-spec : {M : Type 1} → statement M
 scan-spec =

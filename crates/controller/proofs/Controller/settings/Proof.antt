@@ -5,7 +5,8 @@ use Rattle.controller.proofs.Controller.settings.Statement.{statement}
 use Rattle.controller.proofs.Controller.settings.Tie as tie
 
 op-of-requires : tie.Need-op-of-requires
-op-of-requires c κs = simp (stored-back (c .before .before .before .before .before .pre .stored)) (c .before .before .before .before .before .pre .stored)
+op-of-requires c κs =
+    simp (stored-back (c .before .before .before .before .before .pre .stored)) (c .before .before .before .before .before .pre .stored)
 
 returns : tie.Need-returns
 unfolding settingsNow settingsOf

@@ -5,7 +5,7 @@ use borrow.Author.Needs.{needs}
 use Rattle.integers.specs.Machine.{back}
 use Rattle.modes.specs.Modes.{counted, conditionsAfter}
 use Rattle.outputs.specs.OutputLaws.{stored-back}
-use Rattle.controller.specs.Scan.{controllerAfter, situationOf, accepted, stepped}
+use Rattle.controller.specs.Scan.{controllerAfter, contextOf, accepted, stepped}
 use Rattle.controller.specs.ValidLaws.{read}
 use Rattle.controller.proofs.Controller.stepped.Statement.{statement}
 use Rattle.controller.proofs.Controller.stepped.Tie as tie
@@ -13,30 +13,31 @@ use Rattle.controller.proofs.Controller.stepped.Tie as tie
 after-requires : tie.Need-after-requires
 after-requires c κs = search needs
 
-situation-requires : tie.Need-situation-requires
-situation-requires c κs = search needs
+context-requires : tie.Need-context-requires
+context-requires c κs = search needs
 
-situation-is : (c : tie.After-situation) → let start = c .before .before .before .before .before .before in
-    c .situation .result ≡ situationOf (start .args .self .core) (conditionsAfter counted (start .args .self .core .conditions) (start .args .input)) (start .args .input)
-situation-is c = simp (c .situation .ensures) (simp (c .before .after .ensures))
+context-is : (c : tie.After-context) → let start = c .before .before .before .before .before .before in
+    c .context .result ≡ contextOf (start .args .self .core)
+    (conditionsAfter counted (start .args .self .core .conditions) (start .args .input)) (start .args .input)
+context-is c = simp (c .context .ensures) (simp (c .before .after .ensures))
 
-reckon-requires : tie.Need-reckon-requires
-unfolding situationOf
-reckon-requires c κs =
+compute-requires : tie.Need-compute-requires
+unfolding contextOf
+compute-requires c κs =
     let start = c .before .before .before .before .before .before in
-    (start .pre .0 .legal, rw (situation-is c) (start .pre .1))
+    (start .pre .0 .legal, rw (context-is c) (start .pre .1))
 
 after-requires-2 : tie.Need-after-requires-2
 after-requires-2 c κs = search needs
 
 output-after-requires : tie.Need-output-after-requires
-unfolding situationOf
+unfolding contextOf
 output-after-requires c κs =
     let b = c .before .before in
     let start = b .before .before .before .before .before .before .before in
     simp (stored-back (start .pre .0 .stored)) (
       start .pre .0 .legal,
-      rw (b .reckon .ensures, situation-is (b .before)) (read (start .args .self .core) _ (start .pre .0 .legal) (start .pre .1)),
+      rw (b .compute .ensures, context-is (b .before)) (read (start .args .self .core) _ (start .pre .0 .legal) (start .pre .1)),
       start .pre .0 .kept,
       start .pre .0 .stored,
     )
@@ -48,15 +49,15 @@ returns c =
     let call = c .output-after in
     simp (back w64 (call .result) (call .ok))
     (simp (call .ensures, stored-back (b .before .before .before .before .before .before .before .pre .0 .stored))
-    (simp (c .before .after2 .ensures) (simp (b .reckon .ensures) (simp (situation-is (b .before), b .before .before .after .ensures)))))
+    (simp (c .before .after2 .ensures) (simp (b .compute .ensures) (simp (context-is (b .before), b .before .before .after .ensures)))))
 
 pub stepped-spec : {M : Type 1} → statement M
 stepped-spec =
     tie.close
     (tie.spec
     after-requires
-    situation-requires
-    reckon-requires
+    context-requires
+    compute-requires
     after-requires-2
     output-after-requires
     returns)

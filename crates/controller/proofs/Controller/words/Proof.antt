@@ -19,7 +19,13 @@ electrical-of-requires c κs = search needs
 
 returns : tie.Need-returns
 unfolding statusOf
-returns c = simp (c .electrical-of .ensures, c .before .before .op-of .ensures .0, c .before .before .before .before .ds .ensures, c .before .before .before .before .before .md .ensures)
+returns c =
+    simp (
+      c .electrical-of .ensures,
+      c .before .before .op-of .ensures .0,
+      c .before .before .before .before .ds .ensures,
+      c .before .before .before .before .before .md .ensures,
+    )
     (simp (stored-back (c .before .before .before .before .before .before .before .pre)))
 
 pub words-spec : {M : Type 1} → statement M

@@ -6,10 +6,10 @@ use mir.Val.{toZ, ofZ}
 use mir.Syntax.{w32, w64}
 use borrow.Author.Needs.{needs}
 use Rattle.integers.specs.Machine.{back}
-use Rattle.signals.specs.Refusals.{numberOf, numberIn, declinedBy}
-use Rattle.outputs.specs.Instruction.{carriedOut, changed, limitedTo}
+use Rattle.signals.specs.Refusals.{numberOf, numberIn, refusedBy}
+use Rattle.outputs.specs.Instruction.{executed, changed, limitedTo}
 use Rattle.controller.specs.Write.{writeTests, writeAccepted, writeCore, controllerWritten, write}
-use Rattle.controller.specs.Scan.{controllerAfter, refused, handedBack}
+use Rattle.controller.specs.Scan.{controllerAfter, refused, responseFrom}
 use Rattle.controller.proofs.Controller.write.Statement.{statement}
 use Rattle.controller.proofs.Controller.write.Tie as tie
 
@@ -30,29 +30,29 @@ value-is : (c : tie.After-wide) → toZ w64 (ofZ w64 (c .wide .result)) ≡ c .b
 value-is c = back w64 (c .wide .result) (c .wide .ok) ∙ c .wide .ensures ∙ toZ-ofZ {w = w32} (c .before .before .fits .value)
 
 verdict-is : (c : tie.After-write-verdict) → let start = c .before .before .before in
-    numberIn (c .write-verdict .result) ≡ declinedBy (writeTests (start .args .self .core) (start .args .number) (start .args .value))
+    numberIn (c .write-verdict .result) ≡ refusedBy (writeTests (start .args .self .core) (start .args .number) (start .args .value))
 verdict-is c = rw (value-is (c .before)) at (c .write-verdict .ensures)
 
 -- what an accepted verdict says, and a refusal
-none-declines : (c : tie.After-enum-told) → let start = c .before .before .before .before .before in
-    declinedBy (writeTests (start .args .self .core) (start .args .number) (start .args .value)) ≡ none
-none-declines c = sym (verdict-is (c .before .before)) ∙ ap numberIn (c .enum-told .given .1)
+none-refuses : (c : tie.After-enum-told) → let start = c .before .before .before .before .before in
+    refusedBy (writeTests (start .args .self .core) (start .args .number) (start .args .value)) ≡ none
+none-refuses c = sym (verdict-is (c .before .before)) ∙ ap numberIn (c .enum-told .given .1)
 
-some-declines : (c : tie.After-verdict) → let start = c .before .before .before .before .before in
-    declinedBy (writeTests (start .args .self .core) (start .args .number) (start .args .value)) ≡ some (numberOf (c .verdict .given .0 .0))
-some-declines c = sym (verdict-is (c .before .before)) ∙ ap numberIn (c .verdict .given .1)
+some-refuses : (c : tie.After-verdict) → let start = c .before .before .before .before .before in
+    refusedBy (writeTests (start .args .self .core) (start .args .number) (start .args .value)) ≡ some (numberOf (c .verdict .given .0 .0))
+some-refuses c = sym (verdict-is (c .before .before)) ∙ ap numberIn (c .verdict .given .1)
 
 written-requires : tie.Need-written-requires
 written-requires c κs = let start = c .before .before .before .before .before in
-    simp (value-is (c .before .before .before)) (start .pre, none-declines c)
+    simp (value-is (c .before .before .before)) (start .pre, none-refuses c)
 
 returns : tie.Need-returns
-unfolding write writeCore handedBack controllerAfter refused carriedOut changed limitedTo
-returns c = simp (some-declines (c .before))
+unfolding write writeCore responseFrom controllerAfter refused executed changed limitedTo
+returns c = simp (some-refuses (c .before))
 
 returns-2 : tie.Need-returns-2
-unfolding write writeCore handedBack controllerAfter controllerWritten writeAccepted
-returns-2 c = simp (none-declines (c .before), c .written .ensures, value-is (c .before .before .before .before))
+unfolding write writeCore responseFrom controllerAfter controllerWritten writeAccepted
+returns-2 c = simp (none-refuses (c .before), c .written .ensures, value-is (c .before .before .before .before))
 
 pub write-spec : {M : Type 1} → statement M
 write-spec =

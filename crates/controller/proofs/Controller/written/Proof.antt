@@ -4,7 +4,7 @@ use mir.Syntax.{w64}
 use borrow.Author.Needs.{needs}
 use Rattle.integers.specs.Machine.{back}
 use Rattle.outputs.specs.OutputLaws.{stored-back}
-use Rattle.outputs.specs.Instruction.{changed, carriedOut}
+use Rattle.outputs.specs.Instruction.{changed, executed}
 use Rattle.controller.specs.WriteLaws.{core-legal}
 use Rattle.controller.specs.Write.{writeAccepted, controllerWritten}
 use Rattle.controller.specs.Scan.{controllerAfter}
@@ -19,10 +19,11 @@ written-requires c κs = search needs
 
 output-written-requires : tie.Need-output-written-requires
 output-written-requires c κs = let start = c .before .before .before .before .before in
-    rw (c .before .written .ensures, toZ-ofZ (start .fits .v)) (core-legal (start .args .self .core) (start .args .number) (start .args .v) (start .pre .0 .legal) (start .pre .1))
+    rw (c .before .written .ensures, toZ-ofZ (start .fits .v))
+    (core-legal (start .args .self .core) (start .args .number) (start .args .v) (start .pre .0 .legal) (start .pre .1))
 
 returns : tie.Need-returns
-unfolding controllerWritten controllerAfter writeAccepted carriedOut changed
+unfolding controllerWritten controllerAfter writeAccepted executed changed
 returns c = let start = c .before .before .before .before .before .before in
     let output = c .output-written in
     simp (back w64 (output .result) (output .ok)) (simp (output .ensures, stored-back (start .pre .0 .stored))

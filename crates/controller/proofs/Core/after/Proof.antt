@@ -7,16 +7,16 @@ use Rattle.controller.proofs.Core.after.Tie as tie
 is-open-requires : tie.Need-is-open-requires
 is-open-requires c κs = search needs
 
-shown-after-requires : tie.Need-shown-after-requires
-shown-after-requires c κs = search needs
+indications-after-requires : tie.Need-indications-after-requires
+indications-after-requires c κs = search needs
 
 history-after-requires : tie.Need-history-after-requires
 history-after-requires c κs = search needs
 
 returns : tie.Need-returns
 unfolding coreAfter
-returns c = simp (c .history-after .ensures, c .before .shown-after .ensures, c .before .before .is-open .ensures)
+returns c = simp (c .history-after .ensures, c .before .indications-after .ensures, c .before .before .is-open .ensures)
 
 pub after-spec : {M : Type 1} → statement M
 after-spec =
-    tie.close (tie.spec is-open-requires shown-after-requires history-after-requires returns)
+    tie.close (tie.spec is-open-requires indications-after-requires history-after-requires returns)

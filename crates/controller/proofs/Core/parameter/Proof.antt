@@ -16,7 +16,8 @@ narrow-requires : tie.Need-narrow-requires
 narrow-requires c κs = let get = c .get in
     let start = c .before .before in
     let most = value-most (start .args .self .parameters) (start .pre .0) (start .args .number) (start .pre .1) (start .pre .2) in
-    simp (back w64 (get .result) (get .ok)) (rw (get .ensures) (omega (arith, most, number (value (start .args .self .parameters) (start .args .number)))))
+    simp (back w64 (get .result) (get .ok))
+    (rw (get .ensures) (omega (arith, most, number (value (start .args .self .parameters) (start .args .number)))))
 
 returns : tie.Need-returns
 returns c = let narrow = c .narrow in

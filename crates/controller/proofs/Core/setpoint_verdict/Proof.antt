@@ -2,7 +2,7 @@
 use mathlib.Core.List.{[], _∷_}
 use mathlib.Core.Path.{_≡_}
 use borrow.Author.Needs.{needs}
-use Rattle.signals.specs.Refusals.{declinedBy}
+use Rattle.signals.specs.Refusals.{refusedBy}
 use Rattle.controller.specs.Write.{setpointTests}
 use Rattle.controller.proofs.Core.setpoint_verdict.Statement.{statement}
 use Rattle.controller.proofs.Core.setpoint_verdict.Tie as tie
@@ -22,11 +22,11 @@ unfolding setpointTests
 test-is c = simp (c .sets-setpoint .ensures) (simp (c .before .mode .ensures, c .before .before .switches-of .ensures))
 
 returns : tie.Need-returns
-unfolding declinedBy
+unfolding refusedBy
 returns c = simp (test-is (c .before), c .if1 .taken)
 
 returns-2 : tie.Need-returns-2
-unfolding declinedBy
+unfolding refusedBy
 returns-2 c = simp (test-is (c .before), c .if1 .left)
 
 pub setpoint-verdict-spec : {M : Type 1} → statement M

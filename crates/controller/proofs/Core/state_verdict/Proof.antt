@@ -3,7 +3,7 @@ use native.Mathlib.Omega.{arith}
 use mir.Facts.{toZ-ofZ}
 use borrow.Author.Tests.{ne-eqb}
 use borrow.Author.Needs.{needs}
-use Rattle.signals.specs.Refusals.{declinedBy}
+use Rattle.signals.specs.Refusals.{refusedBy}
 use Rattle.controller.specs.Write.{stateTests}
 use Rattle.controller.proofs.Core.state_verdict.Statement.{statement}
 use Rattle.controller.proofs.Core.state_verdict.Tie as tie
@@ -23,10 +23,12 @@ returns c = simp (c .setpoint-verdict .ensures, c .before .match .keys1)
 
 returns-2 : tie.Need-returns-2
 unfolding stateTests
-returns-2 c = simp (c .md-verdict .ensures, c .before .match .keys2) (simp (c .before .before .word-of .ensures, toZ-ofZ (c .before .before .before .before .fits .v)))
+returns-2 c =
+    simp (c .md-verdict .ensures, c .before .match .keys2)
+    (simp (c .before .before .word-of .ensures, toZ-ofZ (c .before .before .before .before .fits .v)))
 
 returns-3 : tie.Need-returns-3
-unfolding stateTests declinedBy
+unfolding stateTests refusedBy
 returns-3 c = let n = c .before .before .before .args .number in
     simp (ne-eqb n 20 (λ q. omega arith), ne-eqb n 24 (λ q. omega arith))
 

@@ -21,16 +21,25 @@ parameter-written-requires c κs = search needs
 
 returns : tie.Need-returns
 unfolding coreWritten
-returns c = simp (c .md-written .ensures, c .before .match .keys1) (simp (c .before .before .word-of .ensures, toZ-ofZ (c .before .before .before .fits .v)))
+returns c =
+    simp (c .md-written .ensures, c .before .match .keys1)
+    (simp (c .before .before .word-of .ensures, toZ-ofZ (c .before .before .before .fits .v)))
 
 returns-2 : tie.Need-returns-2
 unfolding coreWritten
-returns-2 c = simp (c .ds-written .ensures, c .before .match .keys2) (simp (c .before .before .word-of .ensures, toZ-ofZ (c .before .before .before .fits .v)))
+returns-2 c =
+    simp (c .ds-written .ensures, c .before .match .keys2)
+    (simp (c .before .before .word-of .ensures, toZ-ofZ (c .before .before .before .fits .v)))
 
 returns-3 : tie.Need-returns-3
 unfolding coreWritten
 returns-3 c = let n = c .before .before .before .args .number in
-    simp (c .parameter-written .ensures, ne-eqb n 24 (λ q. omega arith), ne-eqb n 25 (λ q. omega arith), toZ-ofZ (c .before .before .before .fits .v))
+    simp (
+      c .parameter-written .ensures,
+      ne-eqb n 24 (λ q. omega arith),
+      ne-eqb n 25 (λ q. omega arith),
+      toZ-ofZ (c .before .before .before .fits .v),
+    )
 
 pub written-spec : {M : Type 1} → statement M
 written-spec =

@@ -18,7 +18,13 @@ in-priority-requires c κs = search needs
 
 returns : tie.Need-returns
 unfolding modeOf
-returns c = simp (c .in-priority .ensures, c .before .mode-by .ensures, c .before .before .is-cause .ensures, c .before .before .before .pins-of .ensures)
+returns c =
+    simp (
+      c .in-priority .ensures,
+      c .before .mode-by .ensures,
+      c .before .before .is-cause .ensures,
+      c .before .before .before .pins-of .ensures,
+    )
 
 pub mode-spec : {M : Type 1} → statement M
 mode-spec =

@@ -36,7 +36,14 @@ returns-3 c = let n = c .before .before .args .number in
 returns-4 : tie.Need-returns-4
 unfolding written
 returns-4 c = let n = c .before .before .before .before .args .number in
-    simp (c .before .before .before .with .ensures, toZ-ofZ (c .before .before .before .before .fits .v), lt-leb n 10 (omega arith), lt-leb n 8 (omega arith), le-leb 9 n (omega arith), le-leb 7 n (omega arith))
+    simp (
+      c .before .before .before .with .ensures,
+      toZ-ofZ (c .before .before .before .before .fits .v),
+      lt-leb n 10 (omega arith),
+      lt-leb n 8 (omega arith),
+      le-leb 9 n (omega arith),
+      le-leb 7 n (omega arith),
+    )
 
 pub written-spec : {M : Type 1} → statement M
 written-spec =

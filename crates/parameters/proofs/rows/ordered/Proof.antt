@@ -18,7 +18,12 @@ returns c = let start = c .before .before in
 
 returns-2 : tie.Need-returns-2
 returns-2 c = let start = c .before .before in
-    simp (c .in-order2 .ensures, toZ-ofZ (start .fits .v), toZ-ofZ (start .fits .w), ne-eqb (start .args .number % 2) 1 (c .before .if1 .left))
+    simp (
+      c .in-order2 .ensures,
+      toZ-ofZ (start .fits .v),
+      toZ-ofZ (start .fits .w),
+      ne-eqb (start .args .number % 2) 1 (c .before .if1 .left),
+    )
 
 pub ordered-spec : {M : Type 1} → statement M
 ordered-spec = tie.close (tie.spec in-order-requires in-order-requires-2 returns returns-2)

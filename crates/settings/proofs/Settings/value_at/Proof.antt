@@ -30,11 +30,12 @@ get-requires c κs = search needs
 as-word-requires : tie.Need-as-word-requires
 as-word-requires c κs = let p = c .before .before .before .before .before .args .self .parameters in
     let n = c .before .before .before .before .before .args .place in
-    let same : natAbs (value p (n + 1)) ≡ natAbs (toZ w64 (ofZ w64 (c .get .result))) = ap natAbs (sym (back w64 (c .get .result) (c .get .ok) ∙ c .get .ensures)) in
+    let same : natAbs (value p (n + 1)) ≡ natAbs (toZ w64 (ofZ w64 (c .get .result))) =
+    ap natAbs (sym (back w64 (c .get .result) (c .get .ok) ∙ c .get .ensures)) in
     omega (arith, same, value-most p (c .before .before .before .before .before .pre .0) (n + 1) (omega arith) (omega arith))
 
-marks-number-requires : tie.Need-marks-number-requires
-marks-number-requires c κs = search needs
+user-bits-number-requires : tie.Need-user-bits-number-requires
+user-bits-number-requires c κs = search needs
 
 returns : tie.Need-returns
 unfolding valueAt
@@ -49,17 +50,30 @@ returns-2 c = let n = c .before .before .before .before .args .place in
 returns-3 : tie.Need-returns-3
 unfolding valueAt
 returns-3 c = let n = c .before .before .before .before .args .place in
-    simp (c .fault-number .ensures, le-ltb n 23 (omega arith), ne-eqb n 23 (λ q. omega arith), ne-eqb n 24 (λ q. omega arith), eq-eqb n 25 (omega arith))
+    simp (
+      c .fault-number .ensures,
+      le-ltb n 23 (omega arith),
+      ne-eqb n 23 (λ q. omega arith),
+      ne-eqb n 24 (λ q. omega arith),
+      eq-eqb n 25 (omega arith),
+    )
 
 returns-4 : tie.Need-returns-4
 unfolding valueAt
 returns-4 c = let n = c .before .before .before .before .before .before .args .place in
-    simp (lt-ltb n 23 (omega arith)) (c .as-word .ensures ∙ ap asWord (back w64 (c .before .get .result) (c .before .get .ok) ∙ c .before .get .ensures))
+    simp (lt-ltb n 23 (omega arith))
+    (c .as-word .ensures ∙ ap asWord (back w64 (c .before .get .result) (c .before .get .ok) ∙ c .before .get .ensures))
 
 returns-5 : tie.Need-returns-5
 unfolding valueAt
 returns-5 c = let n = c .before .before .before .before .before .args .place in
-    simp (c .marks-number .ensures, le-ltb n 23 (omega arith), ne-eqb n 23 (λ q. omega arith), ne-eqb n 24 (λ q. omega arith), ne-eqb n 25 (λ q. omega arith))
+    simp (
+      c .user-bits-number .ensures,
+      le-ltb n 23 (omega arith),
+      ne-eqb n 23 (λ q. omega arith),
+      ne-eqb n 24 (λ q. omega arith),
+      ne-eqb n 25 (λ q. omega arith),
+    )
 
 pub value-at-spec : {M : Type 1} → statement M
 value-at-spec =
@@ -70,7 +84,7 @@ value-at-spec =
     add-get
     get-requires
     as-word-requires
-    marks-number-requires
+    user-bits-number-requires
     returns
     returns-2
     returns-3

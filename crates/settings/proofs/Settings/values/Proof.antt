@@ -35,7 +35,8 @@ loop-less c = search needs
 
 loop-again : tie.Need-loop-again Inv-loop μ-loop
 loop-again c = let l = c .before .before .loop in
-    filled-next (valueAt (c .before .before .before .args .self)) 27 28 (l .values) (l .place) (c .value-at .result) (omega arith) (l .inv) (c .before .loop-test .taken) (c .value-at .ensures)
+    filled-next (valueAt (c .before .before .before .args .self)) 27 28 (l .values) (l .place) (c .value-at .result) (omega arith) (l .inv)
+    (c .before .loop-test .taken) (c .value-at .ensures)
 
 with-sumcheck-requires : tie.Need-with-sumcheck-requires Inv-loop μ-loop
 with-sumcheck-requires c κs = search needs
@@ -43,7 +44,9 @@ with-sumcheck-requires c κs = search needs
 returns : tie.Need-returns Inv-loop μ-loop
 unfolding valuesOf
 returns c = let l = c .before .before .loop in
-    c .with-sumcheck .ensures ∙ ap withSumcheck (filled-front (valueAt (c .before .before .before .args .self)) 27 28 (l .values) (l .place) (l .inv) (c .before .loop-test .left))
+    c .with-sumcheck .ensures ∙
+    ap withSumcheck (filled-front (valueAt (c .before .before .before .args .self)) 27 28 (l .values) (l .place) (l .inv)
+    (c .before .loop-test .left))
 
 pub values-spec : {M : Type 1} → statement M
 values-spec =

@@ -3,7 +3,7 @@ use mathlib.Core.List.{[], _∷_}
 use mathlib.Core.Bool.{not, _&&_, _||_}
 use mathlib.Core.Path.{_≡_}
 use borrow.Author.Needs.{needs}
-use Rattle.signals.specs.Refusals.{declinedBy}
+use Rattle.signals.specs.Refusals.{refusedBy}
 use Rattle.words.specs.Written.{mdTests}
 use Rattle.words.proofs.written.md_verdict.Statement.{statement}
 use Rattle.words.proofs.written.md_verdict.Tie as tie
@@ -37,24 +37,29 @@ tests-are : (c : tie.After-cause-remains) → let start = c .before .before .bef
     ∷ []
 unfolding mdTests
 tests-are c =
+    let bits = c .before .before .before in
     simp (c .cause-remains .ensures, c .before .pins-of .ensures, c .before .before .exactly-one .ensures)
-    (simp (c .before .before .before .bit3 .ensures, c .before .before .before .before .bit2 .ensures, c .before .before .before .before .before .bit .ensures))
+    (simp (bits .bit3 .ensures, bits .before .bit2 .ensures, bits .before .before .bit .ensures))
 
 returns : tie.Need-returns
-unfolding declinedBy
+unfolding refusedBy
 returns c = simp (tests-are (c .before), c .if1 .taken)
 
 returns-2 : tie.Need-returns-2
-unfolding declinedBy
+unfolding refusedBy
 returns-2 c = simp (tests-are (c .before .before .before), c .before .before .if1 .left, c .if2 .taken)
 
 returns-3 : tie.Need-returns-3
-unfolding declinedBy
-returns-3 c = simp (tests-are (c .before .before .before .before), c .before .before .before .if1 .left, c .before .if2 .left, c .if3 .taken)
+unfolding refusedBy
+returns-3 c =
+    let one = c .before .before .before in
+    simp (tests-are (one .before), one .if1 .left, c .before .if2 .left, c .if3 .taken)
 
 returns-4 : tie.Need-returns-4
-unfolding declinedBy
-returns-4 c = simp (tests-are (c .before .before .before .before), c .before .before .before .if1 .left, c .before .if2 .left, c .if3 .left)
+unfolding refusedBy
+returns-4 c =
+    let one = c .before .before .before in
+    simp (tests-are (one .before), one .if1 .left, c .before .if2 .left, c .if3 .left)
 
 pub md-verdict-spec : {M : Type 1} → statement M
 md-verdict-spec =

@@ -14,10 +14,14 @@ returns : tie.Need-returns
 returns c = simp (sym (c .before .before .bit .ensures) ∙ c .if1 .taken)
 
 returns-2 : tie.Need-returns-2
-returns-2 c = simp (sym (c .before .before .before .bit .ensures) ∙ c .before .if1 .left, sym (c .before .before .bit2 .ensures) ∙ c .if2 .taken)
+returns-2 c =
+    let bits = c .before .before in
+    simp (sym (bits .before .bit .ensures) ∙ c .before .if1 .left, sym (bits .bit2 .ensures) ∙ c .if2 .taken)
 
 returns-3 : tie.Need-returns-3
-returns-3 c = simp (sym (c .before .before .before .bit .ensures) ∙ c .before .if1 .left, sym (c .before .before .bit2 .ensures) ∙ c .if2 .left)
+returns-3 c =
+    let bits = c .before .before in
+    simp (sym (bits .before .bit .ensures) ∙ c .before .if1 .left, sym (bits .bit2 .ensures) ∙ c .if2 .left)
 
 pub request-of-spec : {M : Type 1} → statement M
 request-of-spec = tie.close (tie.spec bit-requires bit-requires-2 returns returns-2 returns-3)

@@ -1,0 +1,140 @@
+-- `console::print::append_text` meets its contract.
+use mathlib.Core.Path.{refl}
+use mir.Syntax.{w32}
+use Rattle.integers.specs.Machine.{back}
+use Rattle.console.specs.Replies.{replyText}
+use Rattle.console.specs.ReplyLaws.{value-most}
+use Rattle.console.proofs.print.append_text.Statement.{statement}
+use Rattle.console.proofs.print.append_text.Tie as tie
+
+enum-told : tie.Need-enum-told
+enum-told c = c .match .keys1
+
+slice-aggregate-append-bytes : tie.Need-slice-aggregate-append-bytes
+slice-aggregate-append-bytes c = refl
+
+append-bytes-requires : tie.Need-append-bytes-requires
+append-bytes-requires c κs = tt
+
+enum-known-reply : tie.Need-enum-known-reply
+enum-known-reply c = c .match .keys2
+
+append-value-requires : tie.Need-append-value-requires
+append-value-requires c κs = tt
+
+enum-known-reply-2 : tie.Need-enum-known-reply-2
+enum-known-reply-2 c = c .match .keys3
+
+append-words-requires : tie.Need-append-words-requires
+append-words-requires c κs = tt
+
+enum-told-2 : tie.Need-enum-told-2
+enum-told-2 c = c .match .keys4
+
+append-image-requires : tie.Need-append-image-requires
+append-image-requires c κs = tt
+
+enum-known-reply-3 : tie.Need-enum-known-reply-3
+enum-known-reply-3 c = c .match .keys5
+
+append-refused-requires : tie.Need-append-refused-requires
+append-refused-requires c κs = tt
+
+enum-told-3 : tie.Need-enum-told-3
+enum-told-3 c = c .match .keys6
+
+slice-aggregate-append-bytes-2 : tie.Need-slice-aggregate-append-bytes-2
+slice-aggregate-append-bytes-2 c = refl
+
+append-bytes-requires-2 : tie.Need-append-bytes-requires-2
+append-bytes-requires-2 c κs = tt
+
+same-length : tie.Need-same-length
+same-length c = c .before .before .append-bytes .kept .0
+
+returns : tie.Need-returns
+unfolding replyText
+returns c =
+    let e = c .before .before .before .before .before .enum-told .given .1 in
+    (rw e (c .before .before .append-bytes .ensures), rw e tt)
+
+same-length-2 : tie.Need-same-length-2
+same-length-2 c = c .before .before .append-value .kept .0
+
+returns-2 : tie.Need-returns-2
+unfolding replyText
+returns-2 c =
+    let k = c .before .before .before .before in
+    let v = k .before .reply .given in
+    let range = k .known-told .given .0 .1 in
+    (rw (v .1) (rw (back w32 (v .0 .0) range) at (c .before .before .append-value .ensures)), rw (v .1) (value-most (v .0 .0) range))
+
+same-length-3 : tie.Need-same-length-3
+same-length-3 c = c .before .before .append-words .kept .0
+
+returns-3 : tie.Need-returns-3
+unfolding replyText
+returns-3 c =
+    let k = c .before .before .before .before in
+    let e = k .before .reply2 .given .1 in
+    let g = k .known-told2 .given in
+    (rw e (c .before .before .append-words .ensures), rw e (g .0 .1, g .1 .0 .1, g .1 .1 .0 .1, g .1 .1 .1 .0 .1))
+
+same-length-4 : tie.Need-same-length-4
+same-length-4 c = c .before .before .append-image .kept .0
+
+returns-4 : tie.Need-returns-4
+unfolding replyText
+returns-4 c =
+    let e = c .before .before .before .before .enum-told2 .given .1 in
+    (rw e (c .before .before .append-image .ensures), rw e tt)
+
+same-length-5 : tie.Need-same-length-5
+same-length-5 c = c .before .before .append-refused .kept .0
+
+returns-5 : tie.Need-returns-5
+unfolding replyText
+returns-5 c =
+    let k = c .before .before .before .before in
+    let e = k .before .reply3 .given .1 in
+    (rw e (c .before .before .append-refused .ensures), rw e (k .known-told3 .given .0 .1))
+
+same-length-6 : tie.Need-same-length-6
+same-length-6 c = c .before .before .append-bytes2 .kept .0
+
+returns-6 : tie.Need-returns-6
+unfolding replyText
+returns-6 c =
+    let e = c .before .before .before .before .before .enum-told3 .given .1 in
+    (rw e (c .before .before .append-bytes2 .ensures), rw e tt)
+
+pub append-text-spec : {M : Type 1} → statement M
+append-text-spec =
+    tie.close
+    (tie.spec
+    enum-told
+    slice-aggregate-append-bytes
+    append-bytes-requires
+    enum-known-reply
+    append-value-requires
+    enum-known-reply-2
+    append-words-requires
+    enum-told-2
+    append-image-requires
+    enum-known-reply-3
+    append-refused-requires
+    enum-told-3
+    slice-aggregate-append-bytes-2
+    append-bytes-requires-2
+    same-length
+    returns
+    same-length-2
+    returns-2
+    same-length-3
+    returns-3
+    same-length-4
+    returns-4
+    same-length-5
+    returns-5
+    same-length-6
+    returns-6)

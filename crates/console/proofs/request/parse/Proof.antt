@@ -1,0 +1,110 @@
+-- `console::request::parse` meets its contract.
+use borrow.Author.Tests.{le-leb, lt-leb}
+use native.Mathlib.Nat.{sub-zero}
+use Rattle.console.specs.Commands.{commandOf, commandBytes, commandIn, bytesAfter}
+use mathlib.Core.Path.{refl, sym, _∙_}
+use native.Mathlib.Omega.{arith}
+use Rattle.console.proofs.request.parse.Statement.{statement}
+use Rattle.console.proofs.request.parse.Tie as tie
+
+returns : tie.Need-returns
+unfolding commandIn bytesAfter
+returns c = (rw (le-leb _ _ (c .if1 .taken)) refl, rw (le-leb _ _ (c .if1 .taken)) refl)
+
+sub-call : tie.Need-sub-call
+sub-call c = omega arith
+
+part-call-start : tie.Need-part-call-start
+part-call-start c = omega arith
+
+part-call-end : tie.Need-part-call-end
+part-call-end c = omega arith
+
+word-requires : tie.Need-word-requires
+word-requires c κs = tt
+
+sub-same : tie.Need-sub-same
+sub-same c = omega arith
+
+part-same-start : tie.Need-part-same-start
+part-same-start c = omega arith
+
+part-same-end : tie.Need-part-same-end
+part-same-end c = omega arith
+
+slice-aggregate-same : tie.Need-slice-aggregate-same
+slice-aggregate-same c = refl
+
+same-requires : tie.Need-same-requires
+same-requires c κs = tt
+
+restart-requires : tie.Need-restart-requires
+restart-requires c κs = omega arith
+
+same-length : tie.Need-same-length
+same-length c = omega arith
+
+returns-2 : tie.Need-returns-2
+unfolding commandIn bytesAfter commandOf commandBytes
+returns-2 c =
+    let r = c .before .before in
+    let s = r .before .before .before in
+    let w = s .before .before .before in
+    let one = rw sub-zero at (w .word .ensures .0) in
+    let is = sym (rw sub-zero at (s .same .ensures)) ∙ r .before .before .if2 .taken in
+    let h = lt-leb _ _ (w .before .before .if1 .left) in (
+      rw (h, ← one, is) (rw sub-zero at (r .restart .ensures .0)),
+      rw (h, ← one, is) (rw sub-zero at (r .restart .ensures .1)),
+    )
+
+sub-of-numbers : tie.Need-sub-of-numbers
+sub-of-numbers c = omega arith
+
+part-of-numbers-start : tie.Need-part-of-numbers-start
+part-of-numbers-start c = omega arith
+
+part-of-numbers-end : tie.Need-part-of-numbers-end
+part-of-numbers-end c = omega arith
+
+parse-requires : tie.Need-parse-requires
+parse-requires c κs = tt
+
+of-numbers-requires : tie.Need-of-numbers-requires
+of-numbers-requires c κs = tt
+
+returns-3 : tie.Need-returns-3
+unfolding commandIn bytesAfter commandOf commandBytes
+returns-3 c =
+    let i = c .before .before .before in
+    let s = i .before in
+    let w = s .before .before .before in
+    let one = rw sub-zero at (w .word .ensures .0) in
+    let is = sym (rw sub-zero at (s .same .ensures)) ∙ i .if2 .left in
+    let h = lt-leb _ _ (w .before .before .if1 .left) in (
+      rw (h, ← one, is) (rw (c .before .parse .ensures, sub-zero) at (c .of-numbers .ensures)),
+      rw (h, ← one, is) refl,
+    )
+
+pub parse-spec : {M : Type 1} → statement M
+parse-spec =
+    tie.close
+    (tie.spec
+    returns
+    sub-call
+    part-call-start
+    part-call-end
+    word-requires
+    sub-same
+    part-same-start
+    part-same-end
+    slice-aggregate-same
+    same-requires
+    restart-requires
+    same-length
+    returns-2
+    sub-of-numbers
+    part-of-numbers-start
+    part-of-numbers-end
+    parse-requires
+    of-numbers-requires
+    returns-3)

@@ -1,0 +1,109 @@
+-- The command that a line asks for, and the bytes of a restart in the buffer.
+use mathlib.Core.Bool.{_&&_}
+use mathlib.Core.List.{List}
+use mathlib.Core.Option.{Option, none}
+use Prim.Native.Nat.{ℕ}
+use lib.Dec.{leb, ltb}
+use lib.IntN.{ℤ, pos, negℤ, natAbs}
+use lib.ListN.{length, take, getD}
+use lib.Signed.{leZ}
+use Rattle.integers.specs.Choice.{if_then_else_}
+use Rattle.integers.specs.Sign.{isNegative}
+use Rattle.text.specs.Arguments.{part, argumentsFrom, isCall, naturalIn}
+use Rattle.text.specs.Hexadecimal.{bytesOf, countIn, bytesIn}
+use Rattle.text.specs.Words.{wordAt, sameBytes}
+use Rattle.text.specs.declared.arguments.Arguments.{Arguments}
+use Rattle.text.specs.declared.hexadecimal.Count.{Count}
+use Rattle.text.specs.declared.hexadecimal.Count.the-variants.{Bytes, Malformed}
+use Rattle.formatting.specs.Ascii.{ascii}
+use Rattle.console.specs.declared.request.Command.{Command}
+use Rattle.console.specs.declared.request.Command.the-variants.{Fresh, Scan, Write, Read, Restart, Save, Invalid}
+
+-- ---- numbers
+
+-- an argument, counted from 0
+abbrev pub argument : List ℤ → ℕ → ℤ
+argument values i = getD values i (pos 0)
+
+-- the number of a parameter; one below zero is no parameter's, and 0 stands for it
+abbrev pub parameterNumber : ℤ → ℕ
+parameterNumber v = if isNegative v then 0 else natAbs v
+
+-- fresh SW
+unfoldable pub freshCommand : List ℤ → Command
+freshCommand values = let sw = naturalIn (argument values 0) 0 65535 in if sw .ok then Fresh (sw .value) else Invalid
+
+-- scan PINS S1 S2 S3 BUTTONS SENSORS
+unfoldable pub scanCommand : List ℤ → Command
+scanCommand values =
+    let pins = naturalIn (argument values 0) 0 255 in
+    let sample1 = naturalIn (argument values 1) 0 65535 in
+    let sample2 = naturalIn (argument values 2) 0 65535 in
+    let sample3 = naturalIn (argument values 3) 0 65535 in
+    let buttons = naturalIn (argument values 4) 0 255 in
+    let sensors = naturalIn (argument values 5) 0 255 in
+    if pins .ok && sample1 .ok && sample2 .ok && sample3 .ok && buttons .ok && sensors .ok then Scan (record {
+      pins = pins .value;
+      sample1 = sample1 .value;
+      sample2 = sample2 .value;
+      sample3 = sample3 .value;
+      buttons = buttons .value;
+      sensors = sensors .value;
+    }) else Invalid
+
+-- write NUMBER VALUE: a value that 32 bits don't hold is no call
+unfoldable pub writeCommand : List ℤ → Command
+writeCommand values =
+    let v = argument values 1 in
+    if leZ (negℤ (pos 2147483648)) v && leZ v (pos 2147483647) then Write (parameterNumber (argument values 0)) v else Invalid
+
+-- save LENGTH
+unfoldable pub saveCommand : List ℤ → Command
+saveCommand values = let size = naturalIn (argument values 0) 0 300 in if size .ok then Save (size .value) else Invalid
+
+-- a command whose arguments are numbers
+unfoldable pub numbersCommand : List ℕ → Arguments → Command
+numbersCommand word a =
+    if isCall word (ascii "scan") a 6 then scanCommand (a .values) else
+    if isCall word (ascii "write") a 2 then writeCommand (a .values) else
+    if isCall word (ascii "read") a 1 then Read (parameterNumber (argument (a .values) 0)) else
+    if isCall word (ascii "fresh") a 1 then freshCommand (a .values) else
+    if isCall word (ascii "save") a 1 then saveCommand (a .values) else Invalid
+
+-- ---- a restart
+
+-- restart HEX: the bytes of the one word behind a place
+unfoldable pub restartImage : List ℕ → ℕ → Option (List ℕ)
+restartImage line start =
+    let word = wordAt line start in
+    let behind = wordAt line (word .to) in
+    if ltb (behind .from) (behind .to) then none else bytesOf (part line (word .from) (word .to))
+
+-- with that many bytes; a malformed word asks nothing
+abbrev pub restartOf : Count → Command
+restartOf (Bytes n) = Restart n
+restartOf Malformed = Invalid
+
+-- ---- a line
+
+-- what a line asks, with a buffer of that length for a restart's bytes
+unfoldable pub commandOf : List ℕ → ℕ → Command
+commandOf call size =
+    let w = wordAt call 0 in
+    let word = part call (w .from) (w .to) in
+    if sameBytes word (ascii "restart") then restartOf (countIn (restartImage call (w .to)) size) else
+    numbersCommand word (argumentsFrom call (w .to))
+
+-- and the buffer afterwards
+unfoldable pub commandBytes : List ℕ → List ℕ → List ℕ
+commandBytes call bytes =
+    let w = wordAt call 0 in
+    if sameBytes (part call (w .from) (w .to)) (ascii "restart") then bytesIn (restartImage call (w .to)) bytes else bytes
+
+-- a line that fills its whole buffer is too long
+unfoldable pub commandIn : List ℕ → ℕ → ℕ → Command
+commandIn line len size = if leb (length line) len then Invalid else commandOf (take len line) size
+
+-- and the buffer afterwards
+unfoldable pub bytesAfter : List ℕ → ℕ → List ℕ → List ℕ
+bytesAfter line len bytes = if leb (length line) len then bytes else commandBytes (take len line) bytes

@@ -1,0 +1,153 @@
+// What a line asks: a call's name and its arguments, each within its range. A line of another form asks nothing.
+ghost use mathlib.Core.Path.{_≡_};
+ghost use Prim.Native.Nat.{_≤_};
+ghost use lib.ListN.{length};
+ghost use Rattle.text.specs.Hexadecimal.{countIn, bytesIn};
+ghost use Rattle.console.specs.Commands.{parameterNumber, freshCommand, scanCommand, writeCommand, saveCommand};
+ghost use Rattle.console.specs.Commands.{numbersCommand, restartImage, restartOf, commandIn, bytesAfter};
+use signals::Input;
+use text::arguments::Arguments;
+use text::hexadecimal::Count;
+
+pub enum Command {
+    Fresh(u16),
+    Scan(Input),
+    // a parameter's number and a value
+    Write(u64, i32),
+    Read(u64),
+    // with so many bytes at the front of the buffer
+    Restart(usize),
+    // into so many bytes
+    Save(usize),
+    Invalid,
+}
+
+// fresh SW. This contract and those below rule out another command than the line has, an argument of another place,
+// and one in range that is refused.
+fn fresh(values: [i64; 6]) -> Command
+    ensures { λ r. ⌜ r ≡ freshCommand values ⌝ }
+{
+    let sw = text::arguments::natural_in(values[0], 0, 65535);
+    if sw.ok {
+        return Command::Fresh(sw.value as u16);
+    }
+    Command::Invalid
+}
+
+// scan PINS S1 S2 S3 BUTTONS SENSORS
+fn scan(values: [i64; 6]) -> Command
+    ensures { λ r. ⌜ r ≡ scanCommand values ⌝ }
+{
+    let pins = text::arguments::natural_in(values[0], 0, 255);
+    let sample1 = text::arguments::natural_in(values[1], 0, 65535);
+    let sample2 = text::arguments::natural_in(values[2], 0, 65535);
+    let sample3 = text::arguments::natural_in(values[3], 0, 65535);
+    let buttons = text::arguments::natural_in(values[4], 0, 255);
+    let sensors = text::arguments::natural_in(values[5], 0, 255);
+    if pins.ok & sample1.ok & sample2.ok & sample3.ok & buttons.ok & sensors.ok {
+        return Command::Scan(Input {
+            pins: pins.value as u8,
+            sample1: sample1.value as u16,
+            sample2: sample2.value as u16,
+            sample3: sample3.value as u16,
+            buttons: buttons.value as u8,
+            sensors: sensors.value as u8,
+        });
+    }
+    Command::Invalid
+}
+
+// The number of a parameter, as a line has it: one below zero is no parameter's, and 0 stands for it.
+fn number_in(value: i64) -> u64
+    ensures { λ r. ⌜ r ≡ parameterNumber value ⌝ }
+{
+    let size = integers::magnitude(value);
+    if integers::negative(value) { 0 } else { size }
+}
+
+// write NUMBER VALUE: a value that 32 bits don't hold is no call
+fn write(values: [i64; 6]) -> Command
+    ensures { λ r. ⌜ r ≡ writeCommand values ⌝ }
+{
+    let number = number_in(values[0]);
+    let v = values[1];
+    if integers::not_above(-2147483648, v) & integers::not_above(v, 2147483647) {
+        return Command::Write(number, integers::narrow(v));
+    }
+    Command::Invalid
+}
+
+// save LENGTH
+fn save(values: [i64; 6]) -> Command
+    ensures { λ r. ⌜ r ≡ saveCommand values ⌝ }
+{
+    let size = text::arguments::natural_in(values[0], 0, 300);
+    if size.ok {
+        return Command::Save(size.value as usize);
+    }
+    Command::Invalid
+}
+
+// A call whose arguments are numbers. The contract rules out the command of another name.
+fn of_numbers(word: &[u8], a: Arguments) -> Command
+    ensures { λ r. ⌜ r ≡ numbersCommand (now (word .entry)) a ⌝ }
+{
+    let values = a.values;
+    if text::arguments::is_call(word, b"scan", a, 6) {
+        return scan(values);
+    }
+    if text::arguments::is_call(word, b"write", a, 2) {
+        return write(values);
+    }
+    if text::arguments::is_call(word, b"read", a, 1) {
+        return Command::Read(number_in(values[0]));
+    }
+    if text::arguments::is_call(word, b"fresh", a, 1) {
+        return fresh(values);
+    }
+    if text::arguments::is_call(word, b"save", a, 1) {
+        return save(values);
+    }
+    Command::Invalid
+}
+
+// restart HEX, or - for no bytes: one argument, which is no number. The contract gives every byte of the buffer, so it
+// rules out other bytes than the line has.
+fn restart(line: &[u8], start: usize, bytes: &mut [u8]) -> Command
+    requires { ⌜ start ≤ length (now line) ⌝ }
+    ensures { λ r. ⌜ (r ≡ restartOf (countIn (restartImage (now (line .entry)) start) (length (now (bytes .entry)))))
+        × (now (bytes .exit) ≡ bytesIn (restartImage (now (line .entry)) start) (now (bytes .entry))) ⌝ }
+{
+    let w = text::word(line, start);
+    let from = w.from;
+    let to = w.to;
+    let behind = text::word(line, to);
+    if behind.from < behind.to {
+        return Command::Invalid;
+    }
+    let count = text::hexadecimal::parse(&line[from..to], bytes);
+    match count {
+        Count::Bytes(n) => Command::Restart(n),
+        Count::Malformed => Command::Invalid,
+    }
+}
+
+// What a line asks, with a buffer for the bytes of a restart. A line that fills its whole buffer is too long. The
+// contract gives the command and every byte of the buffer, so it rules out a command that is taken for another or for
+// none.
+pub fn parse(line: &[u8], len: usize, bytes: &mut [u8]) -> Command
+    ensures { λ r. ⌜ (r ≡ commandIn (now (line .entry)) len (length (now (bytes .entry))))
+        × (now (bytes .exit) ≡ bytesAfter (now (line .entry)) len (now (bytes .entry))) ⌝ }
+{
+    if line.len() <= len {
+        return Command::Invalid;
+    }
+    let call = &line[0..len];
+    let w = text::word(call, 0);
+    let from = w.from;
+    let to = w.to;
+    if text::same(&call[from..to], b"restart") {
+        return restart(call, to, bytes);
+    }
+    of_numbers(&call[from..to], text::arguments::parse(call, to))
+}

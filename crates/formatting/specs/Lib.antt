@@ -1,0 +1,4 @@
+pub mod Ascii
+pub mod Buffer
+pub mod Laws
+pub mod Decimal

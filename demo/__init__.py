@@ -1,0 +1,1 @@
+"""The demonstration: what `make run` plays once everything is proved and built."""

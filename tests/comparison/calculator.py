@@ -1,0 +1,257 @@
+"""Compare a program's arithmetic, call by call, with the model.
+
+Usage: python3 -B -m tests.comparison.calculator [--seed N] PROGRAM
+
+The program reads one call a line and writes one answer line for each: a
+number, or "error" for a line that is no call or has a number out of range.
+The last line printed is "N passed, M failed", one count for each comparison.
+As failed counts also each kind of call of which too few were found, and a
+program that doesn't end with status 0.
+"""
+
+import argparse
+import collections
+import itertools
+import random
+import subprocess
+import sys
+
+from tests.lists import calculator as calculator_calls
+from tests.lists.calculator import RANGES, expected_answer, is_legal, line_of
+
+DEFAULT_SEED = 6360
+RANDOM_CALLS_A_WORD = 5500
+LEAST_PASSED = 20000
+DIFFERENCES_PRINTED = 10
+PROGRAM_SECONDS = 300
+FAR = 999999999
+
+# Document 01, "Worked by hand".  The last four are ties, 39,062.5 and
+# 117,187.5 steps, worked by hand for our decision on the exact half.
+BY_HAND = (
+    ("proportional 1000 1000 1", "655360"),
+    ("integral 1000 1000 10 0 1", "23593"),
+    ("derivative 1000 1000 10 0 0 1", "-18204444"),
+    ("derivative 1000 1000 10 0 0 100", "-655360000"),
+    ("scale 0 1 4999", "0"), ("scale 0 1 5000", "1"),
+    ("ratio 101 200", "51"), ("ratio -101 200", "-51"), ("inverse 5 150", "8"),
+    ("proportional 4096 4096 1", "39062"), ("proportional 4096 4096 -1", "-39062"),
+    ("proportional 4096 4096 3", "117188"), ("proportional 4096 4096 -3", "-117188"),
+)
+# Found by search: so near to a half that 53-bit floats take them for ties.
+NEAREST_TIES = (
+    ("proportional", (8681, 19071), 38342), ("proportional", (9121, 14483), 18806),
+    ("derivative", (9361, 18685, 3, 0, 0), 19058), ("derivative", (8905, 18629, 33, 0, 1), 617),
+    ("derivative", (7571, 15623, 1, 1, 0), 365), ("derivative", (5463, 17005, 1, 1, 1), 291),
+)
+NO_NUMBERS = (
+    "+5", "--5", "-", "12x", "x12", "5-", "1-2", "1.0", "1e3", "0x5", "1_0", "1,0",
+    "1234567890", "-1234567890", "0" * 18 + "5",      # out of range; nineteen digits
+    "4294967301", "18446744073709551621", "9" * 40)   # 2^32 + 5, 2^64 + 5
+NO_CALLS = ("", " ", "   ", "square 5", "Root 5", "ROOT 5", "roots 5", "roo 5",
+            "root5", "root,5", "root\t5", "5 root", "5", "-", "error",
+            "root" + " " * 251 + "5", "root 5" + " " * 5000)  # 256 bytes and more
+# One to eighteen digits, blanks anywhere between words, lines up to 255 bytes.
+OTHER_FORMS = (
+    ("  root 5", "223"), ("root 5  ", "223"), ("root" + " " * 250 + "5", "223"),
+    ("root " + "0" * 17 + "5", "223"), ("scale -0 1 5000", "1"), ("scale -00 01 05000", "1"))
+# Whole inputs: none, a last line without a newline, and empty lines.
+WHOLE_INPUTS = ((b"", b""), (b"root 5", b"223\n"), (b"\n", b"error\n"), (b"roo\nt 5", b"error\nerror\n"),
+                (b"root 5\nroot 4\n\nroot 1", b"223\n200\nerror\n100\n"), (b"\0", b"error\n"))
+
+
+# Calls, as words and arguments ---------------------------------------------
+
+def corner_calls():
+    """All combinations of range ends, their neighbours, zero, one, minus one.
+
+    Those with L not below H, or LOW above HIGH, are to be answered error.
+    """
+    for word, ranges in RANGES.items():
+        corners = [sorted({number for number in (low, low + 1, -1, 0, 1, high - 1, high)
+                           if low <= number <= high}) for low, high in ranges]
+        for arguments in itertools.product(*corners):
+            yield word, arguments
+
+
+def draw(generator, low, high):
+    """A number in range: anywhere, near zero, or near an end."""
+    middle = generator.choice([None, max(low, min(high, 0)), low, high])
+    if middle is None:
+        return generator.randint(low, high)
+    distance = 2 ** generator.randint(0, 10)
+    return generator.randint(max(low, middle - distance), min(high, middle + distance))
+
+
+def random_arguments(generator, word):
+    while True:
+        arguments = tuple(draw(generator, low, high) for low, high in RANGES[word])
+        if is_legal(word, arguments):
+            return arguments
+
+
+def unlimited_arguments(generator, word):
+    """Arguments of a term that is neither zero nor beyond the limit."""
+    while True:
+        settings = random_arguments(generator, word)[:-1]
+        one = calculator_calls.quotient_of_one(word, settings)
+        if one > 0 and calculator_calls.reach(word, one) >= 1:
+            moving = generator.randint(1, calculator_calls.reach(word, one))
+            return (*settings, generator.choice([moving, -moving]))
+
+
+def random_calls(generator):
+    """Random legal calls; of the terms, every second one isn't limited."""
+    for word in RANGES:
+        for count in range(RANDOM_CALLS_A_WORD):
+            unlimited = word in calculator_calls.TERMS and count % 2 == 1
+            chosen = unlimited_arguments if unlimited else random_arguments
+            yield word, chosen(generator, word)
+
+
+# Lines to be answered error ------------------------------------------------
+
+def out_of_range_lines(generator):
+    """One beyond each end of each argument, and far beyond it."""
+    for word, ranges in RANGES.items():
+        for place, (low, high) in enumerate(ranges):
+            for beyond in (low - 1, high + 1, -FAR, FAR):
+                if low <= beyond <= high:
+                    continue
+                for _ in range(10):
+                    arguments = list(random_arguments(generator, word))
+                    arguments[place] = beyond
+                    yield line_of(word, arguments)
+    for _ in range(100):  # pairs out of order; L = H is, LOW = HIGH isn't
+        high = draw(generator, -9999, 9999)
+        yield line_of("scale", (high, high, draw(generator, 0, 10000)))
+        yield line_of("scale", (draw(generator, high, 9999), high, 5000))
+        high = draw(generator, -FAR, FAR - 1)
+        yield line_of("limit", (high + 1, high, draw(generator, -FAR, FAR)))
+        yield line_of("limit", (draw(generator, high + 1, FAR), high, high))
+
+
+def malformed_lines(generator):
+    """Lines that are no call: a number missing, extra or no number, no word."""
+    yield from NO_CALLS
+    for word, ranges in RANGES.items():
+        yield word
+        arguments = random_arguments(generator, word)
+        yield line_of(word, (*arguments, 0))
+        yield line_of(word, (*arguments, arguments[-1]))
+        yield line_of(word, (word, *arguments))
+        for place in range(len(ranges)):
+            before, after = arguments[:place], arguments[place + 1:]
+            yield line_of(word, before + after)
+            for no_number in NO_NUMBERS:
+                yield line_of(word, (*before, no_number, *after))
+
+
+# The comparison ------------------------------------------------------------
+
+def check_model():
+    """The hand-worked figures hold of the model too, or the test is void."""
+    for line, figure in BY_HAND:
+        word, *numbers = line.split()
+        if expected_answer(word, tuple(map(int, numbers))) != figure:
+            raise ValueError("the model is wrong at " + line)
+
+
+def all_comparisons(generator):
+    """Pairs of a line and its expected answer, in random order; and how many
+    different calls of each hard kind are among them."""
+    asked = [*corner_calls(), *random_calls(generator),
+             *(("root", (sample,)) for sample in range(10001)),
+             *((word, (*settings, sign * moving))
+               for word, settings, moving in NEAREST_TIES for sign in (1, -1))]
+    kinds = {}
+    for kind, found in calculator_calls.hard_calls(generator):
+        asked += found
+        kinds[kind] = len(found)
+    comparisons = [*BY_HAND, *OTHER_FORMS, *((line_of(*call), expected_answer(*call)) for call in asked)]
+    comparisons += [(line_of(*call, blanks), expected_answer(*call))
+                    for call in generator.sample(asked, 200) for blanks in ("  ", "     ")]
+    comparisons += [(line, "error") for line in out_of_range_lines(generator)]
+    comparisons += [(line, "error") for line in malformed_lines(generator)]
+    generator.shuffle(comparisons)
+    return comparisons, kinds
+
+
+def run(program, asked):
+    """What the program writes, and whether it ended with status 0."""
+    try:
+        ended = subprocess.run([program], input=asked, stdout=subprocess.PIPE,
+                               timeout=PROGRAM_SECONDS)
+    except (OSError, subprocess.TimeoutExpired) as reason:
+        print("The program didn't run to its end:", reason)
+        return b"", False
+    if ended.returncode != 0:
+        print("The program ended with status", ended.returncode)
+    return ended.stdout, ended.returncode == 0
+
+
+def run_lines(program, lines):
+    """The program's answer lines, and whether it ended with status 0."""
+    written, ended_well = run(program, "".join(line + "\n" for line in lines).encode("ascii"))
+    answers = written.decode("ascii", "backslashreplace").split("\n")
+    if answers[-1] == "":
+        answers.pop()
+    return answers, ended_well
+
+
+def wrong_whole_inputs(program):
+    """How many of the whole inputs are answered wrongly."""
+    wrong = 0
+    for asked, expected in WHOLE_INPUTS:
+        written, ended_well = run(program, asked)
+        if written != expected or not ended_well:
+            wrong += 1
+            print(f"input {asked!r}: answer {written!r}, expected {expected!r}")
+    return wrong
+
+
+def differences(comparisons, answers):
+    """Calls, answers and expectations that differ; a lone call or answer does."""
+    for comparison, answer in itertools.zip_longest(comparisons, answers):
+        line, expected = comparison or (None, None)
+        if answer is None or answer != expected:
+            yield line, answer, expected
+
+
+def print_counts(seed, comparisons, kinds):
+    print("seed", seed)
+    words = collections.Counter(line.split()[0] for line, expected in comparisons
+                                if expected != "error")
+    for word in RANGES:
+        print(f"{words[word]:6} {word}")
+    errors = sum(expected == "error" for _, expected in comparisons)
+    print(f"{errors:6} lines to be answered error")
+    for kind, count in kinds.items():
+        short = "" if count >= calculator_calls.LEAST_OF_A_KIND else "   TOO FEW"
+        print(f"{count:6} {kind}{short}")
+
+
+def main():
+    parser = argparse.ArgumentParser()
+    parser.add_argument("--seed", type=int, default=DEFAULT_SEED)
+    parser.add_argument("program")
+    given = parser.parse_args()
+    check_model()
+    comparisons, kinds = all_comparisons(random.Random(given.seed))
+    print_counts(given.seed, comparisons, kinds)
+    answers, ended_well = run_lines(given.program, [line for line, _ in comparisons])
+    print(len(comparisons), "calls,", len(answers), "answers")
+    different = list(differences(comparisons, answers))
+    for line, answer, expected in different[:DIFFERENCES_PRINTED]:
+        print(f"call {line!r}: answer {answer!r}, expected {expected!r}")
+    too_few = sum(count < calculator_calls.LEAST_OF_A_KIND for count in kinds.values())
+    wrong_inputs = wrong_whole_inputs(given.program)
+    passed = max(len(comparisons), len(answers)) - len(different) + len(WHOLE_INPUTS) - wrong_inputs
+    failed = len(different) + too_few + wrong_inputs + (not ended_well)
+    print(f"{passed} passed, {failed} failed")
+    good = failed == 0 and len(answers) == len(comparisons) and passed >= LEAST_PASSED
+    sys.exit(0 if good else 1)
+
+
+if __name__ == "__main__":
+    main()

@@ -1,0 +1,100 @@
+"""Whole inputs for the console, each with the whole output expected: ends of input, overlong lines, and input that
+comes in pieces.
+"""
+
+from tests.figures.images import FRESH
+from tests.model.lines import LONGEST_LINE, lines_in
+
+# Worked by hand.  SW 0, pins 80h, all else 0: Manual is MD 2000h; DS is 80h, then bits 4, 3, 2, 1, 0: 801Fh; output 0.
+FIRST_SCAN = "scan 128 0 0 0 0 0"
+FIRST_ANSWER = "scan 8192 32799 0 0"
+IMAGE = FRESH.split()[1]  # a fresh controller's
+BY_HAND = (
+    ("no input", "", ""),
+    ("no newline at the end", "fresh 0", "ok\n"),
+    ("a newline at the end", "fresh 0\n", "ok\n"),
+    ("one empty line", "\n", "error\n"),
+    ("three empty lines", "\n\n\n", "error\nerror\nerror\n"),
+    ("one blank", " ", "error\n"),
+    ("one NUL", "\0", "error\n"),
+    ("one carriage return", "\r", "error\n"),
+    ("a carriage return before the newline", "fresh 0\r\n", "error\n"),
+    ("a NUL behind a call", "fresh 0\0\nfresh 0\0 5\nfresh 0 \0\n", "error\nerror\nerror\n"),
+    ("a tab for a blank", "fresh\t0\n\tfresh 0\nfresh 0\t\n", "error\nerror\nerror\n"),
+    ("a byte beyond ASCII", "\xff", "error\n"),
+    ("a scan before any fresh", FIRST_SCAN, FIRST_ANSWER + "\n"),
+    ("S2.2 ON", f"fresh 16384\n{FIRST_SCAN}", "ok\nscan 8192 32799 0 9999\n"),
+    ("a fresh start ends Auto", f"scan 128 0 0 0 2 0\nfresh 0\n{FIRST_SCAN}\n", f"scan 4098 32831 0 0\nok\n{FIRST_ANSWER}\n"),
+    ("a word cut by a newline", "fre\nsh 0\n", "error\nerror\n"),
+    ("a call after a line with NULs", f"\0\0\0\n{FIRST_SCAN}\n", f"error\n{FIRST_ANSWER}\n"),
+    ("the greatest numbers", "fresh 65535\nscan 255 10000 10000 10000 207 3\n", "ok\nscan 17615 65335 9999 0\n"),
+    ("one beyond the greatest", "fresh 65536\nscan 256 0 0 0 0 0\nscan 0 65536 0 0 0 0\nscan 0 65535 0 0 0 0\n",
+     "error\n" * 3 + "refused 1\n"),
+    ("a write and reads", "write 20 5\nread 20\nread 29\n", "ok\nvalue 5\nvalue 0\n"),
+    ("a value below zero", "write 22 -5\nread 22\nwrite 022 -0006\nread 0022", "ok\nvalue -5\nok\nvalue -6\n"),
+    ("a fresh start ends what was written", "write 20 5\nfresh 0\nread 20\n", "ok\nok\nvalue 0\n"),
+    ("numbers outside 1 to 32", "write 0 0\nwrite 33 0\nwrite -5 0\nread 0\nread -1\nread 33\n", "refused 4\n" * 6),
+    ("the farthest numbers", f"read {'9' * 18}\nread -{'9' * 18}\nwrite {'9' * 18} 1\nread {'9' * 19}\nwrite -{'9' * 19} 1\n",
+     "refused 4\n" * 3 + "error\n" * 2),
+    ("the ends of 32 bits", "write 22 2147483647\nwrite 22 2147483648\nwrite 22 -2147483648\nwrite 22 -2147483649\nwrite 0 2147483648\n",
+     "refused 6\nerror\nrefused 6\nerror\nerror\n"),
+    ("no writes and no reads", "write\nread\nwrite 20\nwrite 20 5 5\nread 20 5\nread\t20\nwrite 20 +5\nWrite 20 5\nwrite20 5\nread 20\n",
+     "error\n" * 9 + "value 0\n"),
+    ("a save, and a restart from it", f"save 137\nwrite 20 5\nrestart {IMAGE}\nread 20\nrestart {IMAGE.lower()}\n",
+     f"image {IMAGE}\nok\nok\nvalue 0\nok\n"),
+    ("the ends of a buffer's length", "save 136\nsave 0\nsave -0\nsave 300\nsave 0000137\nsave 301\nsave -1\nsave 65673\n",
+     "refused 15\n" * 3 + f"image {IMAGE}\n" * 2 + "error\n" * 3),
+    ("no bytes, one byte, and too many", f"restart -\nrestart 00\nrestart {IMAGE}00\nrestart {'0' * 600}\nrestart 0{IMAGE[:-1]}\n",
+     "refused 12\n" * 4 + "refused 13\n"),
+    ("no saves and no restarts",
+     f"save\nrestart\nsave 137 137\nsave x\nsave +137\nSave 137\nsave137\nsave -\nrestart {IMAGE} -\nrestart - {IMAGE}\nrestart --\n"
+     f"restart {IMAGE[:-1]}\nrestart {IMAGE}0\nrestart 0x{IMAGE}\nrestart {IMAGE}h\nrestart -{IMAGE}\nrestart +{IMAGE}\n"
+     f"restart {IMAGE[:40]} {IMAGE[40:]}\n"
+     f"restart {IMAGE[:-2]}4g\nrestart {IMAGE[:-2]}:2\nrestart {IMAGE[:-2]}`2\nrestart {IMAGE[:-2]}@2\nrestart {IMAGE[:-2]}/2\n"
+     f"Restart {IMAGE}\nrestart{IMAGE}\nread 24\n",
+     "error\n" * 25 + "value 8192\n"),
+    ("the lowest refusal wins", "scan 0 10001 0 0 48 255\nscan 0 0 0 0 16 4\nscan 0 0 0 0 0 4\n", "refused 1\nrefused 2\nrefused 3\n"),
+)
+
+
+def overlong():
+    """Lines of exactly the longest length, one byte longer and far longer, alone and between others, with and without a
+    last newline.
+    """
+    for length in (LONGEST_LINE - 1, LONGEST_LINE, LONGEST_LINE + 1, 2 * LONGEST_LINE, 5000, 70000):
+        expected = "ok" if length <= LONGEST_LINE else "error"
+        missing = " " * (length - len("fresh 0"))
+        for name, line in (("behind", "fresh 0" + missing), ("before", missing + "fresh 0"), ("inside", f"fresh {missing}0")):
+            yield f"{length} bytes, blanks {name}", f"{line}\n", f"{expected}\n"
+            yield f"{length} bytes, blanks {name}, no newline", line, f"{expected}\n"
+        yield (f"{length} bytes between scans", f"{FIRST_SCAN}\nfresh 0{missing}\n{FIRST_SCAN}\n",
+               f"{FIRST_ANSWER}\n{expected}\n{FIRST_ANSWER}\n")
+        yield f"{length} digits and letters", f"{'7' * length}\n{'x' * length}\nfresh 1\n", "error\nerror\nok\n"
+    for length in (LONGEST_LINE, LONGEST_LINE + 1):
+        expected = "ok" if length <= LONGEST_LINE else "error"
+        yield f"a restart of {length} bytes", f"restart {IMAGE.rjust(length - len('restart '))}\n", f"{expected}\n"
+    calls = "fresh 0 " * 100  # 800 bytes: what stands behind the 700th byte is no call of its own
+    yield "an overlong line of calls", f"{calls}\n{FIRST_SCAN}\n", f"error\n{FIRST_ANSWER}\n"
+
+
+def cut_short(answers_of):
+    """An input that ends after any byte of its last line; of an image after some bytes only."""
+    for text in ("fresh 1024\nscan 192 4990 20 5000 4 0\nscan 0160  10001 -0 070 66 03", "write 22 -7\nwrite 0022  -2147483649",
+                 "write 22 -7\nread 0022", "write 22 -7\nsave  0000000137 ", f"write 22 -7\nrestart {IMAGE} "):
+        first = text.index("\n") + 1
+        lengths = range(first, len(text) + 1)
+        for length in lengths if len(lengths) < 100 else (*lengths[:14], *lengths[14:-6:25], *lengths[-6:]):
+            yield f"cut after {length} bytes", text[:length], "".join(answer + "\n" for answer in answers_of(lines_in(text[:length])))
+
+
+def whole(answers_of):
+    """Name, the input's text and the output's text of each."""
+    return [*BY_HAND, *overlong(), *cut_short(answers_of)]
+
+
+def in_pieces(lines, answers_of):
+    """Inputs that come piece by piece: the size of a piece, the text and the output's text."""
+    few = "\n".join(lines[:40])
+    many = "\n".join(lines) + "\n"
+    for size, text in ((1, few), (2, few), (13, few), (699, many), (700, many), (701, many), (1024, many), (4095, many), (4097, many)):
+        yield size, text, "".join(answer + "\n" for answer in answers_of(lines_in(text)))

@@ -1,0 +1,39 @@
+"""What counts the calls of some lists: the base of the counts for each kind of list."""
+
+import collections
+
+SWITCHES = {"S2.1": 15, "S2.2": 14, "S2.3": 13, "S2.4": 12, "S2.5": 11, "S2.6": 10, "S2.8": 8, "S1.1": 7}
+
+
+def on(number, place):
+    return bool(number >> place & 1)
+
+
+class Coverage:
+    """Counts what the calls of some lists meet.
+
+    A kind of list has a class of its own with a title, `least_counts`, which gives how often each thing must be met at
+    least, by name, and `call`, which counts one call: the call, the pairs of controllers before and after it, our
+    answer and the claim's n.
+    """
+
+    def __init__(self):
+        self.counts = collections.Counter()
+
+    def lines(self, entries):
+        """The lines of a list, by the form or the line error and the call."""
+        for (kind, word), count in collections.Counter((entry.kind, entry.word) for entry in entries).items():
+            self.counts[f"line: {kind} of {word}"] += count
+
+    def count(self, *names):
+        for name in names:
+            self.counts[name] += 1
+
+    def join(self, other):
+        """With what another run met."""
+        self.counts.update(other.counts)
+
+    def too_few(self):
+        """The names of what was too rarely met, with the count and the least."""
+        return [f"too few, {self.title}: {name}: {self.counts[name]}, at least {least} are expected"
+                for name, least in self.least_counts().items() if self.counts[name] < least]

@@ -1,0 +1,1 @@
+"""The gate: every step of `make test`, its tally and its times, and the tests of the gate itself."""

@@ -1,0 +1,1 @@
+"""The lists of calls, drawn from a seed, that the comparisons make."""

@@ -1,0 +1,199 @@
+"""Other forms of the same call's line, and lines that are no call, drawn from a seed."""
+
+from tests.model.lines import ANY, LONGEST_LINE, RANGES, line_of, text_of
+
+
+# Other forms of the same call ----------------------------------------------
+
+def of_digits(number, digits):
+    """A number with leading zeros to so many digits at least."""
+    return f"{'-' if number < 0 else ''}{abs(number):0{digits}}"
+
+
+def with_leading_zeros(generator, call):
+    return line_of((call[0], *(of_digits(number, generator.randint(min(18, len(str(abs(number))) + 1), 18)) for number in call[1:])))
+
+
+def with_eighteen_digits(generator, call):
+    return line_of((call[0], *(of_digits(number, 18) for number in call[1:])))
+
+
+def with_minus_zeros(generator, call):
+    """Every zero, and only a zero, may bear a minus."""
+    return line_of((call[0], *(generator.choice(["-0", "-000", "-" + "0" * 18, "0"]) if number == 0 else number for number in call[1:])))
+
+
+def with_more_blanks(generator, call):
+    line = (" " * generator.randint(1, 4)).join(map(text_of, call))
+    return " " * generator.randint(0, 3) + line + " " * generator.randint(0, 3)
+
+
+def with_700_bytes(generator, call):
+    """The longest line: filled up with blanks, before the call, inside it or behind it."""
+    line = line_of(call)
+    missing = " " * (LONGEST_LINE - len(line))
+    return generator.choice([missing + line, line + missing, line.replace(" ", " " + missing, 1)])
+
+
+def in_small_letters(generator, call):
+    return f"{call[0]} {text_of(call[1]).lower()}"
+
+
+def in_both_cases(generator, call):
+    """Each digit above 9 in a capital or a small letter."""
+    return f"{call[0]} {''.join(generator.choice((digit, digit.lower())) for digit in text_of(call[1]))}"
+
+
+OTHER_FORMS = {"leading zeros": with_leading_zeros, "eighteen digits": with_eighteen_digits, "minus zero": with_minus_zeros,
+               "more blanks": with_more_blanks, "700 bytes": with_700_bytes, "small letters": in_small_letters, "both cases": in_both_cases}
+
+
+# Lines that are no call ----------------------------------------------------
+
+NO_NUMBERS = ("+5", "--5", "-", "5-", "1-2", "12x", "x12", "1.0", "1e3", "0x5", "80h", "1_0", "1,0", "\u00b2", "\xff")
+NO_BYTES = ("--", "-0", "-00", "0-", "00-", "+00", "0x00", "00h", "0h", "g0", "0G", "ag", "/0", ":0", "@0", "`0", "0/", "0:", "0@", "0`",
+            "0_0", "0,0", "\u00b2\u00b3", "\xff\xff", "0", "123")
+NO_WORDS = ("scam", "sca", "scann", "scan,", "scans", "freshen", "fres", "writ", "writes", "rewrite", "rea", "reads", "ok", "value",
+            "refused", "error", "x", "-", "128", "scan128", "read5", "sav", "saves", "restar", "restarts", "start", "image", "save137")
+OTHER_BLANKS = ("\t", "\v", "\f", "\r", "\0", "\xa0", ",")
+
+
+def with_number(call, place, number):
+    """The call with another number, or with other text, at this place."""
+    return line_of((*call[:place], number, *call[place + 1:]))
+
+
+def changed(generator, call, text):
+    """The call with one of its numbers put otherwise."""
+    return with_number(call, generator.randrange(1, len(call)), text)
+
+
+def number_missing(generator, call):
+    place = generator.randrange(1, len(call))
+    return line_of(call[:place] + call[place + 1:])
+
+
+def number_too_many(generator, call):
+    place = generator.randint(1, len(call))
+    return line_of((*call[:place], generator.choice([0, 0, 128, 5000]), *call[place:]))
+
+
+def number_beyond_its_type(generator, call):
+    """One beyond an end, or far beyond: among them numbers that come out right in 8, 16, 32 bits if only the low bits
+    are kept.
+    """
+    place = generator.choice([place for place, ends in enumerate(RANGES[call[0]], 1) if ends != ANY])
+    least, greatest = RANGES[call[0]][place - 1]
+    beyond = [greatest + 1, greatest + 1 + call[place], (1 << 16) + call[place], (1 << 32) + call[place], 10 ** 18 - 1]
+    if least < 0:
+        beyond += [least - 1, call[place] - (1 << 32), 1 - 10 ** 18]
+    return with_number(call, place, generator.choice([number for number in beyond if not least <= number <= greatest]))
+
+
+def number_below_zero(generator, call):
+    return changed(generator, call, generator.choice([-1, -2, -128, -256, -32768, -65536, -(1 << 32), 1 - 10 ** 18]))
+
+
+def nineteen_digits(generator, call):
+    place = generator.randrange(1, len(call))
+    text = generator.choice([of_digits(call[place], 19), "0" * 19, f"-{0:019}", str((1 << 64) + call[place]), "9" * 40, "0" * 300 + "5"])
+    return with_number(call, place, text)
+
+
+def no_number(generator, call):
+    return changed(generator, call, generator.choice(NO_NUMBERS))
+
+
+def unknown_word(generator, call):
+    return line_of((generator.choice(NO_WORDS), *call[1:]))
+
+
+def word_in_capitals(generator, call):
+    return line_of((generator.choice([call[0].upper(), call[0].capitalize()]), *call[1:]))
+
+
+def no_word(generator, call):
+    return line_of(call[1:])
+
+
+def word_twice(generator, call):
+    return line_of((call[0], *call))
+
+
+def empty_line(generator, call):
+    return ""
+
+
+def blanks_only(generator, call):
+    return " " * generator.choice([1, 2, 5, 700])
+
+
+def other_blank(generator, call):
+    """One of the blanks, or one more before or behind, is no space; behind in half of the cases."""
+    words, blank = list(map(text_of, call)), generator.choice(OTHER_BLANKS)
+    place = generator.choice((len(words), generator.randrange(len(words))))
+    separators = ["", *[" "] * (len(words) - 1), ""]
+    separators[place] = blank
+    return "".join(separator + word for separator, word in zip(separators, [*words, ""], strict=True))
+
+
+def two_calls(generator, call):
+    return line_of((*call, *call))
+
+
+def overlong_line(generator, call):
+    """A call filled up with blanks to more than 700 bytes.
+
+    Of the longest the first or the last 700 bytes would be a call.
+    """
+    line = line_of(call)
+    missing = " " * (generator.choice([701, 702, 768, 1024, 1400, 4096, 5000]) - len(line))
+    return generator.choice([missing + line, line + missing, line.replace(" ", " " + missing, 1)])
+
+
+def with_wrong_text(text, wrong, place):
+    """A text that isn't bytes, alone, before or behind those of a call, or in place of two digits."""
+    return wrong, wrong + text, text + wrong, text[:place] + wrong + text[place + 2:]
+
+
+def no_bytes(generator, call):
+    text, wrong = text_of(call[1]).replace("-", ""), generator.choice(NO_BYTES)
+    return f"{call[0]} {generator.choice(with_wrong_text(text, wrong, 2 * generator.randint(0, len(text) // 2)))}"
+
+
+def odd_digits(generator, call):
+    """One digit more or less."""
+    text = text_of(call[1]).replace("-", "")
+    return f"{call[0]} {generator.choice((text + '0', '0' + text, text[1:] or 'A', text[:-1] or '7'))}"
+
+
+def blank_in_bytes(generator, call):
+    """Two or more parts: two arguments at least."""
+    text = text_of(call[1]) + "00"
+    place = generator.randint(1, len(text) - 1)
+    return f"{call[0]} {text[:place]} {text[place:]}"
+
+
+LINE_ERRORS = {"number missing": number_missing, "number too many": number_too_many, "number beyond its type": number_beyond_its_type,
+               "number below zero": number_below_zero, "nineteen digits": nineteen_digits, "no number": no_number,
+               "unknown word": unknown_word, "word in capitals": word_in_capitals, "no word": no_word, "word twice": word_twice,
+               "empty line": empty_line, "blanks only": blanks_only, "other blank": other_blank, "two calls": two_calls,
+               "overlong line": overlong_line, "no bytes": no_bytes, "odd digits": odd_digits, "blank in bytes": blank_in_bytes}
+# Only a restart has bytes, and it has no numbers; some lines with a number that is wrong elsewhere are calls all the
+# same.
+OF_BYTES = ("small letters", "both cases", "no bytes", "odd digits", "blank in bytes")
+OF_NUMBERS = ("leading zeros", "eighteen digits", "minus zero", "number beyond its type", "nineteen digits", "no number")
+NOT_OF = {"write": ("number below zero",), "read": ("number below zero", "number beyond its type")}
+
+
+def applies(kind, word):
+    """Whether a call of this word can be put in this form or made into this line error."""
+    return kind not in (OF_NUMBERS if word == "restart" else OF_BYTES) and kind not in NOT_OF.get(word, ())
+
+
+def other_forms_of(word):
+    return [kind for kind in OTHER_FORMS if applies(kind, word)]
+
+
+def line_errors_of(word):
+    return [kind for kind in LINE_ERRORS if applies(kind, word)]

@@ -1,0 +1,34 @@
+"""Our stored controller and the exact one, fed the same calls, with the claim checked after each."""
+
+from tests.model import loop
+from tests.model.claim import Claim
+from tests.model.lines import call_of, line_of
+from tests.model.state import Exact, Stored
+from tests.model.words import mode_of
+
+
+class Pair:
+    """The pair begins as the program does: "fresh with SW 0"."""
+
+    def __init__(self):
+        self.claim = Claim()
+        self.controllers = loop.fresh(0, Stored), loop.fresh(0, Exact)
+
+    def make(self, call):
+        """Makes the call; our answer and the parts of the claim that were broken."""
+        before = self.controllers
+        stored, answer = loop.make(before[0], call, Stored)
+        exact, exact_answer = loop.make(before[1], call, Exact)
+        self.controllers = stored, exact
+        return answer, self.claim.broken(call, before, self.controllers, (answer, exact_answer), mode_of)
+
+
+def answers_of(lines):
+    """The model's answers to the lines, from the controller that is fresh with SW 0."""
+    controller, answers = loop.fresh(0, Stored), []
+    for line in lines:
+        call = call_of(line)
+        if call:
+            controller, answer = loop.make(controller, call, Stored)
+        answers.append(line_of(answer) if call else "error")
+    return answers

@@ -1,0 +1,1 @@
+"""The repository's own checks: layout, names, and names in the documents."""

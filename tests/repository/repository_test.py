@@ -1,0 +1,51 @@
+"""Tests of the checks of names and line lengths: what they must find, and what they must not.
+
+Usage: python3 -B -m tests.repository.repository_test
+
+The last line printed is 'N passed, M failed'.
+"""
+
+import sys
+
+from tests.gate import tally
+from tests.repository.line_lengths import too_long_lines
+from tests.repository.names import identifiers, retired_in
+
+RATTLE = 'pub fn reckon_it(x: u8) -> u8 { print(b"carried"); x } // said'
+SPECIFICATION = '-- marks\nleft-unsaid : Lent·Buffer\nleft-unsaid = "shown"'
+PYTHON = '"""Said."""\nshown_by = layout.display  # lent\nlay = "marks"\n'
+# A name, and the retired words in it
+NAMES = (("sameMarks", ["marks"]), ("with_marks_shown", ["marks", "shown"]), ("MENDED", ["mended"]), ("re-reckoned", ["reckoned"]),
+         ("limit_mended.edit", ["mended"]), ("display", []), ("layout", []), ("remarks", []), ("taken", []), ("excellent", []))
+# A file's name, its text, and the numbers of its lines that are too long
+TEXTS = (("a.py", "# " + "word " * 24, [1]), ("a.py", "x = [" + "1, " * 46 + "]", [1]), ("a.py", "x = [" + "1, " * 40 + "]", []),
+         ("a.py", f'def f():\n    """{"word " * 24}"""', [2]), ("a.py", f'def f():\n    return "{"word " * 24}"', []),
+         ("a.rt", "// " + "word " * 24, [1]), ("a.rt", "x" * 150, []), ("a.antt", "f : " + "ℕ → " * 34 + "ℕ", [1]),
+         ("a.antt", "f : " + "ℕ → " * 33 + "ℕ", []), ("a.antt", "-- " + "word " * 24, [1]), ("a.edit", "word " * 40, []),
+         ("demo/show", "# " + "word " * 24, [1]),
+         ("crates/worked/specs/ModelScans.antt", "word " * 40, []), ("a.py", "# http://" + "a" * 140, []),
+         ("a.md", "word " * 25, [1]), ("a.md", "| " + "cell " * 40, []), ("a.md", "    " + "code " * 40, []),
+         ("a.md", "- " + "a" * 140, []),
+         ("a.md", "- item\n    " + "word " * 25, [2]), ("a.md", "```\n" + "code " * 40 + "\n```\n" + "word " * 25, [4]))
+
+
+def results():
+    """Whether each is found as it must be, and what was found."""
+    for name, words in NAMES:
+        yield retired_in(name) == words, f"{name}: {retired_in(name)}"
+    for name, text, expected in (("a.rt", RATTLE, {"reckon_it"}), ("a.antt", SPECIFICATION, {"left-unsaid", "Lent·Buffer"}),
+                                 ("a.py", PYTHON, {"shown_by", "lay"})):
+        found = {each for each in identifiers(name, text) if retired_in(each)}
+        yield found == expected, f"{name}: {found}"
+    for name, text, expected in TEXTS:
+        found = [number for number, _ in too_long_lines(name, text.split("\n"))]
+        yield found == expected, f"{name}, {text[:20]!r}..: lines {found}"
+
+
+def main():
+    found = list(results())
+    return tally.report([text for is_right, text in found if not is_right], len(found), "all is found")
+
+
+if __name__ == "__main__":
+    sys.exit(main())
