@@ -1,7 +1,6 @@
 pub mod Answers
 pub mod ImageLaws
 pub mod Read
-pub mod ReadLaws
 pub mod Restart
 pub mod RestartLaws
 pub mod Save

@@ -1,8 +1,9 @@
 -- Document 01, "Parameters", "Words" and "By whose hand a call is declined": a write, whole. As for a
 -- scan: the next state but for the output, the answer, and an instruction for the output, once for our
 -- controller and for the exact one.
-use mathlib.Core.Bool.{Bool, not}
-use mathlib.Core.List.{List, [], _∷_}
+use mathlib.Core.Bool.{Bool, true, not}
+use mathlib.Core.List.{List, [], _∷_, _++_}
+use mathlib.Core.Option.{Option, some, none}
 use Prim.Native.Nat.{ℕ, _%_}
 use lib.Dec.{eqb}
 use lib.IntN.{ℤ, natAbs}
@@ -13,7 +14,7 @@ use Rattle.modes.specs.Modes.{setsSetpoint}
 use Rattle.modes.specs.declared.Conditions.{Conditions}
 use Rattle.words.specs.Written.{conditionsWritten, powerWritten, userBitsWritten, mdTests}
 use Rattle.words.specs.declared.UserBits.{UserBits}
-use Rattle.parameters.specs.Legal.{isUnknown, isReadOnly, inRange, pairInOrder}
+use Rattle.parameters.specs.Legal.{unknownRefusal, readOnlyRefusal, inRange, pairInOrder}
 use Rattle.parameters.specs.Table.{value, ruleOf}
 use Rattle.parameters.specs.Written.{written}
 use Rattle.parameters.specs.declared.Parameters.{Parameters}
@@ -43,16 +44,22 @@ stateTests c n v =
     if eqb n 20 then setpointTests c else
     if eqb n 24 then mdTests (c .conditions) (wordOf v) else []
 
--- 4 to 7 by the row of the table, then the rest: in the order of their numbers, since "the lowest number wins"
+-- a refusal that the row of the number names: a test that always holds
+abbrev pub named : Option ℕ → List (Bool × ℕ)
+named none = []
+named (some n) = (true, n) ∷ []
+
+-- by the row of the table the refusals that it names, its range and its pair rule, then the rest: in the order of their
+-- numbers, since "the lowest number wins"
 unfoldable pub writeTests : Core → ℕ → ℤ → List (Bool × ℕ)
 writeTests c n v =
     let row = ruleOf n in
     let values = value (c .parameters) in
-    (isUnknown row, 4)
-    ∷ (isReadOnly row, 5)
-    ∷ (not (inRange row values v), 6)
+    named (unknownRefusal row)
+    ++ (named (readOnlyRefusal row)
+    ++ ((not (inRange row values v), 6)
     ∷ (not (pairInOrder row values n v), 7)
-    ∷ stateTests c n v
+    ∷ stateTests c n v))
 
 -- ---- what an accepted write leaves, but for the output
 

@@ -1,40 +1,52 @@
 -- A write returns a valid controller.
 use mathlib.Core.Path.{_≡_, refl, sym, _∙_, subst}
 use mathlib.Core.Bool.{Bool, true, false, not, _&&_, _||_}
-use mathlib.Core.List.{[]}
-use mathlib.Core.Option.{none}
+use mathlib.Core.List.{List, [], _∷_, _++_}
+use mathlib.Core.Option.{Option, some, none}
 use Prim.Native.Nat.{ℕ, _≤_, _<_}
 use native.Mathlib.Omega.{arith}
-use lib.Dec.{eqb}
+use lib.Dec.{eqb, ltb}
 use lib.IntN.{ℤ, pos, natAbs}
-use borrow.Author.Tests.{eqb-true, eqb-false, ne-eqb, not-false}
+use borrow.Author.Tests.{eqb-true, eqb-false, ne-eqb, ltb-true, not-false}
 use Rattle.integers.specs.Choice.{if_then_else_, by-cases, never}
 use Rattle.integers.specs.Operations.{number}
 use Rattle.integers.specs.Parts.{integers, apart}
 use Rattle.signals.specs.Bits.{bit}
 use Rattle.signals.specs.RefusalLaws.{Above, Ascending}
-use Rattle.signals.specs.Refusals.{refusedBy}
+use Rattle.signals.specs.Refusals.{numberOf, refusedBy}
 use Rattle.modes.specs.Modes.{isOpenCause}
 use Rattle.modes.specs.declared.Request.the-variants.{Manual, Auto, Remote}
 use Rattle.words.specs.Written.{conditionsWritten, exactlyOne, mdTests}
-use Rattle.parameters.specs.Legal.{Legal, inRange, pairInOrder}
+use Rattle.parameters.specs.Legal.{Legal, unknownRefusal, readOnlyRefusal, inRange, pairInOrder}
 use Rattle.parameters.specs.LegalLaws.{inside}
-use Rattle.parameters.specs.RuleLaws.{not-from, known, settable}
+use Rattle.parameters.specs.RuleLaws.{not-from, known, settable, namesEarly, names-early}
 use Rattle.parameters.specs.Table.{value, ruleOf, isFrom}
 use Rattle.parameters.specs.Written.{written}
 use Rattle.parameters.specs.WrittenLaws.{elsewhere, written-legal}
+use Rattle.parameters.specs.declared.Rule.{Rule}
+use Rattle.parameters.specs.declared.Rule.the-variants.{Unknown, ReadOnly, Word, Free, Pair, Between}
 use Rattle.outputs.specs.Instruction.{storedArithmetic, changed, limitedTo, executed, Limits, unlimited}
 use Rattle.outputs.specs.OutputLaws.{OutputRange, limited-still-stored}
 use Rattle.outputs.specs.Outputs.{limitsWritten}
 use Rattle.controller.specs.Scan.{modeNow, refused, controllerAfter, responseFrom}
 use Rattle.controller.specs.Valid.{Valid}
 use Rattle.controller.specs.ValidLaws.{Passed, passed, by-verdict}
-use Rattle.controller.specs.Write.{wordOf, setpointTests, stateTests, writeTests, coreWith, mdWritten, dsWritten}
+use Rattle.controller.specs.Write.{wordOf, setpointTests, stateTests, named, writeTests, coreWith, mdWritten, dsWritten}
 use Rattle.controller.specs.Write.{parameterWritten, coreWritten, writeAccepted, writeCore, controllerWritten, write}
 use Rattle.controller.specs.declared.Controller.{Controller}
 use Rattle.controller.specs.declared.Core.{Core}
 
 -- ---- the tests ascend, so the lowest number wins (`lowest-wins`)
+
+-- what a row names comes before tests whose numbers are 6 and above
+named-ascends : (r : Rule) (ts : List (Bool × ℕ)) → namesEarly r ≡ true → ((k : ℕ) → k < 6 → Above k ts) → Ascending ts →
+    Ascending (named (unknownRefusal r) ++ (named (readOnlyRefusal r) ++ ts))
+named-ascends (Unknown refusal) ts e above rest = (above (numberOf refusal) (ltb-true (numberOf refusal) 6 e), rest)
+named-ascends (ReadOnly refusal) ts e above rest = (above (numberOf refusal) (ltb-true (numberOf refusal) 6 e), rest)
+named-ascends (Word least most) ts e above rest = rest
+named-ascends (Free least most) ts e above rest = rest
+named-ascends (Pair least most high low strict) ts e above rest = rest
+named-ascends (Between low high) ts e above rest = rest
 
 pub write-ascends : (c : Core) (n : ℕ) (v : ℤ) → Ascending (writeTests c n v)
 unfolding writeTests stateTests setpointTests mdTests
@@ -47,33 +59,52 @@ write-ascends c n v =
     let rest : Ascending tail =
     by-cases Ascending (eqb n 20) (setpointTests c) _ (λ e. (tt, tt))
     (λ e. by-cases Ascending (eqb n 24) (mdTests (c .conditions) (wordOf v)) []
-    (λ d. ((omega arith, (omega arith, tt)), ((omega arith, tt), (tt, tt)))) (λ d. tt)) in (
-      (omega arith, (omega arith, (omega arith, above 4 (omega arith)))),
-      ((omega arith, (omega arith, above 5 (omega arith))), ((omega arith, above 6 (omega arith)), (above 7 (omega arith), rest))),
-    )
+    (λ d. ((omega arith, (omega arith, tt)), ((omega arith, tt), (tt, tt)))) (λ d. tt)) in
+    named-ascends (ruleOf n) _ (names-early n) (λ k h. (h, (omega arith, above k (omega arith))))
+    ((omega arith, above 6 (omega arith)), (above 7 (omega arith), rest))
 
 -- ---- what an accepted write has passed
 
+pub record AcceptedWrite (c : Core) (n : ℕ) (v : ℤ) : Type 0 where
+  pub is-known : unknownRefusal (ruleOf n) ≡ none
+  pub is-settable : readOnlyRefusal (ruleOf n) ≡ none
+  pub range : inRange (ruleOf n) (value (c .parameters)) v ≡ true
+  pub order : pairInOrder (ruleOf n) (value (c .parameters)) n v ≡ true
+  pub state : Passed (stateTests c n v)
+
+none-named : (refusal : Option ℕ) (ts : List (Bool × ℕ)) → Passed (named refusal ++ ts) → (refusal ≡ none) × Passed ts
+none-named none ts t = (refl, t)
+none-named (some n) ts t = never (sym (t .0))
+
+pub accepted-write : (c : Core) (n : ℕ) (v : ℤ) → refusedBy (writeTests c n v) ≡ none → AcceptedWrite c n v
+unfolding writeTests
+accepted-write c n v accepted =
+    let t = none-named (unknownRefusal (ruleOf n)) _ (passed (writeTests c n v) accepted) in
+    let u = none-named (readOnlyRefusal (ruleOf n)) _ (t .1) in
+    record {
+      is-known = t .0;
+      is-settable = u .0;
+      range = not-false (inRange (ruleOf n) (value (c .parameters)) v) (u .1 .0);
+      order = not-false (pairInOrder (ruleOf n) (value (c .parameters)) n v) (u .1 .1 .0);
+      state = u .1 .1 .1;
+    }
+
 -- an accepted word of MD is the value itself
 pub word-is : (c : Core) (n : ℕ) (v : ℤ) → refusedBy (writeTests c n v) ≡ none → n ≡ 24 → wordOf v ≡ natAbs v
-unfolding writeTests ruleOf
+unfolding ruleOf
 word-is c n v accepted e =
-    let t = passed (writeTests c n v) accepted in
-    let w = subst (λ (m : ℕ). inRange (ruleOf m) (value (c .parameters)) v ≡ true) e
-    (not-false (inRange (ruleOf n) (value (c .parameters)) v) (t .1 .1 .0)) in
+    let w = subst (λ (m : ℕ). inRange (ruleOf m) (value (c .parameters)) v ≡ true) e (accepted-write c n v accepted .range) in
     let k = inside (pos 0) (pos 65535) v w in
     omega (arith, integers, k .not-below, k .not-above, number v, apart v)
 
 module _ (c : Core) (n : ℕ) (v : ℤ) (legal : Legal (c .parameters)) (accepted : refusedBy (writeTests c n v) ≡ none) where
   -- a value in range and in order leaves the parameters legal, whichever of them it is
   pub values-legal : (n ≡ 24 → ⊥) → (n ≡ 25 → ⊥) → Legal (written (c .parameters) n v)
-  unfolding writeTests
   values-legal a b =
-      let t = passed (writeTests c n v) accepted in
-      let k = known n (t .0) in
-      let s = settable n (t .0) (t .1 .0) in
-      written-legal (c .parameters) legal n v (k .0) (omega arith) (not-false (inRange (ruleOf n) (value (c .parameters)) v) (t .1 .1 .0))
-      (not-false (pairInOrder (ruleOf n) (value (c .parameters)) n v) (t .1 .1 .1 .0))
+      let t = accepted-write c n v accepted in
+      let k = known n (t .is-known) in
+      let s = settable n (t .is-known) (t .is-settable) in
+      written-legal (c .parameters) legal n v (k .0) (omega arith) (t .range) (t .order)
 
   pub core-legal : Legal (coreWritten c n v .parameters)
   unfolding coreWritten mdWritten dsWritten parameterWritten coreWith
@@ -84,15 +115,15 @@ module _ (c : Core) (n : ℕ) (v : ℤ) (legal : Legal (c .parameters)) (accepte
 
   -- any other write leaves HO and LO
   pub limits-stay : isFrom n 15 16 ≡ false → (m : ℕ) → 15 ≤ m → m ≤ 16 → value (coreWritten c n v .parameters) m ≡ value (c .parameters) m
-  unfolding coreWritten mdWritten dsWritten parameterWritten coreWith writeTests
+  unfolding coreWritten mdWritten dsWritten parameterWritten coreWith
   limits-stay e m h l =
       by-cases (λ (k : Core). value (k .parameters) m ≡ value (c .parameters) m) (eqb n 24) (mdWritten c (wordOf v)) _ (λ d. refl)
       (λ d. by-cases (λ (k : Core). value (k .parameters) m ≡ value (c .parameters) m) (eqb n 25) (dsWritten c (wordOf v))
       (parameterWritten c n v) (λ f. refl)
       (λ f.
-      let t = passed (writeTests c n v) accepted in
-      let k = known n (t .0) in
-      let s = settable n (t .0) (t .1 .0) in
+      let t = accepted-write c n v accepted in
+      let k = known n (t .is-known) in
+      let s = settable n (t .is-known) (t .is-settable) in
       let a = eqb-false n 24 d in
       let b = eqb-false n 25 f in
       elsewhere (c .parameters) legal n v (k .0) (omega arith) m (λ q. omega arith) (λ q. omega arith) ∙
@@ -142,12 +173,12 @@ manual-word true false false false true opened e d f = never (sym e)
 manual-written : (c : Core) (n : ℕ) (v : ℤ) → refusedBy (writeTests c n v) ≡ none →
     (c .conditions .fault ≡ true → c .conditions .request ≡ Manual) →
     coreWritten c n v .conditions .fault ≡ true → coreWritten c n v .conditions .request ≡ Manual
-unfolding coreWritten mdWritten dsWritten parameterWritten coreWith conditionsWritten writeTests stateTests mdTests
+unfolding coreWritten mdWritten dsWritten parameterWritten coreWith conditionsWritten stateTests mdTests
 manual-written c n v accepted before =
     let w = wordOf v in
     let P : Core → Type 0 = λ k. k .conditions .fault ≡ true → k .conditions .request ≡ Manual in
     by-cases P (eqb n 24) (mdWritten c w) _
-    (λ e. let t = passed (writeTests c n v) accepted .1 .1 .1 .1 in
+    (λ e. let t = accepted-write c n v accepted .state in
     let tests : stateTests c n v ≡ mdTests (c .conditions) w = rw (ne-eqb n 20 (λ q. omega (arith, eqb-true n 24 e)), e) refl in
     let k = subst Passed tests t in
     manual-word (c .conditions .fault) (bit w 13) (bit w 12) (bit w 11) (bit w 8) (isOpenCause (c .conditions .opencount)) (k .0)

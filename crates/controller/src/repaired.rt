@@ -1,6 +1,5 @@
 // The parameters that an image holds: whether they are legal, and what becomes of them under a wrong sumcheck.
 ghost use mathlib.Core.Path.{_≡_};
-ghost use Prim.Native.Nat.{_≤_};
 ghost use Rattle.parameters.specs.Legal.{areLegal};
 ghost use Rattle.parameters.specs.Repaired.{default, rangedValue, byRange, pairedValue, byPairs, repaired};
 use crate::Controller;
@@ -56,13 +55,9 @@ fn by_range(p: Parameters) -> Parameters
 }
 
 fn paired_value(p: Parameters, number: u64) -> i64
-    requires { ⌜ number ≤ 23 ⌝ }
     ensures { λ r. ⌜ r ≡ pairedValue p number ⌝ }
 {
     let v = p.get(number);
-    if number == 0 {
-        return v;
-    }
     let instead = default(number);
     let rule = Controller::rule(number);
     let kept = rule.pair_in_order(p, number, v);

@@ -2,7 +2,22 @@
 ghost use mathlib.Core.Path.{_≡_};
 ghost use Rattle.parameters.specs.Table.{ruleOf};
 use crate::Controller;
+use parameters::H1;
+use parameters::H2;
+use parameters::H3;
+use parameters::HA;
+use parameters::HO;
+use parameters::HR;
+use parameters::HS;
+use parameters::L1;
+use parameters::L2;
+use parameters::L3;
+use parameters::LA;
+use parameters::LO;
+use parameters::LR;
+use parameters::LS;
 use parameters::Rule;
+use signals::Refusal;
 
 impl Controller {
     // The ends of the table's ranges.
@@ -67,26 +82,30 @@ impl Controller {
         0, // IC
     ];
 
-    // What a parameter's number asks of a value: limits, pair rule, or refusal 4 or 5. The contract rules
-    // out a range or an order other than the table's, and a number that is taken for one of another row.
+    // "a parameter number from 1 to 32 chooses the range and the rule": limits, pair rule with the numbers of
+    // the pair, or the refusal. The contract rules out a range, an order or a refusal other than the
+    // table's, and a number that is taken for one of another row.
     pub fn rule(number: u64) -> Rule
         ensures { λ r. ⌜ r ≡ ruleOf number ⌝ }
     {
         match number {
-            1..=6 => Rule::Pair(Self::READING_LEAST, Self::READING_MOST, true),
-            7..=8 => Rule::Pair(Self::RATIO_LEAST, Self::RATIO_MOST, false),
-            9..=12 => Rule::Pair(Self::READING_LEAST, Self::READING_MOST, false),
+            1..=2 => Rule::Pair(Self::READING_LEAST, Self::READING_MOST, H1, L1, true),
+            3..=4 => Rule::Pair(Self::READING_LEAST, Self::READING_MOST, H2, L2, true),
+            5..=6 => Rule::Pair(Self::READING_LEAST, Self::READING_MOST, H3, L3, true),
+            7..=8 => Rule::Pair(Self::RATIO_LEAST, Self::RATIO_MOST, HR, LR, false),
+            9..=10 => Rule::Pair(Self::READING_LEAST, Self::READING_MOST, HS, LS, false),
+            11..=12 => Rule::Pair(Self::READING_LEAST, Self::READING_MOST, HA, LA, false),
             13..=14 => Rule::Free(Self::DEVIATION_LEAST, Self::DEVIATION_MOST),
-            15..=16 => Rule::Pair(Self::OUTPUT_LEAST, Self::OUTPUT_MOST, false),
+            15..=16 => Rule::Pair(Self::OUTPUT_LEAST, Self::OUTPUT_MOST, HO, LO, false),
             17 => Rule::Free(Self::BAND_LEAST, Self::BAND_MOST),
             18..=19 => Rule::Free(Self::TIME_LEAST, Self::TIME_MOST),
-            20 => Rule::Between(parameters::LS, parameters::HS),
-            21 => Rule::Between(parameters::LR, parameters::HR),
+            20 => Rule::Between(LS, HS),
+            21 => Rule::Between(LR, HR),
             22 => Rule::Free(Self::READING_LEAST, Self::READING_MOST),
             23 => Rule::Free(Self::LINEAR, Self::ROOT),
             24..=25 => Rule::Word(Self::WORD_LEAST, Self::WORD_MOST),
-            26..=32 => Rule::ReadOnly,
-            _ => Rule::Unknown,
+            26..=32 => Rule::ReadOnly(Refusal::ReadOnly),
+            _ => Rule::Unknown(Refusal::Number),
         }
     }
 }

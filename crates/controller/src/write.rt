@@ -58,11 +58,13 @@ impl Core {
     {
         let p = self.parameters;
         let rule = Controller::rule(number);
-        if rule.is_unknown() {
-            return Verdict::Refused(Refusal::Number);
+        let unknown = rule.unknown_verdict();
+        if let Verdict::Refused(refusal) = unknown {
+            return Verdict::Refused(refusal);
         }
-        if rule.is_read_only() {
-            return Verdict::Refused(Refusal::ReadOnly);
+        let readonly = rule.read_only_verdict();
+        if let Verdict::Refused(refusal) = readonly {
+            return Verdict::Refused(refusal);
         }
         if !rule.in_range(p, v) {
             return Verdict::Refused(Refusal::Range);

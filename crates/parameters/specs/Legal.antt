@@ -1,12 +1,14 @@
 -- What holds of the parameters of every controller: each keeps its row of the table.
 use mathlib.Core.Path.{_≡_}
-use mathlib.Core.Bool.{Bool, true, false, _&&_}
-use Prim.Native.Nat.{ℕ, _+_, _-_, _%_, _≤_}
+use mathlib.Core.Bool.{Bool, true, _&&_}
+use mathlib.Core.Option.{Option, some, none}
+use Prim.Native.Nat.{ℕ, _≤_}
 use lib.Dec.{eqb}
 use lib.IntN.{ℤ, pos}
 use lib.ListN.{length}
 use lib.Signed.{leZ, ltZ}
 use Rattle.integers.specs.Choice.{if_then_else_}
+use Rattle.signals.specs.Refusals.{numberOf}
 use Rattle.parameters.specs.Range.{every}
 use Rattle.parameters.specs.Table.{value, ruleOf}
 use Rattle.parameters.specs.declared.Parameters.{Parameters}
@@ -21,50 +23,49 @@ isWithin low high v = leZ low v && leZ v high
 abbrev pub inOrder : Bool → ℤ → ℤ → Bool
 inOrder strict low high = if strict then ltZ low high else leZ low high
 
--- ---- a number without a parameter, and one that is read only
+-- ---- the refusals that rows name, by their numbers
 
-abbrev pub isUnknown : Rule → Bool
-isUnknown Unknown = true
-isUnknown ReadOnly = false
-isUnknown (Word least most) = false
-isUnknown (Free least most) = false
-isUnknown (Pair least most strict) = false
-isUnknown (Between low high) = false
+-- "number outside 1..32 (reads too)"
+abbrev pub unknownRefusal : Rule → Option ℕ
+unknownRefusal (Unknown refusal) = some (numberOf refusal)
+unknownRefusal (ReadOnly refusal) = none
+unknownRefusal (Word least most) = none
+unknownRefusal (Free least most) = none
+unknownRefusal (Pair least most high low strict) = none
+unknownRefusal (Between low high) = none
 
-abbrev pub isReadOnly : Rule → Bool
-isReadOnly Unknown = false
-isReadOnly ReadOnly = true
-isReadOnly (Word least most) = false
-isReadOnly (Free least most) = false
-isReadOnly (Pair least most strict) = false
-isReadOnly (Between low high) = false
+-- "read only"
+abbrev pub readOnlyRefusal : Rule → Option ℕ
+readOnlyRefusal (Unknown refusal) = none
+readOnlyRefusal (ReadOnly refusal) = some (numberOf refusal)
+readOnlyRefusal (Word least most) = none
+readOnlyRefusal (Free least most) = none
+readOnlyRefusal (Pair least most high low strict) = none
+readOnlyRefusal (Between low high) = none
 
 -- ---- what the row of a number asks of a value v, among values by their numbers
 
 -- its range
 abbrev pub inRange : Rule → (ℕ → ℤ) → ℤ → Bool
-inRange Unknown values v = true
-inRange ReadOnly values v = true
+inRange (Unknown refusal) values v = true
+inRange (ReadOnly refusal) values v = true
 inRange (Word least most) values v = isWithin least most v
 inRange (Free least most) values v = isWithin least most v
-inRange (Pair least most strict) values v = isWithin least most v
+inRange (Pair least most high low strict) values v = isWithin least most v
 inRange (Between low high) values v = isWithin (values low) (values high) v
 
--- the other one of its pair: the upper one has the odd number and the lower one the next
-abbrev pub partner : ℕ → ℕ
-partner n = if eqb (n % 2) 1 then n + 1 else n - 1
-
--- v and the other one's value w in order
-abbrev pub ordered : Bool → ℕ → ℤ → ℤ → Bool
-ordered strict n v w = if eqb (n % 2) 1 then inOrder strict w v else inOrder strict v w
+-- of a pair: a value for the upper one is tested against the stored value of the lower one, and any other against
+-- that of the upper one
+abbrev pub ordered : (ℕ → ℤ) → ℕ → ℕ → Bool → ℕ → ℤ → Bool
+ordered values high low strict n v = if eqb n high then inOrder strict (values low) v else inOrder strict v (values high)
 
 -- its pair in order, if it has one
 abbrev pub pairInOrder : Rule → (ℕ → ℤ) → ℕ → ℤ → Bool
-pairInOrder Unknown values n v = true
-pairInOrder ReadOnly values n v = true
+pairInOrder (Unknown refusal) values n v = true
+pairInOrder (ReadOnly refusal) values n v = true
 pairInOrder (Word least most) values n v = true
 pairInOrder (Free least most) values n v = true
-pairInOrder (Pair least most strict) values n v = ordered strict n v (values (partner n))
+pairInOrder (Pair least most high low strict) values n v = ordered values high low strict n v
 pairInOrder (Between low high) values n v = true
 
 -- the value with the number n keeps its row

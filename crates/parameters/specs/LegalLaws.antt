@@ -15,8 +15,8 @@ use Rattle.integers.specs.Limit.{limited, limited-low, limited-high}
 use Rattle.integers.specs.Listed.{listed, listed-same}
 use Rattle.integers.specs.Operations.{number}
 use Rattle.integers.specs.Parts.{integers, apart}
-use Rattle.parameters.specs.Legal.{Legal, keeps, inRange, pairInOrder, isWithin, inOrder, partner}
-use Rattle.parameters.specs.PairLaws.{partner-most, row-of, same-row}
+use Rattle.parameters.specs.Legal.{Legal, keeps, inRange, pairInOrder, isWithin, inOrder}
+use Rattle.parameters.specs.PairLaws.{upper, lower, row-of, same-row}
 use Rattle.parameters.specs.RuleLaws.{is-from}
 use Rattle.parameters.specs.Table as t
 use Rattle.parameters.specs.Table.{value, withValue, ruleOf, defaults}
@@ -54,11 +54,11 @@ value-with p k v size h n =
     (λ e. getD-set-other (p .values) k n v (pos 0) (eqb-false n k e))
 
 pub keeps-same : (r : Rule) (f g : ℕ → ℤ) (n : ℕ) → ((m : ℕ) → f m ≡ g m) → keeps r f n ≡ keeps r g n
-keeps-same Unknown f g n e = refl
-keeps-same ReadOnly f g n e = refl
+keeps-same (Unknown refusal) f g n e = refl
+keeps-same (ReadOnly refusal) f g n e = refl
 keeps-same (Word low high) f g n e = rw (e n) refl
 keeps-same (Free low high) f g n e = rw (e n) refl
-keeps-same (Pair low high strict) f g n e = rw (e n, e (partner n)) refl
+keeps-same (Pair least most high low strict) f g n e = rw (e n, e high, e low) refl
 keeps-same (Between low high) f g n e = rw (e n, e low, e high) refl
 
 pub by-place : {A : Type 0} (n k : ℕ) → (n < k → A) → (n ≡ k → A) → (k < n → A) → A
@@ -146,8 +146,11 @@ module _ (p : Parameters) (legal : Legal p) (sl rs : ℤ) where
       legal-by q (length-set (set (p .values) 20 sl) 21 rs ∙ settings-size) (settings-are 0 ∙ legal .unused)
       (λ n a b u v.
       let row = row-of n a b u v in
-      same n ∙ same-row (ruleOf n) (value p) settings n (row .own) (kept n u v)
-      (λ s. let most = partner-most n (row .most s) in kept (partner n) (λ q. omega arith) (λ q. omega arith)) ∙ legal .rules n a b)
+      let high = row .upper-other in
+      let low = row .lower-other in
+      same n ∙ same-row (ruleOf n) (value p) settings n (row .stands) (kept n u v)
+      (kept (upper (ruleOf n) n) (high .not-setpoint) (high .not-ratio)) (kept (lower (ruleOf n) n) (low .not-setpoint) (low .not-ratio))
+      ∙ legal .rules n a b)
       (same 20 ∙ and-true e) (same 21 ∙ and-true d)
 
 -- ---- what the rules come to, in orders of integers
@@ -227,11 +230,11 @@ ranges p legal =
 -- ---- every value lies in -9999..9999
 
 abbrev bounded : Rule → Bool
-bounded Unknown = false
-bounded ReadOnly = false
+bounded (Unknown refusal) = false
+bounded (ReadOnly refusal) = false
 bounded (Word least most) = false
 bounded (Free least most) = isWithin (negℤ (pos 9999)) most least && leZ most (pos 9999)
-bounded (Pair least most strict) = isWithin (negℤ (pos 9999)) most least && leZ most (pos 9999)
+bounded (Pair least most high low strict) = isWithin (negℤ (pos 9999)) most least && leZ most (pos 9999)
 bounded (Between low high) = false
 
 between-most : (least most v : ℤ) → isWithin (negℤ (pos 9999)) most least && leZ most (pos 9999) ≡ true → isWithin least most v ≡ true →
@@ -243,11 +246,11 @@ between-most least most v b e =
     omega (arith, integers, h .1, k .not-below, i .not-below, i .not-above, number v, apart v)
 
 bounded-most : (r : Rule) (f : ℕ → ℤ) (v : ℤ) → bounded r ≡ true → inRange r f v ≡ true → natAbs v ≤ 9999
-bounded-most Unknown f v b e = never b
-bounded-most ReadOnly f v b e = never b
+bounded-most (Unknown refusal) f v b e = never b
+bounded-most (ReadOnly refusal) f v b e = never b
 bounded-most (Word least most) f v b e = never b
 bounded-most (Free least most) f v b e = between-most least most v b e
-bounded-most (Pair least most strict) f v b e = between-most least most v b e
+bounded-most (Pair least most high low strict) f v b e = between-most least most v b e
 bounded-most (Between low high) f v b e = never b
 
 pub value-most : (p : Parameters) → Legal p → (n : ℕ) → 1 ≤ n → n ≤ 23 → natAbs (value p n) ≤ 9999

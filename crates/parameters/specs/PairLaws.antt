@@ -1,103 +1,134 @@
--- The rows of the table but those of SL and RS: which stand in pairs, and what a row's answer depends on.
-use mathlib.Core.Path.{_≡_, refl, sym, _∙_}
-use mathlib.Core.Bool.{Bool, true, false}
-use Prim.Native.Nat.{ℕ, _+_, _-_, _%_, _≤_, _<_}
+-- The rows of the table but those of SL and RS: the two that the row of a pair names, and what a row's answer
+-- depends on.
+use mathlib.Core.Path.{_≡_, refl, sym, ap, _∙_}
+use mathlib.Core.Bool.{Bool, true, false, not, _&&_, _||_}
+use Prim.Native.Nat.{ℕ, _+_, _≤_, _<_}
 use native.Mathlib.Omega.{arith}
 use lib.Dec.{eqb, leb}
 use lib.IntN.{ℤ}
-use borrow.Author.Tests.{eqb-true, eqb-false, eq-eqb, ne-eqb, leb-true, leb-false}
-use Rattle.integers.specs.Choice.{if_then_else_, never}
+use borrow.Author.Tests.{eqb-true, eqb-false, leb-true, leb-false, not-true}
+use Rattle.integers.specs.Choice.{if_then_else_, never, both}
 use Rattle.integers.specs.Listed.{listed, listed-same}
-use Rattle.parameters.specs.Legal.{keeps, inOrder, partner, ordered}
+use Rattle.parameters.specs.Legal.{keeps, inOrder, pairInOrder}
 use Rattle.parameters.specs.Table.{ruleOf}
 use Rattle.parameters.specs.declared.Rule.{Rule}
 use Rattle.parameters.specs.declared.Rule.the-variants.{Unknown, ReadOnly, Word, Free, Pair, Between}
 
--- ---- pairs
+-- ---- pairs, as rows name them
 
--- odd or even
-by-parity : (P : ℕ → Bool → Type 0) (n : ℕ) → (n % 2 ≡ 1 → P (n + 1) true) → (n % 2 ≡ 0 → P (n - 1) false) → P (partner n) (eqb (n % 2) 1)
-by-parity P n f g = go (eqb (n % 2) 1) refl
-  where
-    go : (b : Bool) → eqb (n % 2) 1 ≡ b → P (if b then n + 1 else n - 1) b
-    go true e = f (eqb-true (n % 2) 1 e)
-    go false e = let h = eqb-false (n % 2) 1 e in g (omega arith)
+-- the upper one of a number's pair, and the number itself where it has none
+abbrev pub upper : Rule → ℕ → ℕ
+upper (Unknown refusal) n = n
+upper (ReadOnly refusal) n = n
+upper (Word least most) n = n
+upper (Free least most) n = n
+upper (Pair least most high low strict) n = high
+upper (Between low high) n = n
 
-pub partner-differs : (n : ℕ) → 1 ≤ n → partner n ≡ n → ⊥
-partner-differs n h = by-parity (λ m b. m ≡ n → ⊥) n (λ o q. omega arith) (λ o q. omega arith)
+-- and the lower one
+abbrev pub lower : Rule → ℕ → ℕ
+lower (Unknown refusal) n = n
+lower (ReadOnly refusal) n = n
+lower (Word least most) n = n
+lower (Free least most) n = n
+lower (Pair least most high low strict) n = low
+lower (Between low high) n = n
 
-pub partner-most : (n : ℕ) → n ≤ 16 → partner n ≤ 16
-partner-most n h = by-parity (λ m b. m ≤ 16) n (λ o. omega arith) (λ o. omega arith)
+-- a number that can stand in such a row: in a pair it is one of the two, and these differ; no range lies between
+-- two others
+abbrev pub standsIn : Rule → ℕ → Bool
+standsIn (Unknown refusal) n = true
+standsIn (ReadOnly refusal) n = true
+standsIn (Word least most) n = true
+standsIn (Free least most) n = true
+standsIn (Pair least most high low strict) n = (eqb n high || eqb n low) && not (eqb low high)
+standsIn (Between low high) n = false
 
--- seen from the other one of the pair
-pub partner-twice : (n : ℕ) → 1 ≤ n → partner (partner n) ≡ n
-partner-twice n h =
-    by-parity (λ m b. partner m ≡ n) n
-    (λ o. by-parity (λ m b. m ≡ n) (n + 1) (λ q. omega arith) (λ q. omega arith))
-    (λ o. by-parity (λ m b. m ≡ n) (n - 1) (λ q. omega arith) (λ q. omega arith))
+-- the number of a parameter 1 to 23, neither SL nor RS
+abbrev pub isOther : ℕ → Bool
+isOther n = leb n 23 && not (eqb n 20) && not (eqb n 21)
 
-pub turned : (strict : Bool) (n : ℕ) (v w : ℤ) → 1 ≤ n → ordered strict (partner n) v w ≡ ordered strict n w v
-turned strict n v w h =
-    by-parity (λ m b. ordered strict m v w ≡ (if b then inOrder strict v w else inOrder strict w v)) n
-    (λ o. rw (ne-eqb ((n + 1) % 2) 1 (λ q. omega arith)) refl)
-    (λ o. rw (eq-eqb ((n - 1) % 2) 1 (omega arith)) refl)
+pub record Other (n : ℕ) : Type 0 where
+  pub most : n ≤ 23
+  pub not-setpoint : n ≡ 20 → ⊥
+  pub not-ratio : n ≡ 21 → ⊥
 
-abbrev pub isPair : Rule → Bool
-isPair Unknown = false
-isPair ReadOnly = false
-isPair (Word least most) = false
-isPair (Free least most) = false
-isPair (Pair least most strict) = true
-isPair (Between low high) = false
+other-of : (n : ℕ) → isOther n ≡ true → Other n
+other-of n e =
+    let h = both (leb n 23 && not (eqb n 20)) (not (eqb n 21)) e in
+    let k = both (leb n 23) (not (eqb n 20)) (h .0) in
+    record {
+      most = leb-true n 23 (k .0);
+      not-setpoint = eqb-false n 20 (not-true (eqb n 20) (k .1));
+      not-ratio = eqb-false n 21 (not-true (eqb n 21) (h .1));
+    }
 
-abbrev pub isBetween : Rule → Bool
-isBetween Unknown = false
-isBetween ReadOnly = false
-isBetween (Word least most) = false
-isBetween (Free least most) = false
-isBetween (Pair least most strict) = false
-isBetween (Between low high) = true
-
--- a row of the table but those of SL and RS: no range between two others, and both of a pair stand in one row
+-- both of a pair stand in one row
 pub record Row (n : ℕ) : Type 0 where
-  pub own : isBetween (ruleOf n) ≡ false
-  pub most : isPair (ruleOf n) ≡ true → n ≤ 16
-  pub paired : isPair (ruleOf n) ≡ true → ruleOf (partner n) ≡ ruleOf n
+  pub stands : standsIn (ruleOf n) n ≡ true
+  pub upper-stands : standsIn (ruleOf n) (upper (ruleOf n) n) ≡ true
+  pub lower-stands : standsIn (ruleOf n) (lower (ruleOf n) n) ≡ true
+  pub upper-row : ruleOf (upper (ruleOf n) n) ≡ ruleOf n
+  pub lower-row : ruleOf (lower (ruleOf n) n) ≡ ruleOf n
+  pub upper-other : Other (upper (ruleOf n) n)
+  pub lower-other : Other (lower (ruleOf n) n)
+
+-- of a number and a rule: whether it can stand in such a row, whether it is neither SL nor RS, and its own rule
+abbrev Found : Type 0
+Found = Bool × Bool × Rule
+
+abbrev found : Rule → ℕ → Found
+found r n = (standsIn r n, isOther n, ruleOf n)
+
+-- of a number and of both of its pair
+abbrev foundOf : ℕ → Found × Found × Found
+foundOf n = let r = ruleOf n in (found r n, found r (upper r n), found r (lower r n))
+
+abbrev wanted : ℕ → Found × Found × Found
+wanted n = let w : Found = (true, true, ruleOf n) in (w, w, w)
 
 pub row-of : (n : ℕ) → 1 ≤ n → n ≤ 23 → (n ≡ 20 → ⊥) → (n ≡ 21 → ⊥) → Row n
 unfolding ruleOf listed
-row-of n a b c d = go (leb n 16) refl (leb n 19) refl
+row-of n a b c d = go (leb n 19) refl
   where
-    -- the rows without a pair
-    alone : (first many : ℕ) → listed (λ (m : ℕ). isBetween (ruleOf m)) first many ≡ listed (λ (m : ℕ). false) first many →
-        listed (λ (m : ℕ). isPair (ruleOf m)) first many ≡ listed (λ (m : ℕ). false) first many →
-        first ≤ n → n < first + many → Row n
-    alone first many e f h l =
-        let no = listed-same (λ (m : ℕ). isPair (ruleOf m)) (λ (m : ℕ). false) first many n f h l in
+    within : (first many : ℕ) → listed foundOf first many ≡ listed wanted first many → first ≤ n → n < first + many → Row n
+    within first many e h l =
+        let same = listed-same foundOf wanted first many n e h l in
         record {
-          own = listed-same (λ (m : ℕ). isBetween (ruleOf m)) (λ (m : ℕ). false) first many n e h l;
-          most = λ s. never (sym no ∙ s);
-          paired = λ s. never (sym no ∙ s);
+          stands = ap (λ x. x .0 .0) same;
+          upper-stands = ap (λ x. x .1 .0) same;
+          lower-stands = ap (λ x. x .2 .0) same;
+          upper-row = ap (λ x. x .1 .2) same;
+          lower-row = ap (λ x. x .2 .2) same;
+          upper-other = other-of (upper (ruleOf n) n) (ap (λ x. x .1 .1) same);
+          lower-other = other-of (lower (ruleOf n) n) (ap (λ x. x .2 .1) same);
         }
 
-    go : (s : Bool) → leb n 16 ≡ s → (t : Bool) → leb n 19 ≡ t → Row n
-    go true e t f =
-        let h : n ≤ 16 = leb-true n 16 e in
-        record {
-          own = listed-same (λ (m : ℕ). isBetween (ruleOf m)) (λ (m : ℕ). false) 1 16 n refl a (omega arith);
-          most = λ s. h;
-          paired = λ s. listed-same (λ (m : ℕ). ruleOf (partner m)) ruleOf 1 16 n refl a (omega arith);
-        }
-    go false e true f = alone 17 3 refl refl (omega (arith, leb-false n 16 e)) (omega (arith, leb-true n 19 f))
-    go false e false f = alone 22 2 refl refl (omega (arith, leb-false n 19 f)) (omega arith)
+    go : (t : Bool) → leb n 19 ≡ t → Row n
+    go true e = within 1 19 refl a (omega (arith, leb-true n 19 e))
+    go false e = within 22 2 refl (omega (arith, leb-false n 19 e)) (omega arith)
 
--- ---- what a row says depends on its own value and, in a pair, on the other one's
+-- ---- what a row says depends on its own value and, in a pair, on both values
 
-pub same-row : (r : Rule) (f g : ℕ → ℤ) (n : ℕ) → isBetween r ≡ false → g n ≡ f n → (isPair r ≡ true → g (partner n) ≡ f (partner n)) →
-    keeps r g n ≡ keeps r f n
-same-row Unknown f g n b e p = refl
-same-row ReadOnly f g n b e p = refl
-same-row (Word least most) f g n b e p = rw e refl
-same-row (Free least most) f g n b e p = rw e refl
-same-row (Pair least most strict) f g n b e p = rw (e, p refl) refl
-same-row (Between low high) f g n b e p = never (sym b)
+pub same-row : (r : Rule) (f g : ℕ → ℤ) (n : ℕ) → standsIn r n ≡ true → g n ≡ f n → g (upper r n) ≡ f (upper r n) →
+    g (lower r n) ≡ f (lower r n) → keeps r g n ≡ keeps r f n
+same-row (Unknown refusal) f g n s e h l = refl
+same-row (ReadOnly refusal) f g n s e h l = refl
+same-row (Word least most) f g n s e h l = rw e refl
+same-row (Free least most) f g n s e h l = rw e refl
+same-row (Pair least most high low strict) f g n s e h l = rw (e, h, l) refl
+same-row (Between low high) f g n s e h l = never s
+
+-- the two of a pair are tested with the same outcome
+module _ (least most : ℤ) (high low : ℕ) (strict : Bool) where
+  pub differ : (n : ℕ) → standsIn (Pair least most high low strict) n ≡ true → low ≡ high → ⊥
+  differ n s = eqb-false low high (not-true (eqb low high) (both (eqb n high || eqb n low) (not (eqb low high)) s .1))
+
+  pub tested-alike : (f : ℕ → ℤ) (n : ℕ) → standsIn (Pair least most high low strict) n ≡ true →
+      pairInOrder (Pair least most high low strict) f n (f n) ≡ inOrder strict (f low) (f high)
+  tested-alike f n s = go (eqb n high) refl (both (eqb n high || eqb n low) (not (eqb low high)) s .0)
+    where
+      go : (t : Bool) → eqb n high ≡ t → t || eqb n low ≡ true →
+          (if t then inOrder strict (f low) (f n) else inOrder strict (f n) (f high)) ≡ inOrder strict (f low) (f high)
+      go true e one = rw (eqb-true n high e) refl
+      go false e one = rw (eqb-true n low one) refl

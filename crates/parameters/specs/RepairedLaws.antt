@@ -9,9 +9,9 @@ use lib.ListN.{length, length-set}
 use borrow.Author.Tests.{ne-eqb}
 use Rattle.integers.specs.Choice.{if_then_else_, by-cases, never, both}
 use Rattle.integers.specs.Listed.{listed, listed-length, listed-at}
-use Rattle.parameters.specs.Legal.{isWithin, inRange, partner, ordered, pairInOrder, keeps, areLegal, Legal}
+use Rattle.parameters.specs.Legal.{isWithin, inOrder, inRange, pairInOrder, keeps, areLegal, Legal}
 use Rattle.parameters.specs.LegalLaws.{defaults-legal, value-with, and-true, legal-by, anew-size, anew-other, anew-value, limited-row}
-use Rattle.parameters.specs.PairLaws.{partner-most, partner-twice, turned, isPair, isBetween, row-of, same-row}
+use Rattle.parameters.specs.PairLaws.{upper, lower, standsIn, row-of, same-row, tested-alike}
 use Rattle.parameters.specs.Range.{tested-in, every-of}
 use Rattle.parameters.specs.Repaired.{default, widestOutput, rangedValue, byRange}
 use Rattle.parameters.specs.Repaired.{pairedValue, byPairs, setpointAndRatioLimited, repaired}
@@ -53,35 +53,39 @@ module _ (w d g h : ℕ → ℤ) where
   alone least most n kept ranged e =
       rw (e, ranged) (and-true (within least most (d n) (w n) (both (isWithin least most (d n)) true kept .0)))
 
-  of-pair : (least most : ℤ) (strict : Bool) (n : ℕ) → 1 ≤ n → let r = Pair least most strict in
-      keeps r d n ≡ true → Ranged r n → Ordered r n → Ordered r (partner n) → keeps r h n ≡ true
-  of-pair least most strict n a kept ranged own other = go (ordered strict n (g n) (g (partner n))) refl
+  of-pair : (least most : ℤ) (high low : ℕ) (strict : Bool) (n : ℕ) → let r = Pair least most high low strict in
+      standsIn r n ≡ true → standsIn r high ≡ true → standsIn r low ≡ true → keeps r d n ≡ true → Ranged r n → Ordered r n →
+      Ordered r high → Ordered r low → keeps r h n ≡ true
+  of-pair least most high low strict n s sh sl kept ranged own above below = go (inOrder strict (g low) (g high)) refl
     where
-      -- the other one of the pair is tested with the same outcome
-      turn : ordered strict (partner n) (g (partner n)) (g (partner (partner n))) ≡ ordered strict n (g n) (g (partner n))
-      turn = rw (partner-twice n a) (turned strict n (g (partner n)) (g n) a)
-
       in-range : isWithin least most (g n) ≡ true
       in-range = rw ranged (within least most (d n) (w n) (both (isWithin least most (d n)) _ kept .0))
 
-      go : (t : Bool) → ordered strict n (g n) (g (partner n)) ≡ t → keeps (Pair least most strict) h n ≡ true
-      go true e =
-          let one : h n ≡ g n = own ∙ rw e refl in
-          let two : h (partner n) ≡ g (partner n) = other ∙ rw (turn, e) refl in
-          rw (one, two, in-range) e
-      go false e =
-          let one : h n ≡ d n = own ∙ rw e refl in
-          let two : h (partner n) ≡ d (partner n) = other ∙ rw (turn, e) refl in
-          rw (one, two) kept
+      alike : (m : ℕ) → standsIn (Pair least most high low strict) m ≡ true →
+          pairInOrder (Pair least most high low strict) g m (g m) ≡ inOrder strict (g low) (g high)
+      alike m = tested-alike least most high low strict g m
 
-  row-repaired : (r : Rule) (n : ℕ) → 1 ≤ n → isBetween r ≡ false → keeps r d n ≡ true → Ranged r n → Ordered r n →
-      (isPair r ≡ true → Ordered r (partner n)) → keeps r h n ≡ true
-  row-repaired Unknown n a b kept ranged own other = refl
-  row-repaired ReadOnly n a b kept ranged own other = refl
-  row-repaired (Word least most) n a b kept ranged own other = alone least most n kept ranged own
-  row-repaired (Free least most) n a b kept ranged own other = alone least most n kept ranged own
-  row-repaired (Pair least most strict) n a b kept ranged own other = of-pair least most strict n a kept ranged own (other refl)
-  row-repaired (Between low high) n a b kept ranged own other = never (sym b)
+      go : (t : Bool) → inOrder strict (g low) (g high) ≡ t → keeps (Pair least most high low strict) h n ≡ true
+      go true e =
+          let one : h n ≡ g n = own ∙ rw (alike n s, e) refl in
+          let two : h high ≡ g high = above ∙ rw (alike high sh, e) refl in
+          let three : h low ≡ g low = below ∙ rw (alike low sl, e) refl in
+          rw (one, two, three, in-range) (alike n s ∙ e)
+      go false e =
+          let one : h n ≡ d n = own ∙ rw (alike n s, e) refl in
+          let two : h high ≡ d high = above ∙ rw (alike high sh, e) refl in
+          let three : h low ≡ d low = below ∙ rw (alike low sl, e) refl in
+          rw (one, two, three) kept
+
+  row-repaired : (r : Rule) (n : ℕ) → standsIn r n ≡ true → standsIn r (upper r n) ≡ true → standsIn r (lower r n) ≡ true →
+      keeps r d n ≡ true → Ranged r n → Ordered r n → Ordered r (upper r n) → Ordered r (lower r n) → keeps r h n ≡ true
+  row-repaired (Unknown refusal) n s sh sl kept ranged own above below = refl
+  row-repaired (ReadOnly refusal) n s sh sl kept ranged own above below = refl
+  row-repaired (Word least most) n s sh sl kept ranged own above below = alone least most n kept ranged own
+  row-repaired (Free least most) n s sh sl kept ranged own above below = alone least most n kept ranged own
+  row-repaired (Pair least most high low strict) n s sh sl kept ranged own above below =
+      of-pair least most high low strict n s sh sl kept ranged own above below
+  row-repaired (Between low high) n s sh sl kept ranged own above below = never s
 
 -- ---- all rows
 
@@ -140,13 +144,17 @@ module _ (p : Parameters) where
   kept : (n : ℕ) → 1 ≤ n → n ≤ 23 → (n ≡ 20 → ⊥) → (n ≡ 21 → ⊥) → keeps (ruleOf n) f n ≡ true
   kept n a b u v =
       let row = row-of n a b u v in
-      let low : isPair (ruleOf n) ≡ true → partner n ≤ 16 = λ s. partner-most n (row .most s) in
-      same-row (ruleOf n) (value h) f n (row .own) (elsewhere n u v)
-      (λ s. let l = low s in elsewhere (partner n) (λ q. omega arith) (λ q. omega arith))
-      ∙ row-repaired (value w) default (value g) (value h) (ruleOf n) n a (row .own) (defaults-legal .rules n a b)
-      (ranged n b u v) (paired n b)
-      (λ s. let l = low s in
-      subst (λ (r : Rule). Ordered (value w) default (value g) (value h) r (partner n)) (row .paired s) (paired (partner n) (omega arith)))
+      let high = row .upper-other in
+      let low = row .lower-other in
+      same-row (ruleOf n) (value h) f n (row .stands) (elsewhere n u v)
+      (elsewhere (upper (ruleOf n) n) (high .not-setpoint) (high .not-ratio))
+      (elsewhere (lower (ruleOf n) n) (low .not-setpoint) (low .not-ratio))
+      ∙ row-repaired (value w) default (value g) (value h) (ruleOf n) n (row .stands) (row .upper-stands) (row .lower-stands)
+      (defaults-legal .rules n a b) (ranged n b u v) (paired n b)
+      (subst (λ (r : Rule). Ordered (value w) default (value g) (value h) r (upper (ruleOf n) n)) (row .upper-row)
+      (paired (upper (ruleOf n) n) (high .most)))
+      (subst (λ (r : Rule). Ordered (value w) default (value g) (value h) r (lower (ruleOf n) n)) (row .lower-row)
+      (paired (lower (ruleOf n) n) (low .most)))
 
   unused-is : f 0 ≡ value w 0
   unfolding ruleOf

@@ -3,25 +3,32 @@ use mathlib.Core.Path.{_≡_, refl, sym, ap, _∙_, subst}
 use mathlib.Core.Bool.{Bool, true, false}
 use Prim.Native.Nat.{ℕ, _+_, _≤_, _<_}
 use native.Mathlib.Omega.{arith}
+use mathlib.Core.Option.{Option, some, none}
 use lib.Dec.{eqb, leb, ltb}
 use borrow.Author.Tests.{le-leb, lt-leb, leb-true, eqb-true, eqb-false, ltb-true, ltb-false}
 use Rattle.integers.specs.Choice.{never}
 use Rattle.integers.specs.Listed.{listed, listed-same}
-use Rattle.parameters.specs.Legal.{isUnknown, isReadOnly}
+use Rattle.signals.specs.Refusals.{numberOf}
+use Rattle.signals.specs.declared.Refusal.the-variants as refusal
+use Rattle.parameters.specs.Legal.{unknownRefusal, readOnlyRefusal}
 use Rattle.parameters.specs.Table.{ruleOf, isFrom}
-use Rattle.parameters.specs.declared.Rule.the-variants.{Unknown}
+use Rattle.parameters.specs.declared.Rule.{Rule}
+use Rattle.parameters.specs.declared.Rule.the-variants.{Unknown, ReadOnly, Word, Free, Pair, Between}
 
 -- the rules of so many numbers, computed and compared with the first one's by one `refl`
 pub row : (first many n : ℕ) → listed (λ (m : ℕ). ruleOf first) first many ≡ listed ruleOf first many →
     first ≤ n → n < first + many → ruleOf first ≡ ruleOf n
 row first many n e h l = listed-same (λ (m : ℕ). ruleOf first) ruleOf first many n e h l
 
-pub row-beyond : (n : ℕ) → 33 ≤ n → Unknown ≡ ruleOf n
+pub row-beyond : (n : ℕ) → 33 ≤ n → Unknown refusal.Number ≡ ruleOf n
 unfolding ruleOf
 row-beyond n h =
     simp (
+      lt-leb n 2 (omega arith),
+      lt-leb n 4 (omega arith),
       lt-leb n 6 (omega arith),
       lt-leb n 8 (omega arith),
+      lt-leb n 10 (omega arith),
       lt-leb n 12 (omega arith),
       lt-leb n 14 (omega arith),
       lt-leb n 16 (omega arith),
@@ -34,8 +41,11 @@ row-beyond n h =
       lt-leb n 25 (omega arith),
       lt-leb n 32 (omega arith),
       le-leb 1 n (omega arith),
+      le-leb 3 n (omega arith),
+      le-leb 5 n (omega arith),
       le-leb 7 n (omega arith),
       le-leb 9 n (omega arith),
+      le-leb 11 n (omega arith),
       le-leb 13 n (omega arith),
       le-leb 15 n (omega arith),
       le-leb 17 n (omega arith),
@@ -66,20 +76,24 @@ not-from n a b e m h l q =
 
 -- ---- which numbers have a parameter, and which of those can be written
 
-pub known : (n : ℕ) → isUnknown (ruleOf n) ≡ false → (1 ≤ n) × (n ≤ 32)
+-- a refusal isn't none
+not-none : {A : Type 0} (k : ℕ) → some k ≡ none → A
+not-none k e = let z : _≡_ {A = ℕ} 0 1 = cc in absurd (omega arith)
+
+pub known : (n : ℕ) → unknownRefusal (ruleOf n) ≡ none → (1 ≤ n) × (n ≤ 32)
 unfolding ruleOf
 known n e = (go (eqb n 0) refl, here (ltb n 33) refl)
   where
     go : (t : Bool) → eqb n 0 ≡ t → 1 ≤ n
-    go true q = never (sym (subst (λ (m : ℕ). isUnknown (ruleOf m) ≡ false) (eqb-true n 0 q) e))
+    go true q = not-none 4 (subst (λ (m : ℕ). unknownRefusal (ruleOf m) ≡ none) (eqb-true n 0 q) e)
     go false q = let h = eqb-false n 0 q in omega arith
 
     here : (t : Bool) → ltb n 33 ≡ t → n ≤ 32
     here true q = let h = ltb-true n 33 q in omega arith
-    here false q = never (sym (ap isUnknown (row-beyond n (ltb-false n 33 q)) ∙ e))
+    here false q = not-none 4 (ap unknownRefusal (row-beyond n (ltb-false n 33 q)) ∙ e)
 
 -- parameters 1 to 23, MD and DS
-pub settable : (n : ℕ) → isUnknown (ruleOf n) ≡ false → isReadOnly (ruleOf n) ≡ false → n ≤ 25
+pub settable : (n : ℕ) → unknownRefusal (ruleOf n) ≡ none → readOnlyRefusal (ruleOf n) ≡ none → n ≤ 25
 unfolding ruleOf listed
 settable n e d = go (ltb n 26) refl
   where
@@ -88,4 +102,22 @@ settable n e d = go (ltb n 26) refl
     go false q =
         let h = ltb-false n 26 q in
         let k = known n e in
-        never (sym (ap isReadOnly (row 26 7 n refl h (omega arith)) ∙ d))
+        not-none 5 (ap readOnlyRefusal (row 26 7 n refl h (omega arith)) ∙ d)
+
+-- ---- the refusals that rows name come before 6, out of range
+
+abbrev pub namesEarly : Rule → Bool
+namesEarly (Unknown refusal) = ltb (numberOf refusal) 6
+namesEarly (ReadOnly refusal) = ltb (numberOf refusal) 6
+namesEarly (Word least most) = true
+namesEarly (Free least most) = true
+namesEarly (Pair least most high low strict) = true
+namesEarly (Between low high) = true
+
+pub names-early : (n : ℕ) → namesEarly (ruleOf n) ≡ true
+unfolding ruleOf listed
+names-early n = go (ltb n 33) refl
+  where
+    go : (t : Bool) → ltb n 33 ≡ t → namesEarly (ruleOf n) ≡ true
+    go true q = listed-same (λ (m : ℕ). namesEarly (ruleOf m)) (λ (m : ℕ). true) 0 33 n refl (omega arith) (omega (arith, ltb-true n 33 q))
+    go false q = ap namesEarly (sym (row-beyond n (ltb-false n 33 q)))

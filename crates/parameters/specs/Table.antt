@@ -6,6 +6,7 @@ use lib.Dec.{leb}
 use lib.IntN.{ℤ, pos, negℤ}
 use lib.ListN.{getD, set}
 use Rattle.integers.specs.Choice.{if_then_else_}
+use Rattle.signals.specs.declared.Refusal.the-variants as refusal
 use Rattle.parameters.specs.declared.Parameters.{Parameters}
 use Rattle.parameters.specs.declared.Rule.{Rule}
 use Rattle.parameters.specs.declared.Rule.the-variants.{Unknown, ReadOnly, Word, Free, Pair, Between}
@@ -93,14 +94,18 @@ IC p = value p 23
 abbrev pub isFrom : ℕ → ℕ → ℕ → Bool
 isFrom n first last = leb first n && leb n last
 
--- "a parameter number from 1 to 32 chooses the range and the rule"
+-- "a parameter number from 1 to 32 chooses the range and the rule": the limits, the pair rule with the numbers of the
+-- upper one and of the lower one, and "4 number outside 1..32 (reads too); 5 read only"
 unfoldable pub ruleOf : ℕ → Rule
 ruleOf n =
-    if isFrom n 1 6 then Pair (negℤ (pos 9999)) (pos 9999) true else  -- 1H to 3L: -9999..9999, L < H
-    if isFrom n 7 8 then Pair (pos 1) (pos 9999) false else  -- HR, LR: 1..9999, LR ≤ HR
-    if isFrom n 9 12 then Pair (negℤ (pos 9999)) (pos 9999) false else  -- HS, LS; HA, LA: -9999..9999, L ≤ H
+    if isFrom n 1 2 then Pair (negℤ (pos 9999)) (pos 9999) 1 2 true else  -- 1H, 1L: -9999..9999, L < H
+    if isFrom n 3 4 then Pair (negℤ (pos 9999)) (pos 9999) 3 4 true else  -- 2H, 2L: -9999..9999, L < H
+    if isFrom n 5 6 then Pair (negℤ (pos 9999)) (pos 9999) 5 6 true else  -- 3H, 3L: -9999..9999, L < H
+    if isFrom n 7 8 then Pair (pos 1) (pos 9999) 7 8 false else  -- HR, LR: 1..9999, LR ≤ HR
+    if isFrom n 9 10 then Pair (negℤ (pos 9999)) (pos 9999) 9 10 false else  -- HS, LS: -9999..9999, L ≤ H
+    if isFrom n 11 12 then Pair (negℤ (pos 9999)) (pos 9999) 11 12 false else  -- HA, LA: -9999..9999, L ≤ H
     if isFrom n 13 14 then Free (pos 0) (pos 9999) else  -- HD, LD: 0..9999
-    if isFrom n 15 16 then Pair (pos 0) (pos 9999) false else  -- HO, LO: 0..9999, LO ≤ HO
+    if isFrom n 15 16 then Pair (pos 0) (pos 9999) 15 16 false else  -- HO, LO: 0..9999, LO ≤ HO
     if isFrom n 17 17 then Free (pos 1) (pos 9999) else  -- XP: 1..9999
     if isFrom n 18 19 then Free (pos 0) (pos 9999) else  -- TI, TD: 0..9999
     if isFrom n 20 20 then Between 10 9 else  -- SL: LS..HS
@@ -108,8 +113,8 @@ ruleOf n =
     if isFrom n 22 22 then Free (negℤ (pos 9999)) (pos 9999) else  -- RB: -9999..9999
     if isFrom n 23 23 then Free (pos 0) (pos 1) else  -- IC: 0..1
     if isFrom n 24 25 then Word (pos 0) (pos 65535) else  -- MD, DS: 0..65535
-    if isFrom n 26 32 then ReadOnly else  -- SW, II, OP, SP, PV, ER, MP
-    Unknown
+    if isFrom n 26 32 then ReadOnly refusal.ReadOnly else  -- SW, II, OP, SP, PV, ER, MP: read only
+    Unknown refusal.Number
 
 -- ---- the column "Defaults", after the unused entry 0
 

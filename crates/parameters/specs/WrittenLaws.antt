@@ -10,9 +10,9 @@ use lib.Signed.{leZ}
 use borrow.Author.Tests.{eqb-true, eqb-false, eq-eqb, ne-eqb}
 use Rattle.integers.specs.Choice.{if_then_else_, by-cases, never, both}
 use Rattle.integers.specs.Limit.{limited}
-use Rattle.parameters.specs.Legal.{Legal, keeps, inRange, pairInOrder, isWithin, partner, ordered}
+use Rattle.parameters.specs.Legal.{Legal, keeps, inOrder, inRange, pairInOrder, isWithin}
 use Rattle.parameters.specs.LegalLaws.{changed, value-with, and-true, legal-by, anew-size, anew-other, anew-value, limited-row}
-use Rattle.parameters.specs.PairLaws.{partner-differs, partner-most, partner-twice, turned, isPair, isBetween, Row, row-of, same-row}
+use Rattle.parameters.specs.PairLaws.{upper, lower, standsIn, Other, Row, row-of, same-row, differ, tested-alike}
 use Rattle.parameters.specs.RuleLaws.{is-from, not-from}
 use Rattle.parameters.specs.Table.{value, withValue, ruleOf, isFrom}
 use Rattle.parameters.specs.Written.{limitedAnew, written}
@@ -22,26 +22,33 @@ use Rattle.parameters.specs.declared.Rule.the-variants.{Unknown, ReadOnl
 
 -- ---- a row after a write of its own value, or of the other one of its pair
 
-own-row : (r : Rule) (f g : ℕ → ℤ) (n : ℕ) (v : ℤ) → isBetween r ≡ false → g n ≡ v → (isPair r ≡ true → g (partner n) ≡ f (partner n)) →
+own-row : (r : Rule) (f g : ℕ → ℤ) (n : ℕ) (v : ℤ) → standsIn r n ≡ true → g n ≡ v →
+    ((upper r n ≡ n → ⊥) → g (upper r n) ≡ f (upper r n)) → ((lower r n ≡ n → ⊥) → g (lower r n) ≡ f (lower r n)) →
     inRange r f v ≡ true → pairInOrder r f n v ≡ true → keeps r g n ≡ true
-own-row Unknown f g n v b e p range order = refl
-own-row ReadOnly f g n v b e p range order = refl
-own-row (Word least most) f g n v b e p range order = rw (e, range) refl
-own-row (Free least most) f g n v b e p range order = rw (e, range) refl
-own-row (Pair least most strict) f g n v b e p range order = rw (e, p refl, range) order
-own-row (Between low high) f g n v b e p range order = never (sym b)
+own-row (Unknown refusal) f g n v s e h l range order = refl
+own-row (ReadOnly refusal) f g n v s e h l range order = refl
+own-row (Word least most) f g n v s e h l range order = rw (e, range) refl
+own-row (Free least most) f g n v s e h l range order = rw (e, range) refl
+own-row (Pair least most high low strict) f g n v s e h l range order = rw (e, range) (go (eqb n high) refl order)
+  where
+    go : (t : Bool) → eqb n high ≡ t → (if t then inOrder strict (f low) v else inOrder strict v (f high)) ≡ true →
+        (if t then inOrder strict (g low) v else inOrder strict v (g high)) ≡ true
+    go true q o = rw (l (λ z. differ least most high low strict n s (z ∙ eqb-true n high q))) o
+    go false q o = rw (h (λ z. eqb-false n high q (sym z))) o
+own-row (Between low high) f g n v s e h l range order = never s
 
--- the other one was written
-other-row : (r : Rule) (f g : ℕ → ℤ) (n : ℕ) (v : ℤ) → 1 ≤ n → isPair r ≡ true → g n ≡ f n → g (partner n) ≡ v →
-    keeps r f n ≡ true → pairInOrder r f (partner n) v ≡ true → keeps r g n ≡ true
-other-row Unknown f g n v h b e d before order = refl
-other-row ReadOnly f g n v h b e d before order = refl
-other-row (Word least most) f g n v h b e d before order = never b
-other-row (Free least most) f g n v h b e d before order = never b
-other-row (Pair least most strict) f g n v h b e d before order =
-    rw (e, d, both (isWithin least most (f n)) _ before .0)
-    (sym (turned strict n v (f n) h) ∙ ap (λ (m : ℕ). ordered strict (partner n) v (f m)) (sym (partner-twice n h)) ∙ order)
-other-row (Between low high) f g n v h b e d before order = never b
+-- the other one, k, was written
+other-row : (r : Rule) (f g : ℕ → ℤ) (n k : ℕ) → standsIn r n ≡ true → standsIn r k ≡ true → g n ≡ f n → keeps r f n ≡ true →
+    keeps r g k ≡ true → keeps r g n ≡ true
+other-row (Unknown refusal) f g n k s t e before after = refl
+other-row (ReadOnly refusal) f g n k s t e before after = refl
+other-row (Word least most) f g n k s t e before after = rw e before
+other-row (Free least most) f g n k s t e before after = rw e before
+other-row (Pair least most high low strict) f g n k s t e before after =
+    let alike = tested-alike least most high low strict g in
+    let in-range : isWithin least most (g n) ≡ true = rw e (both (isWithin least most (f n)) _ before .0) in
+    rw in-range (alike n s ∙ sym (alike k t) ∙ both (isWithin least most (g k)) _ after .1)
+other-row (Between low high) f g n k s t e before after = never s
 
 module _ (p : Parameters) (legal : Legal p) (k : ℕ) (v : ℤ) (first : 1 ≤ k) (last : k ≤ 23) where
   next : Parameters
@@ -101,43 +108,57 @@ module _ (p : Parameters) (legal : Legal p) (k : ℕ) (v : ℤ) (first : 1 ≤ k
       (λ f d. next-is 21)
 
   module _ (range : inRange (ruleOf k) (value p) v ≡ true) (order : pairInOrder (ruleOf k) (value p) k v ≡ true) where
+    module _ (n : ℕ) (other : Other n) where
+      abbrev g : ℕ → ℤ
+      g = value (written p k v)
+
+      same-value : (n ≡ k → ⊥) → g n ≡ value p n
+      same-value h = elsewhere n (other .not-setpoint) (other .not-ratio) ∙ rw (ne-eqb n k h) refl
+
+      new-value : n ≡ k → g n ≡ v
+      new-value h = elsewhere n (other .not-setpoint) (other .not-ratio) ∙ rw (eq-eqb n k h) refl
+
+    -- the row of the written number itself, neither SL nor RS
+    own-kept : (k ≡ 20 → ⊥) → (k ≡ 21 → ⊥) → keeps (ruleOf k) (value (written p k v)) k ≡ true
+    own-kept c d =
+        let row = row-of k first last c d in
+        own-row (ruleOf k) (value p) (value (written p k v)) k v (row .stands)
+        (new-value k (record { most = last; not-setpoint = c; not-ratio = d }) refl)
+        (same-value (upper (ruleOf k) k) (row .upper-other)) (same-value (lower (ruleOf k) k) (row .lower-other)) range order
+
     row-kept : (n : ℕ) → 1 ≤ n → n ≤ 23 → (n ≡ 20 → ⊥) → (n ≡ 21 → ⊥) → keeps (ruleOf n) (value (written p k v)) n ≡ true
-    row-kept n a b c d = own (eqb n k) refl
+    row-kept n a b c d = go (eqb n k) refl (eqb (upper (ruleOf n) n) k) refl (eqb (lower (ruleOf n) n) k) refl
       where
         row : Row n
         row = row-of n a b c d
 
-        g : ℕ → ℤ
-        g = value (written p k v)
+        same : (n ≡ k → ⊥) → value (written p k v) n ≡ value p n
+        same = same-value n (record { most = b; not-setpoint = c; not-ratio = d })
 
-        partner-is : isPair (ruleOf n) ≡ true → g (partner n) ≡ changed (value p) k v (partner n)
-        partner-is e = let m = partner-most n (row .most e) in elsewhere (partner n) (λ q. omega arith) (λ q. omega arith)
+        -- m, the upper one or the lower one of the row, is the written number
+        of-pair : (m : ℕ) → m ≡ k → standsIn (ruleOf n) m ≡ true → ruleOf m ≡ ruleOf n → Other m → (n ≡ k → ⊥) →
+            keeps (ruleOf n) (value (written p k v)) n ≡ true
+        of-pair m q stands one other h =
+            other-row (ruleOf n) (value p) (value (written p k v)) n k (row .stands) (rw q at stands) (same h) (legal .rules n a b)
+            (subst (λ (r : Rule). keeps r (value (written p k v)) k ≡ true) (ap ruleOf (sym q) ∙ one)
+            (own-kept (λ z. other .not-setpoint (q ∙ z)) (λ z. other .not-ratio (q ∙ z))))
 
-        same-value : (m : ℕ) → (m ≡ k → ⊥) → changed (value p) k v m ≡ value p m
-        same-value m h = rw (ne-eqb m k h) refl
-
-        new-value : (m : ℕ) → m ≡ k → changed (value p) k v m ≡ v
-        new-value m h = rw (eq-eqb m k h) refl
-
-        other : (n ≡ k → ⊥) → (t : Bool) → isPair (ruleOf n) ≡ t → (u : Bool) → eqb (partner n) k ≡ u → keeps (ruleOf n) g n ≡ true
-        other h true e true q =
-            let here = eqb-true (partner n) k q in
-            other-row (ruleOf n) (value p) g n v a e (elsewhere n c d ∙ same-value n h) (partner-is e ∙ new-value (partner n) here)
-            (legal .rules n a b)
-            (ap (λ (r : Rule). pairInOrder r (value p) (partner n) v) (sym (row .paired e)) ∙ rw here order)
-        other h true e false q =
-            same-row (ruleOf n) (value p) g n (row .own) (elsewhere n c d ∙ same-value n h)
-            (λ s. partner-is s ∙ same-value (partner n) (eqb-false (partner n) k q)) ∙ legal .rules n a b
-        other h false e u q =
-            same-row (ruleOf n) (value p) g n (row .own) (elsewhere n c d ∙ same-value n h) (λ s. never (sym e ∙ s)) ∙ legal .rules n a b
-
-        own : (t : Bool) → eqb n k ≡ t → keeps (ruleOf n) g n ≡ true
-        own true e =
+        go : (t : Bool) → eqb n k ≡ t → (x : Bool) → eqb (upper (ruleOf n) n) k ≡ x → (y : Bool) → eqb (lower (ruleOf n) n) k ≡ y →
+            keeps (ruleOf n) (value (written p k v)) n ≡ true
+        go true e x q y u =
             let here = eqb-true n k e in
-            own-row (ruleOf n) (value p) g n v (row .own) (elsewhere n c d ∙ new-value n here)
-            (λ s. partner-is s ∙ same-value (partner n) (λ q. partner-differs n a (q ∙ sym here)))
-            (rw here range) (rw here order)
-        own false e = other (eqb-false n k e) (isPair (ruleOf n)) refl (eqb (partner n) k) refl
+            subst (λ (m : ℕ). keeps (ruleOf m) (value (written p k v)) m ≡ true) (sym here)
+            (own-kept (λ z. c (here ∙ z)) (λ z. d (here ∙ z)))
+        go false e true q y u =
+            of-pair (upper (ruleOf n) n) (eqb-true (upper (ruleOf n) n) k q) (row .upper-stands) (row .upper-row) (row .upper-other)
+            (eqb-false n k e)
+        go false e false q true u =
+            of-pair (lower (ruleOf n) n) (eqb-true (lower (ruleOf n) n) k u) (row .lower-stands) (row .lower-row) (row .lower-other)
+            (eqb-false n k e)
+        go false e false q false u =
+            same-row (ruleOf n) (value p) (value (written p k v)) n (row .stands) (same (eqb-false n k e))
+            (same-value (upper (ruleOf n) n) (row .upper-other) (eqb-false (upper (ruleOf n) n) k q))
+            (same-value (lower (ruleOf n) n) (row .lower-other) (eqb-false (lower (ruleOf n) n) k u)) ∙ legal .rules n a b
 
     -- SL and RS: limited anew, or as before between limits as before
     between-kept : (m low high : ℕ) (anew : Bool) (x : ℤ) → 1 ≤ m → m ≤ 23 → low ≤ 19 → high ≤ 19 → ruleOf m ≡ Between low high →

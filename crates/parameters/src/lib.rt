@@ -1,6 +1,7 @@
 // Parameters 1 to 23, and the numbers of all 32.
 ghost use mathlib.Core.Path.{_≡_};
 ghost use Rattle.parameters.specs.Table.{value, withValue};
+use signals::Refusal;
 
 mod rows;
 mod written;
@@ -12,19 +13,20 @@ pub struct Parameters {
 
 pub const VALUE_COUNT: usize = IC as usize + 1;
 
-// What a parameter's number asks of a value that is written: the row of the table that it stands in.
+// "a parameter number from 1 to 32 chooses the range and the rule": what the row of a number says of a value that is
+// written, or the refusal.
 pub enum Rule {
-    // a number outside 1..32: refusal 4
-    Unknown,
-    // refusal 5
-    ReadOnly,
+    // "number outside 1..32 (reads too)", and its refusal
+    Unknown(Refusal),
+    // "read only", and its refusal
+    ReadOnly(Refusal),
     // MD and DS: a range, from least to most, and rules of their own
     Word(i64, i64),
     // a range alone, from least to most
     Free(i64, i64),
-    // a range, and an order: the upper one of a pair has the odd number and the lower one the next;
+    // a range, from least to most, and an order: the numbers of the upper one of the pair and of the lower one;
     // strictly in order where true
-    Pair(i64, i64, bool),
+    Pair(i64, i64, u64, u64, bool),
     // between two other parameters, the lower and the upper one, named by their numbers
     Between(u64, u64),
 }

@@ -13,7 +13,7 @@ use Rattle.terms.specs.Fraction.{storedUnits, limitedStored}
 use Rattle.outputs.specs.Instruction as o
 use Rattle.outputs.specs.Outputs.{limitsIn, limitsWritten}
 use Rattle.controller.specs.Answers.{opOf}
-use Rattle.controller.specs.Read.{read, readIn}
+use Rattle.controller.specs.Read.{read, readIn, valueIn}
 use Rattle.controller.specs.Scan as s
 use Rattle.controller.specs.Write as w
 use Rattle.worked.specs.Figures.{AllHold}
@@ -21,7 +21,7 @@ use Rattle.worked.specs.ModelWrites.{modelWrites}
 
 pub model-writes-hold : AllHold modelWrites
 unfolding modelWrites w.write w.writeCore w.writeAccepted w.writeTests w.stateTests w.setpointTests w.coreWith
-    w.coreWritten w.mdWritten w.dsWritten w.parameterWritten read readIn opOf limitsIn limitsWritten limitedAnew
+    w.coreWritten w.mdWritten w.dsWritten w.parameterWritten read readIn valueIn opOf limitsIn limitsWritten limitedAnew
     written value withValue ruleOf conditionsWritten powerWritten userBitsWritten mdTests refusedBy switchesOf pinsOf
     buttonsOf modeOf byteOf mdHigh mdLow MD dsLow DS limited atLeast atMost storedUnits limitedStored s.responseFrom
     s.controllerAfter s.refused s.modeNow o.storedArithmetic o.changed o.limitedTo o.executed

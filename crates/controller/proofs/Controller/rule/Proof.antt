@@ -29,42 +29,54 @@ returns-5 c = simp (c .match .keys5)
 
 returns-6 : tie.Need-returns-6
 unfolding ruleOf listed
-returns-6 c = row 1 6 (c .before .before .before .before .args .number) refl (omega arith) (omega arith)
+returns-6 c = row 1 2 (c .before .before .before .before .args .number) refl (omega arith) (omega arith)
 
 returns-7 : tie.Need-returns-7
 unfolding ruleOf listed
-returns-7 c = row 7 2 (c .before .before .before .before .before .args .number) refl (omega arith) (omega arith)
+returns-7 c = row 3 2 (c .before .before .before .before .before .args .number) refl (omega arith) (omega arith)
 
 returns-8 : tie.Need-returns-8
 unfolding ruleOf listed
-returns-8 c = row 9 4 (c .before .before .before .before .before .before .args .number) refl (omega arith) (omega arith)
+returns-8 c = row 5 2 (c .before .before .before .before .before .before .args .number) refl (omega arith) (omega arith)
 
 returns-9 : tie.Need-returns-9
 unfolding ruleOf listed
-returns-9 c = row 13 2 (c .before .before .before .before .before .before .args .number) refl (omega arith) (omega arith)
+returns-9 c = row 7 2 (c .before .before .before .before .before .before .before .args .number) refl (omega arith) (omega arith)
 
 returns-10 : tie.Need-returns-10
 unfolding ruleOf listed
-returns-10 c = row 15 2 (c .before .before .before .args .number) refl (omega arith) (omega arith)
+returns-10 c = row 9 2 (c .before .before .before .before .before .before .before .before .args .number) refl (omega arith) (omega arith)
 
 returns-11 : tie.Need-returns-11
 unfolding ruleOf listed
-returns-11 c = row 18 2 (c .before .before .before .before .args .number) refl (omega arith) (omega arith)
+returns-11 c = row 11 2 (c .before .before .before .before .before .before .before .before .args .number) refl (omega arith) (omega arith)
 
 returns-12 : tie.Need-returns-12
 unfolding ruleOf listed
-returns-12 c = row 24 2 (c .before .before .before .before .before .args .number) refl (omega arith) (omega arith)
+returns-12 c = row 13 2 (c .before .before .before .args .number) refl (omega arith) (omega arith)
 
 returns-13 : tie.Need-returns-13
 unfolding ruleOf listed
-returns-13 c = row 26 7 (c .before .before .before .before .before .before .args .number) refl (omega arith) (omega arith)
+returns-13 c = row 15 2 (c .before .before .before .before .args .number) refl (omega arith) (omega arith)
 
 returns-14 : tie.Need-returns-14
 unfolding ruleOf listed
-returns-14 c = row 0 1 (c .before .before .before .args .number) refl (omega arith) (omega arith)
+returns-14 c = row 18 2 (c .before .before .before .before .before .args .number) refl (omega arith) (omega arith)
 
 returns-15 : tie.Need-returns-15
-returns-15 c = row-beyond (c .before .before .before .before .before .before .args .number) (omega arith)
+unfolding ruleOf listed
+returns-15 c = row 24 2 (c .before .before .before .before .before .before .args .number) refl (omega arith) (omega arith)
+
+returns-16 : tie.Need-returns-16
+unfolding ruleOf listed
+returns-16 c = row 26 7 (c .before .before .before .before .before .before .before .args .number) refl (omega arith) (omega arith)
+
+returns-17 : tie.Need-returns-17
+unfolding ruleOf listed
+returns-17 c = row 0 1 (c .before .before .before .args .number) refl (omega arith) (omega arith)
+
+returns-18 : tie.Need-returns-18
+returns-18 c = row-beyond (c .before .before .before .before .before .before .before .args .number) (omega arith)
 
 pub rule-spec : {M : Type 1} → statement M
 rule-spec =
@@ -84,4 +96,7 @@ rule-spec =
     returns-12
     returns-13
     returns-14
-    returns-15)
+    returns-15
+    returns-16
+    returns-17
+    returns-18)

@@ -33,8 +33,7 @@ in-range-requires : tie.Need-in-range-requires Inv-loop μ-loop
 in-range-requires c κs = search needs
 
 pair-in-order-requires : tie.Need-pair-in-order-requires Inv-loop μ-loop
-pair-in-order-requires c κs =
-    let i = c .before .before .before .before .loop .inv in (i .0, omega (arith, c .before .before .before .loop-test .taken))
+pair-in-order-requires c κs = search needs
 
 -- the number n keeps its row just where the code's two tests say so
 kept : (c : tie.After-pair-in-order Inv-loop μ-loop) → let l = c .before .before .before .before .before in

@@ -1,16 +1,8 @@
 -- `parameters::Rule::pair_in_order` meets its contract.
 use mir.Facts.{toZ-ofZ}
-use mir.Syntax.{w64}
 use borrow.Author.Needs.{needs}
-use Rattle.integers.specs.Machine.{back}
 use Rattle.parameters.proofs.Rule.pair_in_order.Statement.{statement}
 use Rattle.parameters.proofs.Rule.pair_in_order.Tie as tie
-
-partner-requires : tie.Need-partner-requires
-partner-requires c κs = search needs
-
-get-requires : tie.Need-get-requires
-get-requires c κs = search needs
 
 enum-told : tie.Need-enum-told
 enum-told c = search needs
@@ -46,11 +38,8 @@ returns-4 : tie.Need-returns-4
 returns-4 c = search needs
 
 returns-5 : tie.Need-returns-5
-returns-5 c = let start = c .before .before .before .before .before .before in
-    let other = c .before .before .before .before .get in
-    let place = c .before .before .before .before .before .partner in
-    simp (c .ordered .ensures, back w64 (other .result) (other .ok), toZ-ofZ (start .fits .v))
-    (simp (other .ensures) (simp (place .ensures, c .before .before .self .given .1)))
+returns-5 c = let start = c .before .before .before .before in
+    simp (c .ordered .ensures, toZ-ofZ (start .fits .v), c .before .before .self .given .1)
 
 returns-6 : tie.Need-returns-6
 returns-6 c = search needs
@@ -59,8 +48,6 @@ pub pair-in-order-spec : {M : Type 1} → statement M
 pair-in-order-spec =
     tie.close
     (tie.spec
-    partner-requires
-    get-requires
     enum-told
     enum-told-2
     enum-told-3
