@@ -31,6 +31,7 @@ TESTS = (
     ("the model's scans that the rules are proved to give", [*MODULE, "tests.statements.scans"]),
     ("the model's writes that the rules are proved to give", [*MODULE, "tests.statements.writes"]),
     ("the model's restarts and saves that the rules are proved to give", [*MODULE, "tests.statements.restarts"]),
+    ("programs that forge a controller", [*MODULE, "tests.outsider.outsider"]),
     ("layout", [*MODULE, "tests.repository.layout"]),
     ("names", [*MODULE, "tests.repository.names"]),
     ("the tests of layout and names", [*MODULE, "tests.repository.repository_test"]),

@@ -28,19 +28,20 @@ mod write;
 // All that lasts between calls but the output: SW; parameters 1 to 23; request, memory fault, open count
 // and pins; user bits and MD bit 4; PV, SP, ER and MP; buttons, battery and alarms; the earlier PVs and SP.
 pub struct Core {
-    pub sw: u16,
-    pub parameters: Parameters,
-    pub conditions: Conditions,
-    pub userbits: UserBits,
-    pub readings: Readings,
-    pub indications: Indications,
-    pub history: History,
+    sw: u16,
+    parameters: Parameters,
+    conditions: Conditions,
+    userbits: UserBits,
+    readings: Readings,
+    indications: Indications,
+    history: History,
 }
 
-// The output is a whole number of 1/65,536 units.
+// The output is a whole number of 1/65,536 units. "Each call takes the controller and hands back the next one": the
+// fields are private, so that only a start fresh and the calls give a controller.
 pub struct Controller {
-    pub core: Core,
-    pub output: i64,
+    core: Core,
+    output: i64,
 }
 
 pub enum Answer {
@@ -179,7 +180,7 @@ impl Controller {
         ensures { λ r. ⌜ r ≡ freshController sw ⌝ }
     {
         let values = Self::DEFAULTS;
-        let parameters = Parameters { values };
+        let parameters = Parameters::of(values);
         let userbits = UserBits {
             user1: false,
             user2: false,

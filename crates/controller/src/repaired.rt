@@ -9,7 +9,7 @@ fn default(number: u64) -> i64
     ensures { λ r. ⌜ r ≡ default number ⌝ }
 {
     let values = Controller::DEFAULTS;
-    let fresh = Parameters { values };
+    let fresh = Parameters::of(values);
     fresh.get(number)
 }
 
@@ -51,7 +51,7 @@ fn by_range(p: Parameters) -> Parameters
         values[number] = v;
         number += 1;
     }
-    Parameters { values }
+    Parameters::of(values)
 }
 
 fn paired_value(p: Parameters, number: u64) -> i64
@@ -75,7 +75,7 @@ fn by_pairs(p: Parameters) -> Parameters
         values[number] = v;
         number += 1;
     }
-    Parameters { values }
+    Parameters::of(values)
 }
 
 // The contract rules out HO and LO as the image holds them, pairs that are looked at before the ranges,

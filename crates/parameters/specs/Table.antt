@@ -11,6 +11,10 @@ use Rattle.parameters.specs.declared.Parameters.{Parameters}
 use Rattle.parameters.specs.declared.Rule.{Rule}
 use Rattle.parameters.specs.declared.Rule.the-variants.{Unknown, ReadOnly, Word, Free, Pair, Between}
 
+-- the parameters with these values, by their numbers
+abbrev pub parametersOf : List ℤ → Parameters
+parametersOf values = record { values = values }
+
 -- the value of the parameter with this number
 unfoldable pub value : Parameters → ℕ → ℤ
 value p number = getD (p .values) number (pos 0)

@@ -1,6 +1,6 @@
 // Parameters 1 to 23, and the numbers of all 32.
 ghost use mathlib.Core.Path.{_≡_};
-ghost use Rattle.parameters.specs.Table.{value, withValue};
+ghost use Rattle.parameters.specs.Table.{parametersOf, value, withValue};
 use signals::Refusal;
 
 mod rows;
@@ -8,7 +8,7 @@ mod written;
 
 // The values by their numbers, IC the last; entry 0 is not used.
 pub struct Parameters {
-    pub values: [i64; VALUE_COUNT],
+    values: [i64; VALUE_COUNT],
 }
 
 pub const VALUE_COUNT: usize = IC as usize + 1;
@@ -105,6 +105,13 @@ pub const OP_MOST: u16 = OUTPUT_MOST as u16;
 pub const ROOT: i64 = 1;
 
 impl Parameters {
+    // Parameters with these values, legal or not. The contract rules out that a value is changed.
+    pub fn of(values: [i64; VALUE_COUNT]) -> Parameters
+        ensures { λ r. ⌜ r ≡ parametersOf values ⌝ }
+    {
+        Parameters { values }
+    }
+
     // The value of a parameter, 0 for a number above 23. The contract rules out a neighbour's value.
     pub fn get(self, number: u64) -> i64
         ensures { λ r. ⌜ r ≡ value self number ⌝ }

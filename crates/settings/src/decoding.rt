@@ -63,7 +63,7 @@ pub fn parameters_in(values: [u16; fields::FIELD_COUNT]) -> Parameters
         decoded[number] = v;
         number += 1;
     }
-    Parameters { values: decoded }
+    Parameters::of(decoded)
 }
 
 // The contract rules out a setting that is taken from another one's field.

@@ -1,14 +1,13 @@
 -- `controller::repaired::by_range` meets its contract.
 use mathlib.Core.Path.{refl, ap, _∙_}
-use mathlib.Core.List.{List}
 use Prim.Native.Nat.{_-_}
 use native.Mathlib.Omega.{arith}
-use lib.IntN.{ℤ}
 use borrow.Author.Needs.{needs}
 use mir.Syntax.{w64}
 use Rattle.integers.specs.Listed.{Filled, filled-start, filled-next, filled-all}
 use Rattle.integers.specs.Machine.{back}
 use Rattle.parameters.specs.Repaired.{rangedValue, byRange}
+use Rattle.parameters.specs.Table.{parametersOf}
 use Rattle.controller.proofs.repaired.by_range.Statement.{statement}
 use Rattle.controller.proofs.repaired.by_range.Tie as tie
 
@@ -42,11 +41,14 @@ loop-again c = let l = c .before .before .loop in
     (c .before .loop-test .taken)
     (back w64 (c .ranged-value .result) (c .ranged-value .ok) ∙ c .ranged-value .ensures)
 
+of-requires : tie.Need-of-requires Inv-loop μ-loop
+of-requires c κs = search needs
+
 returns : tie.Need-returns Inv-loop μ-loop
 unfolding byRange
-returns c = let l = c .before .loop in
-    ap (λ (values : List ℤ). record { values = values })
-    (filled-all (rangedValue (c .before .before .args .p)) 24 (l .values) (l .number) (l .inv) (c .loop-test .left))
+returns c = let l = c .before .before .loop in
+    c .of .ensures ∙ ap parametersOf
+    (filled-all (rangedValue (c .before .before .before .args .p)) 24 (l .values) (l .number) (l .inv) (c .before .loop-test .left))
 
 pub by-range-spec : {M : Type 1} → statement M
 by-range-spec =
@@ -61,4 +63,5 @@ by-range-spec =
     add-number
     loop-less
     loop-again
+    of-requires
     returns)

@@ -1,13 +1,12 @@
 -- `settings::decoding::parameters_in` meets its contract.
 use mathlib.Core.Path.{refl, ap, _∙_}
-use mathlib.Core.List.{List}
 use Prim.Native.Nat.{_-_}
 use native.Mathlib.Omega.{arith}
-use lib.IntN.{ℤ}
 use borrow.Author.Needs.{needs}
 use mir.Syntax.{w64}
 use Rattle.integers.specs.Listed.{Filled, filled-start, filled-next, filled-all}
 use Rattle.integers.specs.Machine.{back}
+use Rattle.parameters.specs.Table.{parametersOf}
 use Rattle.settings.specs.Settings.{parameterIn, parametersIn}
 use Rattle.settings.proofs.decoding.parameters_in.Statement.{statement}
 use Rattle.settings.proofs.decoding.parameters_in.Tie as tie
@@ -42,11 +41,14 @@ loop-again c = let l = c .before .before .loop in
     (c .before .loop-test .taken)
     (back w64 (c .parameter-in .result) (c .parameter-in .ok) ∙ c .parameter-in .ensures)
 
+of-requires : tie.Need-of-requires Inv-loop μ-loop
+of-requires c κs = search needs
+
 returns : tie.Need-returns Inv-loop μ-loop
 unfolding parametersIn
-returns c = let l = c .before .loop in
-    ap (λ (values : List ℤ). record { values = values })
-    (filled-all (parameterIn (c .before .before .args .values)) 24 (l .decoded) (l .number) (l .inv) (c .loop-test .left))
+returns c = let l = c .before .before .loop in
+    c .of .ensures ∙ ap parametersOf
+    (filled-all (parameterIn (c .before .before .before .args .values)) 24 (l .decoded) (l .number) (l .inv) (c .before .loop-test .left))
 
 pub parameters-in-spec : {M : Type 1} → statement M
 parameters-in-spec =
@@ -61,4 +63,5 @@ parameters-in-spec =
     add-number
     loop-less
     loop-again
+    of-requires
     returns)

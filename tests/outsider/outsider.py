@@ -1,0 +1,97 @@
+"""A program outside the library has no controller but those that `Controller::fresh` and the calls give.
+
+Usage: python3 -B -m tests.outsider.outsider
+
+A program over the library, in a temporary repository beside the crates and what `rt ci` proved of them, is accepted;
+with any one line of `LINES` in it the compiler refuses it, at that line and for the cause that stands beside it; the
+functions that such a line names are there. The last line printed is 'N passed, M failed', one count for the program and
+for each line.
+"""
+
+import pathlib
+import re
+import shutil
+import subprocess
+import sys
+import tempfile
+
+from tests import ROOT
+from tests.gate import tally
+
+# A controller is made; whatever else the program is given, it can put nothing of it into the controller.
+PROGRAM = """use controller::Controller;
+use controller::Core;
+use parameters::Parameters;
+
+pub fn forged(mut core: Core, mut parameters: Parameters, output: i64) -> Controller {
+    let mut controller = Controller::fresh(0);
+    LINE
+    controller
+}
+"""
+# The line, and the compiler's word for its cause
+LINES = (
+    ("controller.output = output;", "private-field"),
+    ("controller.core = core;", "private-field"),
+    ("controller = Controller { core, output };", "private-field"),
+    ("let Controller { core, output } = controller;", "private-field"),
+    ("core.parameters = parameters;", "private-field"),
+    ("parameters.values[1] = output;", "private-field"),
+    ("parameters = Parameters { values: [output; 24] };", "private-field"),
+    ("controller = controller.written(1, output);", "unknown-method"),
+    ("core = core.parameter_written(1, output);", "unknown-method"),
+    ("let legal = controller::repaired::are_legal(parameters);", "unknown-name"),
+)
+UNKNOWN = ("unknown-method", "unknown-name")  # so the compiler calls what isn't public, and what isn't there too
+CALLED = re.compile(r"(\w+)\(")
+ERROR = re.compile(r"lib\.rt:(\d+):\d+: error\[([\w-]+)\]")
+NUMBER = PROGRAM.split("\n").index("    LINE") + 1
+
+
+def repository(folder):
+    """The crates with one more, the outsider, and what is proved of them, so that only the outsider is checked."""
+    for part in ("crates", "target/rlib"):
+        (folder / part).mkdir(parents=True)
+        for path in (ROOT / part).iterdir():
+            (folder / part / path.name).symlink_to(path)
+    shutil.copytree(ROOT / "target" / "stamp", folder / "target" / "stamp")
+    listed = (ROOT / "crates.txt").read_text(encoding="utf-8")
+    (folder / "crates.txt").write_text(f"{listed}outsider: parameters controller\n", encoding="utf-8")
+    (folder / "crates" / "outsider" / "src").mkdir(parents=True)
+
+
+def is_there(line):
+    """Whether the library has the function that the line calls."""
+    texts = [path.read_text(encoding="utf-8") for path in (ROOT / "crates" / "controller" / "src").glob("*.rt")]
+    return all(any(f"fn {name}(" in text for text in texts) for name in CALLED.findall(line))
+
+
+def errors_of(folder, line):
+    """The exit status of the check of the program with this line, line and cause of each error, and all it prints."""
+    source = folder / "crates" / "outsider" / "src" / "lib.rt"
+    source.write_text(PROGRAM.replace("LINE", line), encoding="utf-8")
+    run = subprocess.run(["rt", "check", "outsider"], cwd=folder, stdin=subprocess.DEVNULL, stdout=subprocess.PIPE,
+                         stderr=subprocess.STDOUT, text=True, errors="replace", check=False)
+    return run.returncode, ERROR.findall(run.stdout), run.stdout
+
+
+def main():
+    faults = []
+    with tempfile.TemporaryDirectory() as name:
+        folder = pathlib.Path(name)
+        repository(folder)
+        status, errors, printed = errors_of(folder, "")
+        if status != 0 or errors:
+            faults.append(f"the program itself is refused:\n{printed}")
+        for line, cause in LINES:
+            status, errors, printed = errors_of(folder, line)
+            print(f"{line} {sorted(set(errors))}")
+            if status != 1 or set(errors) != {(str(NUMBER), cause)}:
+                faults.append(f"{line} isn't refused for {cause} alone:\n{printed}")
+            elif cause in UNKNOWN and not is_there(line):
+                faults.append(f"{line} calls a function that isn't there")
+    return tally.report(faults, 1 + len(LINES), "a controller comes from the calls alone")
+
+
+if __name__ == "__main__":
+    sys.exit(main())
