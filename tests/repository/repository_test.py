@@ -23,7 +23,7 @@ TEXTS = (("a.py", "# " + "word " * 24, [1]), ("a.py", "x = [" + "1, " * 46 + "]"
          ("a.rt", "// " + "word " * 24, [1]), ("a.rt", "x" * 150, []), ("a.antt", "f : " + "ℕ → " * 34 + "ℕ", [1]),
          ("a.antt", "f : " + "ℕ → " * 33 + "ℕ", []), ("a.antt", "-- " + "word " * 24, [1]), ("a.edit", "word " * 40, []),
          ("demo/show", "# " + "word " * 24, [1]),
-         ("crates/worked/specs/ModelScans.antt", "word " * 40, []), ("a.py", "# http://" + "a" * 140, []),
+         ("crates/worked/specs/ModelCalls.antt", "word " * 40, []), ("a.py", "# http://" + "a" * 140, []),
          ("a.md", "word " * 25, [1]), ("a.md", "| " + "cell " * 40, []), ("a.md", "    " + "code " * 40, []),
          ("a.md", "- " + "a" * 140, []),
          ("a.md", "- item\n    " + "word " * 25, [2]), ("a.md", "```\n" + "code " * 40 + "\n```\n" + "word " * 25, [4]))

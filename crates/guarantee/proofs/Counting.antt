@@ -28,9 +28,10 @@ use Rattle.controller.specs.Scan.{modeNow, contextOf, coreAfter, statusOf, acce
 use Rattle.controller.specs.ValidLaws.{by-verdict}
 use Rattle.controller.specs.Write.{writeTests, writeAccepted, writeCore}
 use Rattle.controller.specs.declared.Core.{Core}
-use Rattle.guarantee.specs.Claim.{modeIn}
-use Rattle.guarantee.specs.Count.{automatic, tracks, manualOrForced, toMinimum, setsOutright, isAutomaticScan, countAfter}
+use Rattle.guarantee.specs.Count.{setsOutright, isAutomaticScan, countAfter}
 use Rattle.guarantee.specs.Exact.{Call, scan, write, restart, oneMore, outcomeOf}
+use Rattle.guarantee.specs.ExactOutput.{toMinimum}
+use Rattle.guarantee.specs.Modes.{modeIn, automaticMode, trackMode, manualOrForced}
 use Rattle.guarantee.proofs.Modes.{mode-is-first}
 
 abbrev pub changeCount : Change → ℕ → ℕ
@@ -70,8 +71,8 @@ unfolding byTerms
 term-counts p x r h n = term-choice (isOpen (x .input)) p x r h n
 
 counts-in : (m : Mode) (p : Parameters) (x : Context) (r : Readings) (h : History) (n : ℕ) →
-    (if tracks (some m) || manualOrForced (some m) && x .tominimum then 0 else
-    if automatic (some m) && not (isOpen (x .input)) then n + 1 else n)
+    (if trackMode (some m) || manualOrForced (some m) && x .tominimum then 0 else
+    if automaticMode (some m) && not (isOpen (x .input)) then n + 1 else n)
     ≡ changeCount (changeIn m p x r h) n
 counts-in Hold p x r h n = refl
 counts-in Track p x r h n = refl
@@ -84,7 +85,7 @@ counts-in Fallback p x r h n = term-counts p x r h n
 
 -- ---- the minimum, as the rules and as the claim tell it
 
-automatic-is : (m : Mode) → automatic (some m) ≡ isAutomatic m
+pub automatic-is : (m : Mode) → automaticMode (some m) ≡ isAutomatic m
 automatic-is Hold = refl
 automatic-is Track = refl
 automatic-is Forced = refl
@@ -104,14 +105,14 @@ last-is true n = go (eqb n 84) refl
 last-is false n = refl
 
 module _ (c : Core) (i : Input) where
-  next : Core
+  unfoldable pub next : Core
   next = accepted oneMore c i .next
 
-  mode-next : modeIn next ≡ some (contextOf c (conditionsAfter oneMore (c .conditions) i) i .mode)
+  pub mode-next : modeIn next ≡ some (contextOf c (conditionsAfter oneMore (c .conditions) i) i .mode)
   unfolding next accepted coreAfter contextOf modeNow
   mode-next = mode-is-first next
 
-  minimum-is : toMinimum c next ≡ contextOf c (conditionsAfter oneMore (c .conditions) i) i .tominimum
+  pub minimum-is : toMinimum c next ≡ contextOf c (conditionsAfter oneMore (c .conditions) i) i .tominimum
   unfolding toMinimum next accepted coreAfter contextOf conditionsAfter goesToMinimum switchesOf modeNow
   minimum-is = rw (mode-is-first c, automatic-is, last-is) refl
 

@@ -17,13 +17,15 @@ use Rattle.controller.specs.Write as writes
 use Rattle.controller.specs.declared.Controller.{Controller}
 use Rattle.controller.specs.declared.CallResult.{CallResult}
 use Rattle.controller.specs.declared.ScanResult.{ScanResult}
-use Rattle.guarantee.specs.Claim.{modeIn, isHoldOrTrack, capped, SameReading, SameAnswer, SameAnswers, no-answer, and-answer}
+use Rattle.guarantee.specs.Claim.{capped, SameReading, SameAnswer, SameAnswers, no-answer, and-answer}
 use Rattle.guarantee.specs.Demand.{Demand3}
 use Rattle.guarantee.specs.Exact.{Call, scan, write, restart, Calls, _then_, outcomeOf, exactAfter, exact, exactAnswer}
-use Rattle.guarantee.specs.Linked.{ScanEnsures, WriteEnsures, RestartEnsures, Slice, Lifetime}
-use Rattle.guarantee.specs.Linked.{Linked, started, scanned, wrote, restarted, Ready}
+use Rattle.guarantee.specs.Linked.{ScanEnsures, WriteEnsures, RestartEnsures, Slice, Lifetime, Linked, started, scanned, wrote}
+use Rattle.guarantee.specs.Linked.{restarted, AlwaysReady}
+use Rattle.guarantee.specs.Modes.{modeIn, isHoldOrTrack}
 use Rattle.guarantee.proofs.Answers.{outcome-shows, same-answer, same-reading, same-save}
 use Rattle.guarantee.proofs.Capped.{cappedOutcome, capped-twice, now-capped}
+use Rattle.guarantee.proofs.Earlier.{earlier-after}
 use Rattle.guarantee.proofs.Faults.{fault-after}
 use Rattle.guarantee.proofs.Limits.{within-after}
 use Rattle.guarantee.proofs.Modes.{mode-is-first}
@@ -105,6 +107,7 @@ guarantee word calls rs c l =
     record {
       mode-first = first;
       open-scans-counted = open-count-after word calls;
+      earlier-scans-remembered = earlier-after word calls;
       fault-stands = rw e (fault-after word calls);
       within-limits = λ mode q outside.
           rw e (within-after word calls
@@ -121,13 +124,15 @@ guarantee word calls rs c l =
     }
 
 -- every call's `requires` holds at every controller that the calls return: it shuts no call out
-pub ready : (word : ℕ) (calls : Calls) (rs : List Response) (c : Controller) → Linked word calls rs c → Ready c
+pub ready : AlwaysReady
 ready word calls rs c l =
     let valid : Valid c = rw (linked l) (valid-after word calls) in
     record {
+      fresh-ready = λ word. tt;
       scan-ready = λ i. valid;
       write-ready = λ n v. valid;
       restart-ready = λ life image. tt;
       read-ready = λ n. valid;
       save-ready = λ life buffer. valid;
+      valid = valid;
     }

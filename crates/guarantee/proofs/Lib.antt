@@ -3,13 +3,11 @@ pub mod Bound
 pub mod Brought
 pub mod Capped
 pub mod Counting
+pub mod Earlier
+pub mod ExactOutput
 pub mod Existence
 pub mod Faults
 pub mod Guarantee
-pub mod Images
 pub mod Limits
 pub mod Modes
 pub mod Ours
-pub mod Refusals
-pub mod Restarts
-pub mod Saves

@@ -24,11 +24,12 @@ use Rattle.controller.specs.declared.Controller.{Controller}
 use Rattle.controller.specs.declared.Core.{Core}
 use Rattle.guarantee.specs.Claim.{capped}
 use Rattle.guarantee.specs.Count.{openAfter, openScans, automaticScans}
-use Rattle.guarantee.specs.Exact.{Call, scan, write, restart, Calls, none, _then_, oneMore}
-use Rattle.guarantee.specs.Exact.{outcomeOf, exactOutcome, exactAfter, exact, exactAnswer}
+use Rattle.guarantee.specs.Exact.{Call, scan, write, restart, Calls, none, _then_, oneMore, outcomeOf, exactOutcome, exactAfter}
+use Rattle.guarantee.specs.Exact.{exact, exactAnswer}
 use Rattle.guarantee.proofs.Bound.{Divides, keeps, sets, instruction-sound, executed-near}
 use Rattle.guarantee.proofs.Capped.{cappedOutcome, outcome-capped}
 use Rattle.guarantee.proofs.Counting.{counts}
+use Rattle.guarantee.proofs.ExactOutput.{outcome-is}
 
 unfoldable pub ours : ℕ → Calls → Controller
 ours word none = freshController word
@@ -87,7 +88,7 @@ pub bound-after : (word : ℕ) (xs : Calls) → Near (ours word xs .output) (exa
 unfolding ours exact exactAfter exactAnswer automaticScans freshController responseFrom controllerAfter storedUnits cappedOutcome
 bound-after word none = whole-near (pos 0) 0
 bound-after word (xs then x) =
-    rw (outcomes word xs x, counts)
+    rw (outcomes word xs x, counts, outcome-is (exact word xs .core) x (exact word xs .output))
     (executed-near (exactOutcome (exact word xs) x .instruction) (ours word xs .output) (exact word xs .output) (automaticScans word xs)
     (outcome-sound (exact word xs .core) x (exact-legal word xs)) (bound-after word xs))
 

@@ -1,13 +1,12 @@
--- The parts of demand 3, written out again from document 01's words. Shared with the rules are the types of
--- the state and of the answers, the bits of a word, the value of a parameter, what a read answers, the
--- bytes of an image, and the exact controller. The conditions, their order, 85, the limits and what a word
--- shows of the mode stand here a second time, so that a rule isn't judged by itself.
+-- The parts of demand 3, written out again from document 01's words. Shared with the rules are the types of the state
+-- and of the answers, the bits of a word, the value of a parameter, what a read answers, the bytes of an image, and
+-- the exact controller's steps but for the output. The limits and what a word shows of the mode stand here a second
+-- time, so that a rule isn't judged by itself.
 use mathlib.Core.Path.{_≡_}
-use mathlib.Core.Bool.{Bool, true, false, not, _&&_, _||_}
 use mathlib.Core.List.{List, [], _∷_, _++_}
-use mathlib.Core.Option.{Option, some}
+use mathlib.Core.Option.{some}
 use Prim.Native.Nat.{ℕ, _+_, _-_, _*_, _/_, min}
-use lib.Dec.{leb, ltb}
+use lib.Dec.{ltb}
 use lib.IntN.{pos, _*ℤ_}
 use lib.ListN.{length, drop}
 use lib.Signed.{_≤ℤ_, _<ℤ_}
@@ -15,8 +14,6 @@ use Rattle.integers.specs.Choice.{if_then_else_}
 use Rattle.signals.specs.Bits.{bit}
 use Rattle.modes.specs.declared.Mode.{Mode}
 use Rattle.modes.specs.declared.Mode.the-variants.{Hold, Track, Forced, Manual, Auto, Remote, Ratio, Fallback}
-use Rattle.modes.specs.declared.Request.{Request}
-use Rattle.modes.specs.declared.Request.the-variants as request
 use Rattle.parameters.specs.Table.{value}
 use Rattle.settings.specs.Settings.{imageOf}
 use Rattle.controller.specs.Answers.{Reply, words, reading, acceptance, number, Response}
@@ -26,55 +23,9 @@ use Rattle.controller.specs.Scan.{Status, status, accepts, refusedWith}
 use Rattle.controller.specs.declared.Controller.{Controller}
 use Rattle.controller.specs.declared.Core.{Core}
 use Rattle.guarantee.specs.Exact.{Call, Calls, none, _then_, exact, exactAnswer}
-
--- ---- the mode is the first in the priority order whose condition is present
-
-unfoldable pub requests : Request → Request → Bool
-requests request.Manual request.Manual = true
-requests request.Manual request.Auto = false
-requests request.Manual request.Remote = false
-requests request.Auto request.Manual = false
-requests request.Auto request.Auto = true
-requests request.Auto request.Remote = false
-requests request.Remote request.Manual = false
-requests request.Remote request.Auto = false
-requests request.Remote request.Remote = true
-
--- step 3: "Hold (pin 0); Track (pin 1); Forced Manual (a cause); Manual (request M); Auto (request A);
--- Remote (request R, Remote pin 1, S2.1 OFF) or Ratio (same, S2.1 ON); Fall-back (request R, Remote pin
--- 0)"; step 2: "A cause is the memory fault, or the 85th and later consecutive open scan"
-unfoldable pub condition : Core → Mode → Bool
-condition c Hold = not (bit (c .conditions .pins) 7)
-condition c Track = bit (c .conditions .pins) 6
-condition c Forced = c .conditions .fault || leb 85 (c .conditions .opencount)
-condition c Manual = requests request.Manual (c .conditions .request)
-condition c Auto = requests request.Auto (c .conditions .request)
-condition c Remote = requests request.Remote (c .conditions .request) && bit (c .conditions .pins) 5 && not (bit (c .sw) 15)
-condition c Ratio = requests request.Remote (c .conditions .request) && bit (c .conditions .pins) 5 && bit (c .sw) 15
-condition c Fallback = requests request.Remote (c .conditions .request) && not (bit (c .conditions .pins) 5)
-
-unfoldable pub priority : List Mode
-priority = Hold ∷ Track ∷ Forced ∷ Manual ∷ Auto ∷ Remote ∷ Ratio ∷ Fallback ∷ []
-
-unfoldable pub first : (Mode → Bool) → List Mode → Option Mode
-first present [] = Option.none
-first present (m ∷ ms) = if present m then some m else first present ms
-
--- the mode of a state, by its conditions
-abbrev pub modeIn : Core → Option Mode
-modeIn c = first (condition c) priority
+use Rattle.guarantee.specs.Modes.{modeIn}
 
 -- ---- outside Hold and Track the stored output is within its limits
-
-abbrev pub isHoldOrTrack : Mode → Bool
-isHoldOrTrack Hold = true
-isHoldOrTrack Track = true
-isHoldOrTrack Forced = false
-isHoldOrTrack Manual = false
-isHoldOrTrack Auto = false
-isHoldOrTrack Remote = false
-isHoldOrTrack Ratio = false
-isHoldOrTrack Fallback = false
 
 -- LO is parameter 16 and HO parameter 15, in units; a unit is 65,536 of the stored output
 pub record WithinLimits (c : Controller) : Type 0 where

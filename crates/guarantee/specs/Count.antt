@@ -1,63 +1,20 @@
--- Demand 3's n, the automatic scans since the output was last set outright, by document 01, "The exact
--- controller"; and the consecutive open scans. "In demand 3 the conditions of step 3, the accepted
--- automatic scans and the outright settings are read from the exact controller."
+-- What the list of calls tells, by which of them were accepted: the consecutive open scans, what is remembered of
+-- earlier scans, and demand 3's n, the automatic scans since the output was last set outright. "In demand 3 the
+-- conditions of step 3, the accepted automatic scans and the outright settings are read from the exact controller."
 use mathlib.Core.Bool.{Bool, true, false, not, _&&_, _||_}
-use mathlib.Core.Option.{Option, some}
 use Prim.Native.Nat.{ℕ, _+_}
-use lib.Dec.{eqb}
+use lib.IntN.{ℤ}
 use Rattle.integers.specs.Choice.{if_then_else_}
 use Rattle.signals.specs.Bits.{bit}
-use Rattle.modes.specs.declared.Mode.{Mode}
-use Rattle.modes.specs.declared.Mode.the-variants.{Hold, Track, Forced, Manual, Auto, Remote, Ratio, Fallback}
-use Rattle.controller.specs.Scan.{Status, status, accepts, refusedWith}
+use Rattle.outputs.specs.declared.History.{History}
+use Rattle.outputs.specs.declared.History.the-variants.{Nothing, One, Two}
+use Rattle.controller.specs.Scan.{Status}
 use Rattle.controller.specs.declared.Core.{Core}
-use Rattle.guarantee.specs.Claim.{modeIn}
-use Rattle.guarantee.specs.Exact.{Call, scan, write, restart, Calls, none, _then_, exact, exactAnswer}
+use Rattle.guarantee.specs.Exact.{Call, scan, write, restart, Calls, none, _then_, isAccepted, exact, exactAnswer}
+use Rattle.guarantee.specs.ExactOutput.{toMinimum}
+use Rattle.guarantee.specs.Modes.{modeIn, automaticMode, trackMode, manualOrForced}
 
--- ---- by the mode, as its conditions give it
-
--- "Auto, Remote, Ratio and Fall-back are automatic."
-abbrev pub automatic : Option Mode → Bool
-automatic (some Auto) = true
-automatic (some Remote) = true
-automatic (some Ratio) = true
-automatic (some Fallback) = true
-automatic (some Hold) = false
-automatic (some Track) = false
-automatic (some Forced) = false
-automatic (some Manual) = false
-automatic Option.none = false
-
--- the mode Track
-abbrev pub tracks : Option Mode → Bool
-tracks (some Track) = true
-tracks (some Hold) = false
-tracks (some Forced) = false
-tracks (some Manual) = false
-tracks (some Auto) = false
-tracks (some Remote) = false
-tracks (some Ratio) = false
-tracks (some Fallback) = false
-tracks Option.none = false
-
--- "Manual and Forced"
-abbrev pub manualOrForced : Option Mode → Bool
-manualOrForced (some Manual) = true
-manualOrForced (some Forced) = true
-manualOrForced (some Hold) = false
-manualOrForced (some Track) = false
-manualOrForced (some Auto) = false
-manualOrForced (some Remote) = false
-manualOrForced (some Ratio) = false
-manualOrForced (some Fallback) = false
-manualOrForced Option.none = false
-
--- ---- the count
-
-abbrev pub isAccepted : Status → Bool
-isAccepted (status md ds) = true
-isAccepted accepts = true
-isAccepted (refusedWith n) = false
+-- ---- the open scans
 
 -- consecutive open scans, told by the calls and by which of them were accepted: an accepted open scan
 -- is one more, an accepted scan that isn't open starts anew, and so does an accepted restart; a refused
@@ -71,21 +28,39 @@ unfoldable pub openScans : ℕ → Calls → ℕ
 openScans word none = 0
 openScans word (xs then x) = openAfter x (exactAnswer word xs x) (openScans word xs)
 
--- "on the 85th open scan, if the mode just before this scan was automatic and S2.5 is ON". The exact
--- controller counts on, so its count is 85 only then
-unfoldable pub toMinimum : Core → Core → Bool
-toMinimum before now = eqb (now .conditions .opencount) 85 && automatic (modeIn before) && bit (now .sw) 11
+-- ---- what is remembered of earlier scans: the PV and SP of the last one, and the PV of the one before
+
+abbrev pub remember : ℤ → ℤ → History → History
+remember pv sp Nothing = One pv sp
+remember pv sp (One pv1 sp1) = Two pv sp pv1
+remember pv sp (Two pv1 sp1 pv2) = Two pv sp pv1
+
+-- step 7: "An open scan forgets earlier PV and SP and isn't remembered; others are."; a refused call and a write
+-- leave it; "All earlier PV and SP are forgotten." by an accepted restart
+unfoldable pub earlierAfter : Core → Call → Status → History → History
+earlierAfter now (scan i) answer h =
+    if not (isAccepted answer) then h else
+    if bit (i .sensors) 0 then Nothing else remember (now .readings .pv) (now .readings .sp) h
+earlierAfter now (write number value) answer h = h
+earlierAfter now (restart image) answer h = if isAccepted answer then Nothing else h
+
+-- "no earlier PV or SP remembered" by a fresh controller
+unfoldable pub earlier : ℕ → Calls → History
+earlier word none = Nothing
+earlier word (xs then x) = earlierAfter (exact word (xs then x) .core) x (exactAnswer word xs x) (earlier word xs)
+
+-- ---- n
 
 -- "Track, minimum, start fresh and accepted restart set the output outright": an accepted scan in
 -- Track, or one in Manual or Forced that goes to minimum, or an accepted restart
 unfoldable pub setsOutright : Core → Core → Call → Bool
-setsOutright before now (scan i) = tracks (modeIn now) || manualOrForced (modeIn now) && toMinimum before now
+setsOutright before now (scan i) = trackMode (modeIn now) || manualOrForced (modeIn now) && toMinimum before now
 setsOutright before now (write number value) = false
 setsOutright before now (restart image) = true
 
 -- step 6: "Automatic and open: kept. Automatic otherwise, an automatic scan"
 unfoldable pub isAutomaticScan : Core → Call → Bool
-isAutomaticScan now (scan i) = automatic (modeIn now) && not (bit (i .sensors) 0)
+isAutomaticScan now (scan i) = automaticMode (modeIn now) && not (bit (i .sensors) 0)
 isAutomaticScan now (write number value) = false
 isAutomaticScan now (restart image) = false
 

@@ -13,11 +13,12 @@ use Rattle.controller.specs.Answers.{Response, replyOfVerdict, replyOfRead}
 use Rattle.controller.specs.Scan.{modeNow}
 use Rattle.controller.specs.declared.Controller.{Controller}
 use Rattle.controller.specs.declared.ReadAnswer.{ReadAnswer}
-use Rattle.guarantee.specs.Claim.{modeIn, isHoldOrTrack, WithinLimits, capped, SameAnswers, SameReading, SameSave}
-use Rattle.guarantee.specs.Count.{openScans, automaticScans}
+use Rattle.guarantee.specs.Claim.{WithinLimits, capped, SameAnswers, SameReading, SameSave}
+use Rattle.guarantee.specs.Count.{openScans, earlier, automaticScans}
 use Rattle.guarantee.specs.Exact.{Calls, exact}
 use Rattle.guarantee.specs.Fault.{faultStands}
 use Rattle.guarantee.specs.Linked.{ReadEnsures, SaveEnsures, Slice, Lifetime}
+use Rattle.guarantee.specs.Modes.{modeIn, isHoldOrTrack}
 
 pub record Demand3 (word : ℕ) (calls : Calls) (rs : List Response) (c : Controller) : Type 0 where
   -- the mode is the first in the priority order whose condition is present; conditions are read from
@@ -25,6 +26,8 @@ pub record Demand3 (word : ℕ) (calls : Calls) (rs : List Response) (c : Contro
   pub mode-first : modeIn (exact word calls .core) ≡ some (modeNow (c .core))
   -- and the count of open scans behind Forced Manual is the one that the accepted calls of the list give
   pub open-scans-counted : exact word calls .core .conditions .opencount ≡ openScans word calls
+  -- the earlier PVs and SP are those of the accepted scans of the list
+  pub earlier-scans-remembered : exact word calls .core .history ≡ earlier word calls
   -- the memory fault stands exactly when document 01 says so
   pub fault-stands : c .core .conditions .fault ≡ faultStands word calls
   -- outside Hold and Track, by the conditions again, the stored output is within its limits

@@ -1,16 +1,18 @@
--- Document 01, "The exact controller": the same steps and rules, its own copy of every state item, the
--- output a fraction, the terms unrounded. It is fed the switch word and the calls, and nothing of ours.
+-- Document 01, "The exact controller": the same steps and rules, its own copy of every state item, the output a
+-- fraction by its own text, the terms unrounded. It is fed the switch word and the calls, and nothing of ours.
+use mathlib.Core.Bool.{Bool, true, false}
 use mathlib.Core.List.{List}
 use Prim.Native.Nat.{ℕ, _+_}
 use lib.IntN.{ℤ, pos}
+use Rattle.integers.specs.Choice.{if_then_else_}
 use Rattle.signals.specs.declared.Input.{Input}
 use Rattle.terms.specs.Fraction.{Fraction, whole}
-use Rattle.outputs.specs.Instruction.{exactArithmetic, executed}
 use Rattle.controller.specs.Restart.{restartCore}
-use Rattle.controller.specs.Scan.{Status, Outcome, scanCore}
+use Rattle.controller.specs.Scan.{Status, status, accepts, refusedWith, Outcome, scanCore}
 use Rattle.controller.specs.State.{freshCore}
 use Rattle.controller.specs.Write.{writeCore}
 use Rattle.controller.specs.declared.Core.{Core}
+use Rattle.guarantee.specs.ExactOutput.{scanOutput, writeOutput, restartOutput}
 
 -- ---- calls, and lists of them, the latest last
 
@@ -47,9 +49,26 @@ oneMore n = n + 1
 abbrev pub exactOutcome : Exact → Call → Outcome
 exactOutcome c x = outcomeOf oneMore (c .core) x
 
--- "the same steps and rules, declined calls included, but .. its limited terms are added unrounded"
+abbrev pub isAccepted : Status → Bool
+isAccepted (status md ds) = true
+isAccepted accepts = true
+isAccepted (refusedWith n) = false
+
+-- the output after an accepted call, which was made in the state `before` and left the state `now`
+unfoldable pub outputAfter : Core → Core → Call → Fraction → Fraction
+outputAfter before now (scan i) output = scanOutput before now i output
+outputAfter before now (write n v) output = writeOutput before now n output
+outputAfter before now (restart image) output = restartOutput now image
+
+-- "the same steps and rules, declined calls included, but its output is a fraction of two whole numbers and its
+-- limited terms are added unrounded": a declined call leaves the output
 unfoldable pub exactAfter : Exact → Call → Exact
-exactAfter c x = let o = exactOutcome c x in record { core = o .next; output = executed exactArithmetic (o .instruction) (c .output) }
+exactAfter c x =
+    let o = exactOutcome c x in
+    record {
+      core = o .next;
+      output = if isAccepted (o .answer) then outputAfter (c .core) (o .next) x (c .output) else c .output;
+    }
 
 -- "fed the same switch word and, call by call, the same arguments except the controller"
 unfoldable pub exact : ℕ → Calls → Exact

@@ -1,8 +1,9 @@
+pub mod Bytes
 pub mod Claim
 pub mod Count
 pub mod Demand
 pub mod Exact
+pub mod ExactOutput
 pub mod Fault
-pub mod Images
 pub mod Linked
-pub mod Refusals
+pub mod Modes

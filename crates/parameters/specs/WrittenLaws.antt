@@ -107,6 +107,42 @@ module _ (p : Parameters) (legal : Legal p) (k : ℕ) (v : ℤ) (first : 1 ≤ k
       (λ f. anew-other next next-size 20 10 9 (omega arith) 21 (λ q. omega arith) ∙ next-is 21) (λ f d. never (sym e ∙ d))
       (λ f d. next-is 21)
 
+  -- ---- every value after the write: the one that was written, SL or RS limited anew, or as it was
+
+  unfoldable pub valueAfter : ℕ → ℤ
+  valueAfter n =
+      let g = value (written p k v) in
+      if eqb n k then v else
+      if eqb n 20 && isFrom k 9 10 then limited (g 10) (g 9) (value p 20) else
+      if eqb n 21 && isFrom k 7 8 then limited (g 8) (g 7) (value p 21) else value p n
+
+  setpoint-after : value (written p k v) 20 ≡ valueAfter 20
+  unfolding valueAfter
+  setpoint-after =
+      by-cases (λ (z : ℤ). value (written p k v) 20 ≡ (if eqb 20 k then v else z)) (isFrom k 9 10) _ (value p 20)
+      (λ e. let h = is-from k 9 10 e in
+      let own = ne-eqb 20 k (λ q. omega arith) in
+      setpoint-anew e ∙ rw (next-is 20, own) refl)
+      setpoint-stays
+
+  ratio-after : value (written p k v) 21 ≡ valueAfter 21
+  unfolding valueAfter
+  ratio-after =
+      by-cases (λ (z : ℤ). value (written p k v) 21 ≡ (if eqb 21 k then v else z)) (isFrom k 7 8) _ (value p 21)
+      (λ e. let h = is-from k 7 8 e in
+      let own = ne-eqb 21 k (λ q. omega arith) in
+      ratio-anew e ∙ rw (next-is 21, own) refl)
+      ratio-stays
+
+  pub written-values : (n : ℕ) → value (written p k v) n ≡ valueAfter n
+  unfolding valueAfter
+  written-values n = go (eqb n 20) refl (eqb n 21) refl
+    where
+      go : (s : Bool) → eqb n 20 ≡ s → (r : Bool) → eqb n 21 ≡ r → value (written p k v) n ≡ valueAfter n
+      go true e r d = subst (λ (m : ℕ). value (written p k v) m ≡ valueAfter m) (sym (eqb-true n 20 e)) setpoint-after
+      go false e true d = subst (λ (m : ℕ). value (written p k v) m ≡ valueAfter m) (sym (eqb-true n 21 d)) ratio-after
+      go false e false d = elsewhere n (eqb-false n 20 e) (eqb-false n 21 d) ∙ rw (e, d) refl
+
   module _ (range : inRange (ruleOf k) (value p) v ≡ true) (order : pairInOrder (ruleOf k) (value p) k v ≡ true) where
     module _ (n : ℕ) (other : Other n) where
       abbrev g : ℕ → ℤ

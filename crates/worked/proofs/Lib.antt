@@ -1,4 +1,2 @@
-pub mod ModelScans
-pub mod ModelRestarts
-pub mod ModelWrites
+pub mod ModelCalls
 pub mod Worked

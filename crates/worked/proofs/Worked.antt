@@ -1,4 +1,5 @@
--- Document 01's figures worked by hand hold of the rules: each side of each equation computes to the same number.
+-- Document 01's figures worked by hand, and further ones, hold of the rules: each side of each equation computes to the
+-- same number.
 use mathlib.Core.Path.{_≡_, refl}
 use mathlib.Core.List.{[], _∷_}
 use Prim.Native.Nat.{ℕ}
@@ -38,7 +39,7 @@ use Rattle.controller.specs.State.{freshController}
 use Rattle.controller.specs.Write as w
 use Rattle.controller.specs.Write.{write}
 use Rattle.controller.specs.declared.Controller.{Controller}
-use Rattle.worked.specs.Figures.{AllHold, firstScan, figures}
+use Rattle.worked.specs.Figures.{AllHold, firstScan, figures, furtherFigures}
 
 infixr 5 _and_
 pub _and_ : {A B : Type 0} → A → B → A × B
@@ -70,22 +71,25 @@ unfolding c.savedImage c.settingsNow c.settingsOf State.freshController State.fr
 image-figure sw = refl
 
 pub worked : AllHold figures
-unfolding figures o.changed o.exactArithmetic plus proportionalTerm integralTerm derivativeTerm limitedTerm storedTerm
-    whole atLeast atMost limited stored storedUnits nearestEven nearestAway halfEven halfUp scaled ratioQuotient
-    inverseQuotient counted openCountAfter byteOf mdHigh mdLow MD dsLow DS buttonsOf pinsOf switchesOf
+unfolding figures proportionalTerm integralTerm derivativeTerm limitedTerm storedTerm whole atLeast atMost limited stored
+    storedUnits nearestEven nearestAway halfEven halfUp scaled ratioQuotient inverseQuotient counted openCountAfter
+    byteOf mdHigh mdLow MD dsLow DS buttonsOf pinsOf switchesOf
 worked =
-    (lit< tt, lit< tt, refl) and refl and
-    (lit< tt, lit< tt, refl) and refl and
     (lit< tt, lit< tt, refl) and
-    refl and
     (lit< tt, lit< tt, refl) and refl and
+    refl and
+    (lit< tt, lit< tt, refl) and
     refl and refl and
     refl and refl and
     refl and
     refl and refl and
     refl and
     refl and
-    scan-figure and
     (λ c. write-figures c .0) and (λ c. write-figures c .1) and
     image-figure and
     tt
+
+pub further-figures-hold : AllHold furtherFigures
+unfolding furtherFigures o.changed o.exactArithmetic plus proportionalTerm integralTerm derivativeTerm limitedTerm
+    storedTerm whole atLeast atMost limited stored storedUnits nearestEven halfEven
+further-figures-hold = refl and refl and (lit< tt, lit< tt, refl) and scan-figure and tt

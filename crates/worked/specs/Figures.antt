@@ -1,5 +1,5 @@
 -- Document 01, "Worked by hand (all to be proved)": one list of statements about the rules, in the paper's order.
--- proofs/Worked.antt proves it.
+-- Further figures, which are ours, stand in a list of their own behind it. proofs/Worked.antt proves both.
 use mathlib.Core.Path.{_≡_}
 use mathlib.Core.Bool.{true, false}
 use mathlib.Core.List.{List, [], _∷_}
@@ -38,10 +38,6 @@ Equal f g = Positive f × Positive g × (f .numerator *ℤ pos (g .denominator) 
 abbrev pub example : ℕ → ℕ → Tuning
 example ti td = record { xp = 1000; span = 1000; ti = ti; td = td; minutes = false; inverted = false }
 
--- the three terms of a change c - c1, of c and of D
-abbrev pub termsFrom : Tuning → ℕ → ℕ → ℕ → Change
-termsFrom t change c d = addTerms (proportionalTerm t (pos change)) (integralTerm t (pos c)) (derivativeTerm t (pos d))
-
 -- the count that so many consecutive open scans leave
 abbrev pub afterOpenScans : ℕ → ℕ
 afterOpenScans zero = 0
@@ -51,24 +47,17 @@ afterOpenScans (suc n) = openCountAfter counted true (afterOpenScans n)
 abbrev pub inAuto : ℕ → Conditions
 inAuto pins = record { request = request.Auto; fault = false; opencount = 0; pins = pins }
 
-abbrev pub firstScan : Input
-firstScan = record { pins = 0x91; sample1 = 5000; sample2 = 0; sample3 = 0; buttons = 2; sensors = 0 }
-
 unfoldable pub figures : List (Type 0)
 figures =
     -- "c - c1 = 1 gives 10 units"
     Equal (limitedTerm (proportionalTerm (example 0 0) (pos 1))) (whole (pos 10))
-    ∷ (storedTerm (proportionalTerm (example 0 0) (pos 1)) ≡ pos 655360)
     -- "c = 1, TI 10 gives 0.36 units, 23,593 stored"
     ∷ Equal (limitedTerm (integralTerm (example 10 0) (pos 1))) (record { numerator = pos 36; denominator = 100 })
     ∷ (storedTerm (integralTerm (example 10 0) (pos 1)) ≡ pos 23593)
-    -- the exact controller's output with that term and two that are 0: "its limited terms are added unrounded"
-    ∷ Equal (changed exactArithmetic (termsFrom (example 10 0) 0 1 0) (whole (pos 0))) (record { numerator = pos 36; denominator = 100 })
     -- "D = 1, TD 10 gives -18,204,444 stored"
     ∷ (storedTerm (derivativeTerm (example 0 10) (pos 1)) ≡ negℤ (pos 18204444))
     -- "D = 100 gives -10,000 units"
     ∷ Equal (limitedTerm (derivativeTerm (example 0 10) (pos 100))) (whole (negℤ (pos 10000)))
-    ∷ (storedTerm (derivativeTerm (example 0 10) (pos 100)) ≡ negℤ (pos 655360000))
     -- "Range 0..1: sample 4999 is 0, 5000 is 1."
     ∷ (scaled (pos 0) (pos 1) 4999 ≡ pos 0)
     ∷ (scaled (pos 0) (pos 1) 5000 ≡ pos 1)
@@ -84,11 +73,28 @@ figures =
     ∷ (MD Auto (inAuto 0x80) (record { user1 = false; user2 = false; measuredpower = true }) startIndications ≡ 0x1010)
     -- "Pins 91h in Auto, healthy: DS 913Fh."
     ∷ (DS Auto (inAuto 0x91) (record { user1 = false; user2 = false; measuredpower = false }) startIndications ≡ 0x913F)
-    -- the same of a whole scan: started fresh with SW 0, pins 91h, PV 500, A pressed
-    ∷ (scan (freshController 0) firstScan .answer ≡ words 0x1002 0x913F 0 0)
     -- "Writing 0000h or 1800h to MD: 9.", whatever the state, and the controller stays
     ∷ ((c : Controller) → write c 24 (pos 0x0000) ≡ record { next = c; answer = number 9 })
     ∷ ((c : Controller) → write c 24 (pos 0x1800) ≡ record { next = c; answer = number 9 })
     -- "A fresh image's sumcheck is AC42h.", whatever the switch word: the image's last field
     ∷ ((sw : ℕ) → drop 132 (savedImage (freshController sw)) ≡ 0x7F ∷ 0 ∷ 2 ∷ 0xAC ∷ 0x42 ∷ [])
+    ∷ []
+
+-- the three terms of a change c - c1, of c and of D
+abbrev pub termsFrom : Tuning → ℕ → ℕ → ℕ → Change
+termsFrom t change c d = addTerms (proportionalTerm t (pos change)) (integralTerm t (pos c)) (derivativeTerm t (pos d))
+
+abbrev pub firstScan : Input
+firstScan = record { pins = 0x91; sample1 = 5000; sample2 = 0; sample3 = 0; buttons = 2; sensors = 0 }
+
+-- Ours, beside the paper's figures
+unfoldable pub furtherFigures : List (Type 0)
+furtherFigures =
+    -- the 10 units and the -10,000 units as they are stored
+    (storedTerm (proportionalTerm (example 0 0) (pos 1)) ≡ pos 655360)
+    ∷ (storedTerm (derivativeTerm (example 0 10) (pos 100)) ≡ negℤ (pos 655360000))
+    -- the exact controller's output with the term of 0.36 units and two of 0: "its limited terms are added unrounded"
+    ∷ Equal (changed exactArithmetic (termsFrom (example 10 0) 0 1 0) (whole (pos 0))) (record { numerator = pos 36; denominator = 100 })
+    -- a whole scan: started fresh with SW 0, pins 91h, PV 500, A pressed
+    ∷ (scan (freshController 0) firstScan .answer ≡ words 0x1002 0x913F 0 0)
     ∷ []

@@ -1,0 +1,14 @@
+pub mod Images
+pub mod Limits
+pub mod Places
+pub mod ReadValues
+pub mod RefusalCauses
+pub mod Refusals
+pub mod Restarts
+pub mod Saves
+pub mod Scans
+pub mod Setpoints
+pub mod StoredOutputs
+pub mod Units
+pub mod Words
+pub mod Writes

@@ -1,0 +1,213 @@
+-- A call is refused for its listed causes, and for no other.
+use mathlib.Core.Path.{_≡_, refl, sym, ap, subst, _∙_}
+use mathlib.Core.Bool.{Bool, true, false, not, _&&_, _||_}
+use mathlib.Core.List.{[]}
+use mathlib.Core.Option.{Option, some, none}
+use Prim.Native.Nat.{ℕ, _+_, _≤_}
+use native.Mathlib.Omega.{arith}
+use lib.Dec.{eqb, ltb}
+use lib.IntN.{ℤ, pos, natAbs}
+use lib.Signed.{leZ}
+use borrow.Author.Tests.{eqb-true, eqb-false, ne-eqb, ltb-true, ltb-false, lt-ltb, le-ltb}
+use Rattle.integers.specs.Choice.{if_then_else_}
+use Rattle.integers.specs.Operations as operations
+use Rattle.integers.specs.Parts.{integers, apart}
+use Rattle.integers.specs.Listed.{listed, listed-same}
+use Rattle.signals.specs.Bits.{bit}
+use Rattle.signals.specs.Refusals.{refusedBy, scanTests}
+use Rattle.signals.specs.Signals.{switchesOf, pinsOf}
+use Rattle.signals.specs.declared.Input.{Input}
+use Rattle.modes.specs.Modes.{counted, setsSetpoint}
+use Rattle.modes.specs.declared.Mode.{Mode}
+use Rattle.modes.specs.declared.Mode.the-variants.{Hold, Track, Forced, Manual, Auto, Remote, Ratio, Fallback}
+use Rattle.words.specs.Written.{exactlyOne, mdTests}
+use Rattle.parameters.specs.Legal.{unknownRefusal, readOnlyRefusal, inRange, pairInOrder}
+use Rattle.parameters.specs.LegalLaws.{inside}
+use Rattle.parameters.specs.RuleLaws.{row, row-beyond}
+use Rattle.parameters.specs.Table.{value, ruleOf}
+use Rattle.controller.specs.Answers.{number, Response}
+use Rattle.controller.specs.Read as reads
+use Rattle.controller.specs.Read.{readBy, readIn}
+use Rattle.controller.specs.Scan as rules
+use Rattle.controller.specs.Scan.{modeNow, accepted, statusOf, scanCore, responseFrom}
+use Rattle.controller.specs.Write as writes
+use Rattle.controller.specs.Write.{wordOf, setpointTests, stateTests, writeTests, writeAccepted, writeCore}
+use Rattle.controller.specs.declared.Controller.{Controller}
+use Rattle.controller.specs.declared.Core.{Core}
+use Rattle.guarantee.specs.Modes.{automaticMode}
+use Rattle.guarantee.proofs.Faults.{kept-or-cleared}
+use Rattle.guarantee.proofs.Modes.{mode-is-first}
+use Rattle.promises.specs.Refusals.{refusalIn}
+use Rattle.promises.specs.RefusalCauses.{scanRefusal, ScanRefusals, replaced, setpointRefused, requestBits, wordRefusal, writeRefusal}
+use Rattle.promises.specs.RefusalCauses.{WriteRefusals, ReadRefusals, RefusalNumbers}
+use Rattle.promises.specs.Table.{least, most, inOrder}
+use Rattle.promises.specs.Words.{remoteOrRatio}
+use Rattle.promises.proofs.Refusals.{refusal-is}
+
+-- ---- scans
+
+pub scan-tests : (i : Input) → refusedBy (scanTests i) ≡ scanRefusal i
+unfolding scanTests refusedBy scanRefusal
+scan-tests i = refl
+
+scan-refusal : (d : Controller) (i : Input) → refusalIn (rules.scan d i .answer) ≡ scanRefusal i
+unfolding rules.scan scanCore responseFrom accepted statusOf
+scan-refusal d i = refusal-is d (refusedBy (scanTests i)) (accepted counted (d .core) i) refl ∙ scan-tests i
+
+pub scan-refusals : ScanRefusals
+scan-refusals d i r e = ap (λ (h : Response). refusalIn (h .answer)) e ∙ scan-refusal d i
+
+-- ---- writes: the rows of the table, by its columns
+
+module _ (values : ℕ → ℤ) (n : ℕ) (v : ℤ) (first : 1 ≤ n) (last : n ≤ 25) where
+  none-named : unknownRefusal (ruleOf n) ≡ none
+  unfolding ruleOf listed
+  none-named = listed-same (λ (m : ℕ). unknownRefusal (ruleOf m)) (λ (m : ℕ). none) 1 25 n refl first (omega arith)
+
+  none-read-only : readOnlyRefusal (ruleOf n) ≡ none
+  unfolding ruleOf listed
+  none-read-only = listed-same (λ (m : ℕ). readOnlyRefusal (ruleOf m)) (λ (m : ℕ). none) 1 25 n refl first (omega arith)
+
+  range-is : inRange (ruleOf n) values v ≡ (leZ (least values n) v && leZ v (most values n))
+  unfolding ruleOf listed least most
+  range-is =
+      listed-same (λ (m : ℕ). inRange (ruleOf m) values v) (λ (m : ℕ). leZ (least values m) v && leZ v (most values m)) 1 25 n refl first
+      (omega arith)
+
+  order-is : pairInOrder (ruleOf n) values n v ≡ inOrder (replaced values n v) n
+  unfolding ruleOf listed inOrder
+  order-is =
+      listed-same (λ (m : ℕ). pairInOrder (ruleOf m) values m v) (λ (m : ℕ). inOrder (replaced values m v) m) 1 25 n refl first
+      (omega arith)
+
+-- ---- SL and MD
+
+setpoint-refused-is : (c : Core) → setsSetpoint (modeNow c) (switchesOf (c .sw) .setpointtracks) ≡ setpointRefused c
+unfolding setpointRefused switchesOf
+setpoint-refused-is c = rw (mode-is-first c) (go (modeNow c) (bit (c .sw) 10))
+  where
+    go : (m : Mode) (t : Bool) → setsSetpoint m t ≡ (remoteOrRatio (some m) || t && not (automaticMode (some m)))
+    go Hold t = refl
+    go Track t = refl
+    go Forced t = refl
+    go Manual t = refl
+    go Auto t = refl
+    go Remote t = refl
+    go Ratio t = refl
+    go Fallback t = refl
+
+one-of-three : (a b c : Bool) → exactlyOne a b c ≡ eqb ((if a then 1 else 0) + (if b then 1 else 0) + (if c then 1 else 0)) 1
+one-of-three true true true = refl
+one-of-three true true false = refl
+one-of-three true false true = refl
+one-of-three true false false = refl
+one-of-three false true true = refl
+one-of-three false true false = refl
+one-of-three false false true = refl
+one-of-three false false false = refl
+
+word-tests : (c : Core) (word : ℕ) → refusedBy (mdTests (c .conditions) word) ≡ wordRefusal c word
+unfolding mdTests refusedBy wordRefusal requestBits pinsOf
+word-tests c word =
+    rw (one-of-three (bit word 13) (bit word 12) (bit word 11), kept-or-cleared (c .conditions .fault) word) refl
+
+state-tests : (c : Core) (n : ℕ) (v : ℤ) → (n ≡ 24 → wordOf v ≡ natAbs v) →
+    refusedBy (stateTests c n v)
+    ≡ (if eqb n 20 then (if setpointRefused c then some 8 else none) else if eqb n 24 then wordRefusal c (natAbs v) else none)
+unfolding stateTests setpointTests refusedBy
+state-tests c n v word = go (eqb n 20) (eqb n 24) refl
+  where
+    go : (s t : Bool) → eqb n 24 ≡ t →
+        refusedBy (if s then setpointTests c else if t then mdTests (c .conditions) (wordOf v) else [])
+        ≡ (if s then (if setpointRefused c then some 8 else none) else if t then wordRefusal c (natAbs v) else none)
+    go true t e = rw (setpoint-refused-is c) refl
+    go false true e = rw (word (eqb-true n 24 e)) (word-tests c (natAbs v))
+    go false false e = refl
+
+-- ---- the whole
+
+-- a value in the range of MD and DS is a word
+pub word-most : (v : ℤ) → (leZ (pos 0) v && leZ v (pos 65535)) ≡ true → natAbs v ≤ 65535
+word-most v e =
+    let k = inside (pos 0) (pos 65535) v e in omega (arith, integers, k .not-below, k .not-above, operations.number v, apart v)
+
+pub word-same : (v : ℤ) → natAbs v ≤ 65535 → wordOf v ≡ natAbs v
+word-same v h = omega arith
+
+md-word : (n : ℕ) (values : ℕ → ℤ) (v : ℤ) → (leZ (least values n) v && leZ v (most values n)) ≡ true → n ≡ 24 → wordOf v ≡ natAbs v
+unfolding least most
+md-word n values v e q = word-same v (word-most v (subst (λ (m : ℕ). (leZ (least values m) v && leZ v (most values m)) ≡ true) q e))
+
+tests-in : (c : Core) (n : ℕ) (v : ℤ) → 1 ≤ n → n ≤ 25 → refusedBy (writeTests c n v) ≡ writeRefusal c n v
+unfolding writeTests writeRefusal refusedBy
+tests-in c n v first last =
+    let values = value (c .parameters) in
+    rw (
+      none-named values n v first last,
+      none-read-only values n v first last,
+      range-is values n v first last,
+      order-is values n v first last,
+      ne-eqb n 0 (λ q. omega arith),
+      le-ltb 32 n (omega arith),
+      le-ltb 25 n (omega arith),
+    )
+    (go (leZ (least values n) v && leZ v (most values n)) refl (inOrder (replaced values n v) n))
+  where
+    rest : Option ℕ
+    rest = if eqb n 20 then (if setpointRefused c then some 8 else none) else if eqb n 24 then wordRefusal c (natAbs v) else none
+
+    go : (r : Bool) → (leZ (least (value (c .parameters)) n) v && leZ v (most (value (c .parameters)) n)) ≡ r → (o : Bool) →
+        (if not r then some 6 else if not o then some 7 else refusedBy (stateTests c n v))
+        ≡ (if not r then some 6 else if not o then some 7 else rest)
+    go false e o = refl
+    go true e false = refl
+    go true e true = state-tests c n v (md-word n (value (c .parameters)) v e)
+
+-- a number that is no parameter's, one of a parameter that is read only, and the others
+by-number : (P : ℕ → Type 0) (n : ℕ) → P 0 → ((m : ℕ) → 33 ≤ m → P m) → ((m : ℕ) → 26 ≤ m → m ≤ 32 → P m) →
+    ((m : ℕ) → 1 ≤ m → m ≤ 25 → P m) → P n
+by-number P n zeroth beyond read-only others = go (eqb n 0) refl (ltb 32 n) refl (ltb 25 n) refl
+  where
+    go : (a : Bool) → eqb n 0 ≡ a → (b : Bool) → ltb 32 n ≡ b → (d : Bool) → ltb 25 n ≡ d → P n
+    go true e b f d g = subst P (sym (eqb-true n 0 e)) zeroth
+    go false e true f d g = beyond n (ltb-true 32 n f)
+    go false e false f true g = read-only n (ltb-true 25 n g) (ltb-false 32 n f)
+    go false e false f false g = let h = eqb-false n 0 e in others n (omega arith) (ltb-false 25 n g)
+
+pub write-tests : (c : Core) (n : ℕ) (v : ℤ) → refusedBy (writeTests c n v) ≡ writeRefusal c n v
+unfolding writeTests writeRefusal refusedBy ruleOf listed
+write-tests c n v =
+    by-number (λ (m : ℕ). refusedBy (writeTests c m v) ≡ writeRefusal c m v) n refl
+    (λ m h. rw (sym (row-beyond m h), ne-eqb m 0 (λ q. omega arith), lt-ltb 32 m h) refl)
+    (λ m h k. rw (sym (row 26 7 m refl h (omega arith)), ne-eqb m 0 (λ q. omega arith), le-ltb 32 m k, lt-ltb 25 m h) refl)
+    (λ m h k. tests-in c m v h k)
+
+write-refusal : (d : Controller) (n : ℕ) (v : ℤ) → refusalIn (writes.write d n v .answer) ≡ writeRefusal (d .core) n v
+unfolding writes.write writeCore responseFrom writeAccepted
+write-refusal d n v = refusal-is d (refusedBy (writeTests (d .core) n v)) (writeAccepted (d .core) n v) refl ∙ write-tests (d .core) n v
+
+pub write-refusals : WriteRefusals
+write-refusals d n v r e = ap (λ (h : Response). refusalIn (h .answer)) e ∙ write-refusal d n v
+
+-- ---- reads
+
+pub unknown-is : (n : ℕ) → unknownRefusal (ruleOf n) ≡ (if eqb n 0 || ltb 32 n then some 4 else none)
+unfolding ruleOf listed
+unknown-is n =
+    by-number (λ (m : ℕ). unknownRefusal (ruleOf m) ≡ (if eqb m 0 || ltb 32 m then some 4 else none)) n refl
+    (λ m h. rw (sym (row-beyond m h), ne-eqb m 0 (λ q. omega arith), lt-ltb 32 m h) refl)
+    (λ m h k. rw (sym (row 26 7 m refl h (omega arith)), ne-eqb m 0 (λ q. omega arith), le-ltb 32 m k) refl)
+    (λ m h k. rw (none-named (λ _. pos 0) m (pos 0) h k, ne-eqb m 0 (λ q. omega arith), le-ltb 32 m (omega arith)) refl)
+
+read-refusal : (o : Option ℕ) (v : ℤ) → refusalIn (readBy o v) ≡ o
+read-refusal none v = refl
+read-refusal (some n) v = refl
+
+pub read-refusals : ReadRefusals
+unfolding reads.read readIn
+read-refusals d n r e = ap refusalIn e ∙ read-refusal (unknownRefusal (ruleOf n)) _ ∙ unknown-is n
+
+-- ---- the number of a refusal
+
+pub refusal-numbers : RefusalNumbers
+refusal-numbers refusal n e = (ap number (sym e), ap number (sym e), ap number (sym e))

@@ -1,0 +1,155 @@
+-- Quotients by how near they are, and the setpoints that steps 4 and 5 choose, mode by mode.
+use mathlib.Core.Path.{_≡_, refl, sym, ap}
+use mathlib.Core.Bool.{Bool, true, false, not, _&&_, _||_}
+use mathlib.Core.Option.{Option, some, none}
+use Prim.Native.Nat.{ℕ, suc, _+_, _*_, _<_, _≤_}
+use native.Mathlib.Omega.{arith, by-contra}
+use lib.IntN.{ℤ, pos, negℤ, natAbs, _+ℤ_, _-ℤ_}
+use Rattle.integers.specs.Choice.{if_then_else_, never}
+use Rattle.integers.specs.Limit.{limited}
+use Rattle.integers.specs.Sign.{fromSign, isNegative}
+use Rattle.integers.specs.Rounding.{halfUp, halfUp-nearest, halfUp-up, nearestAway}
+use Rattle.signals.specs.Bits.{bit}
+use Rattle.signals.specs.Signals.{buttonsOf, adjustmentOf}
+use Rattle.signals.specs.declared.Adjustment.the-variants.{Raise, Lower, Neither}
+use Rattle.signals.specs.declared.Input.{Input}
+use Rattle.modes.specs.Modes.{isAutomatic, isRemote, isRatio, isTrack}
+use Rattle.modes.specs.declared.Mode.{Mode}
+use Rattle.modes.specs.declared.Mode.the-variants.{Hold, Track, Forced, Manual, Auto, Remote, Ratio, Fallback}
+use Rattle.scaling.specs.Root as roots
+use Rattle.scaling.specs.Root.{rootOf}
+use Rattle.scaling.specs.Scale.{scaled}
+use Rattle.setpoints.specs.Setpoints as setpoints
+use Rattle.setpoints.specs.Setpoints.{movedByHand}
+use Rattle.guarantee.specs.Modes.{automaticMode, trackMode}
+use Rattle.promises.specs.Scans.{NearestUp, Scaled, RootOf, NearestAway, moved}
+use Rattle.promises.specs.Words.{remoteOrRatio, ratioMode}
+
+-- ---- quotients
+
+pub nearest-up : (n d : ℕ) → 0 < d → NearestUp n d (halfUp n d)
+nearest-up n d h = record { not-above = halfUp-nearest n d h .not-above; below-next = halfUp-up n d h }
+
+pub scaled-is : (low high : ℤ) (sample : ℕ) → Scaled low high sample (scaled low high sample)
+unfolding scaled
+scaled-is low high sample =
+    record { quotient = halfUp (sample * natAbs (high -ℤ low)) 10000; nearest = nearest-up _ 10000 (omega arith); above = refl }
+
+pub root-found : (s : ℕ) → s ≤ 10000 → RootOf s (rootOf s)
+root-found s h =
+    let g = roots.root-is s h in
+    let r = rootOf s in
+    record {
+      fits = g .fits;
+      greatest = by-contra (suc (10000 * s)) ((r + 1) * (r + 1)) (λ k. absurd (omega (arith, g .greatest (r + 1) (omega arith))));
+    }
+
+signed-is : (minus : Bool) (m : ℕ) → fromSign minus m ≡ (if minus then negℤ (pos m) else pos m)
+signed-is true m = refl
+signed-is false m = refl
+
+pub nearest-away : (z : ℤ) (d : ℕ) → 0 < d → NearestAway z d (nearestAway z d)
+unfolding nearestAway
+nearest-away z d h = record { size = halfUp (natAbs z) d; nearest = nearest-up (natAbs z) d h; sign = signed-is (isNegative z) _ }
+
+-- ---- steps 4 and 5, of the mode m
+
+pub ratio-is : (m : Mode) → isRatio m ≡ ratioMode (some m)
+ratio-is Hold = refl
+ratio-is Track = refl
+ratio-is Forced = refl
+ratio-is Manual = refl
+ratio-is Auto = refl
+ratio-is Remote = refl
+ratio-is Ratio = refl
+ratio-is Fallback = refl
+
+by-choice : (sp raise lower : Bool) (step low high v : ℤ) →
+    (if sp && (raise && not lower) then limited low high (v +ℤ step) else
+    if sp && (lower && not raise) then limited low high (v -ℤ step) else v)
+    ≡ (if sp && true
+    then setpoints.moved (if raise then (if lower then Neither else Raise) else if lower then Lower else Neither) step low high v
+    else v)
+by-choice false raise lower step low high v = refl
+by-choice true true true step low high v = refl
+by-choice true true false step low high v = refl
+by-choice true false true step low high v = refl
+by-choice true false false step low high v = refl
+
+never-moved : (sp : Bool) (x v : ℤ) → (if sp && false then x else v) ≡ v
+never-moved true x v = refl
+never-moved false x v = refl
+
+-- what hands do to a value, in the modes where it is that value that they move
+pub by-hand : (i : Input) (here : Bool) (step low high v : ℤ) →
+    movedByHand i here step low high v ≡ (if here then moved (i .buttons) step low high v else v)
+unfolding movedByHand buttonsOf adjustmentOf
+by-hand i true step low high v = sym (by-choice (bit (i .buttons) 3) (bit (i .buttons) 6) (bit (i .buttons) 7) step low high v)
+by-hand i false step low high v = never-moved (bit (i .buttons) 3) _ v
+
+-- SL after step 4, and what becomes of it in Remote and Ratio; `pushed` is SL moved by hand where hands move it
+pub setpoint-in : (m : Mode) (follows isopen : Bool) (sp sl near pushed : ℤ) (hand : Bool → ℤ) → hand true ≡ pushed →
+    (if isRemote m || isRatio m then sp else
+    if follows && not (isAutomatic m) then (if isopen then sl else near) else hand (not (isRatio m) && not (isRemote m)))
+    ≡ (if remoteOrRatio (some m) then sp else
+    if not (automaticMode (some m)) && follows then (if isopen then sl else near) else pushed)
+setpoint-in Hold true isopen sp sl near pushed hand e = refl
+setpoint-in Hold false isopen sp sl near pushed hand e = e
+setpoint-in Track true isopen sp sl near pushed hand e = refl
+setpoint-in Track false isopen sp sl near pushed hand e = e
+setpoint-in Forced true isopen sp sl near pushed hand e = refl
+setpoint-in Forced false isopen sp sl near pushed hand e = e
+setpoint-in Manual true isopen sp sl near pushed hand e = refl
+setpoint-in Manual false isopen sp sl near pushed hand e = e
+setpoint-in Auto true isopen sp sl near pushed hand e = e
+setpoint-in Auto false isopen sp sl near pushed hand e = e
+setpoint-in Remote follows isopen sp sl near pushed hand e = refl
+setpoint-in Ratio follows isopen sp sl near pushed hand e = refl
+setpoint-in Fallback true isopen sp sl near pushed hand e = e
+setpoint-in Fallback false isopen sp sl near pushed hand e = e
+
+-- outside Remote and Ratio
+module _ (m : Mode) (outside : remoteOrRatio (some m) ≡ false) where
+  pub local-one : (remote ratio local : ℤ) → (if isRemote m then remote else if isRatio m then ratio else local) ≡ local
+  local-one remote ratio local = go m outside
+    where
+      go : (m : Mode) → remoteOrRatio (some m) ≡ false → (if isRemote m then remote else if isRatio m then ratio else local) ≡ local
+      go Hold e = refl
+      go Track e = refl
+      go Forced e = refl
+      go Manual e = refl
+      go Auto e = refl
+      go Remote e = never (sym e)
+      go Ratio e = never (sym e)
+      go Fallback e = refl
+
+  pub stays-local : (sp sl : ℤ) → (if isRemote m || isRatio m then sp else sl) ≡ sl
+  stays-local sp sl = go m outside
+    where
+      go : (m : Mode) → remoteOrRatio (some m) ≡ false → (if isRemote m || isRatio m then sp else sl) ≡ sl
+      go Hold e = refl
+      go Track e = refl
+      go Forced e = refl
+      go Manual e = refl
+      go Auto e = refl
+      go Remote e = never (sym e)
+      go Ratio e = never (sym e)
+      go Fallback e = refl
+
+pub track-is : (m : Mode) → isTrack m ≡ trackMode (some m)
+track-is Hold = refl
+track-is Track = refl
+track-is Forced = refl
+track-is Manual = refl
+track-is Auto = refl
+track-is Remote = refl
+track-is Ratio = refl
+track-is Fallback = refl
+
+-- the mode in an option
+pub same-mode : (m n : Mode) → some m ≡ some n → m ≡ n
+same-mode m n e = ap (λ (o : Option Mode). inside o m) e
+  where
+    inside : Option Mode → Mode → Mode
+    inside Option.none other = other
+    inside (some mode) other = mode

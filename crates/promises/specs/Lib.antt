@@ -1,0 +1,11 @@
+pub mod Images
+pub mod Limits
+pub mod Reads
+pub mod RefusalCauses
+pub mod Refusals
+pub mod Restarts
+pub mod Scans
+pub mod StoredOutputs
+pub mod Table
+pub mod Words
+pub mod Writes

@@ -1,0 +1,164 @@
+-- Document 01, One scan: what an accepted scan answers and leaves, sentence by sentence, told by the bits of the
+-- input, the numbers of parameters and the mode that the conditions give. Quotients are told by how near they are.
+-- The stored output is told by StoredOutputs.antt, and what is remembered by the list (guarantee). Shared with the
+-- rules are the types of the state, the bits of a word, the value of a parameter, and `limited`.
+use mathlib.Core.Path.{_≡_}
+use mathlib.Core.Bool.{true, false, not, _&&_, _||_}
+use mathlib.Core.Option.{some, none}
+use Prim.Native.Nat.{ℕ, _+_, _*_, _≤_, _<_, min}
+use lib.Dec.{leb}
+use lib.IntN.{ℤ, pos, negℤ, natAbs, _+ℤ_, _-ℤ_, _*ℤ_}
+use lib.Signed.{ltZ}
+use Rattle.integers.specs.Choice.{if_then_else_}
+use Rattle.integers.specs.Limit.{limited}
+use Rattle.signals.specs.Bits.{bit}
+use Rattle.signals.specs.declared.Input.{Input}
+use Rattle.modes.specs.declared.Mode.the-variants.{Manual, Auto, Remote, Ratio}
+use Rattle.modes.specs.declared.Request.the-variants as request
+use Rattle.parameters.specs.Table.{value}
+use Rattle.controller.specs.Answers.{Reply, words, replyOf}
+use Rattle.controller.specs.Valid.{Valid}
+use Rattle.controller.specs.declared.Controller.{Controller}
+use Rattle.controller.specs.declared.Core.{Core}
+use Rattle.controller.specs.declared.ScanResult.{ScanResult}
+use Rattle.guarantee.specs.Claim.{OwnOutput}
+use Rattle.guarantee.specs.Linked.{ScanEnsures}
+use Rattle.guarantee.specs.Modes.{modeIn, automaticMode, trackMode}
+use Rattle.promises.specs.RefusalCauses.{scanRefusal}
+use Rattle.promises.specs.Words.{ShowsMD, ShowsDS, remoteOrRatio, ratioMode}
+
+-- ---- quotients
+
+-- "the quotient nearest, halves up": off by at most one half, and at a half the greater neighbour
+pub record NearestUp (numerator divisor quotient : ℕ) : Type 0 where
+  pub not-above : 2 * (quotient * divisor) ≤ 2 * numerator + divisor
+  pub below-next : 2 * numerator < 2 * (quotient * divisor) + divisor
+
+-- step 1: "Scaling is L + sample × (H - L) / 10000, the quotient nearest, halves up."; H lies above L
+pub record Scaled (low high : ℤ) (sample : ℕ) (x : ℤ) : Type 0 where
+  pub quotient : ℕ
+  pub nearest : NearestUp (sample * natAbs (high -ℤ low)) 10000 quotient
+  pub above : x ≡ low +ℤ pos quotient
+
+-- step 1: "the greatest whole r with r × r ≤ 10000 × s"
+pub record RootOf (s r : ℕ) : Type 0 where
+  pub fits : r * r ≤ 10000 * s
+  pub greatest : 10000 * s < (r + 1) * (r + 1)
+
+-- step 5: "the quotient is nearest, halves away from zero": its size is nearest, halves up, and it has the
+-- numerator's sign
+pub record NearestAway (numerator : ℤ) (divisor : ℕ) (quotient : ℤ) : Type 0 where
+  pub size : ℕ
+  pub nearest : NearestUp (natAbs numerator) divisor size
+  pub sign : quotient ≡ (if ltZ numerator (pos 0) then negℤ (pos size) else pos size)
+
+-- ---- step 4, the setpoint moved by hand
+
+-- "Raise and Lower together do nothing. With SP held, one of them moves .. by .., the result then limited to": button
+-- bits 6, 7 and 3
+abbrev pub moved : ℕ → ℤ → ℤ → ℤ → ℤ → ℤ
+moved buttons step low high v =
+    if bit buttons 3 && (bit buttons 6 && not (bit buttons 7)) then limited low high (v +ℤ step) else
+    if bit buttons 3 && (bit buttons 7 && not (bit buttons 6)) then limited low high (v -ℤ step) else v
+
+-- "moves RS by 12 in Ratio": RS is parameter 21, LR 8 and HR 7
+unfoldable pub expectedRatio : Core → Core → Input → ℤ
+expectedRatio before now i =
+    let v = value (before .parameters) in
+    if ratioMode (modeIn now) then moved (i .buttons) (pos 12) (v 8) (v 7) (v 21) else v 21
+
+-- "else SL by 1, .. limited to .. LS..HS; not in Remote. With S2.6 ON in a non-automatic mode SL isn't moved; if
+-- channel 1 isn't open it becomes PV, limited to LS..HS."; step 5: "In Remote and Ratio SL becomes SP.": SL is
+-- parameter 20, LS 10 and HS 9; S2.6 is SW bit 10; sensor bit 0 says that channel 1 is open
+unfoldable pub expectedSetpoint : Core → Core → Input → ℤ
+expectedSetpoint before now i =
+    let v = value (before .parameters) in
+    let mode = modeIn now in
+    if remoteOrRatio mode then now .readings .sp else
+    if not (automaticMode mode) && bit (now .sw) 10
+    then (if bit (i .sensors) 0 then v 20 else limited (v 10) (v 9) (now .readings .pv))
+    else moved (i .buttons) (pos 1) (v 10) (v 9) (v 20)
+
+-- ---- the scan: made in the state `before`, it left the state `now`
+
+pub record ScanEffect (before now : Core) (i : Input) : Type 0 where
+  -- step 1: 1H is parameter 1, 1L 2, IC 23
+  pub pv-open : bit (i .sensors) 0 ≡ true → now .readings .pv ≡ value (before .parameters) 2
+  pub pv-linear : bit (i .sensors) 0 ≡ false → value (before .parameters) 23 ≡ pos 0 →
+      Scaled (value (before .parameters) 2) (value (before .parameters) 1) (i .sample1) (now .readings .pv)
+  pub root : ℕ
+  pub root-is : RootOf (i .sample1) root
+  pub pv-root : bit (i .sensors) 0 ≡ false → value (before .parameters) 23 ≡ pos 1 →
+      Scaled (value (before .parameters) 2) (value (before .parameters) 1) root (now .readings .pv)
+  -- step 2: "With a cause the request becomes Manual in any mode. Otherwise the first pressed of M, A, R sets the
+  -- request."
+  pub request : now .conditions .request ≡
+      (if now .conditions .fault || leb 85 (now .conditions .opencount) then request.Manual else
+      if bit (i .buttons) 0 then request.Manual else
+      if bit (i .buttons) 1 then request.Auto else
+      if bit (i .buttons) 2 then request.Remote else before .conditions .request)
+  pub opencount : now .conditions .opencount ≡ (if bit (i .sensors) 0 then min 85 (before .conditions .opencount + 1) else 0)
+  -- step 4
+  pub ratio-moved : value (now .parameters) 21 ≡ expectedRatio before now i
+  pub setpoint-moved : value (now .parameters) 20 ≡ expectedSetpoint before now i
+  -- step 5: "Trim is scaled channel 3, or 0 in Track or with MD bit 4 set."; "MP is scaled channel 3 if MD bit 4 is
+  -- set, else 0.": 3H is parameter 5, 3L 6
+  pub channel3 : ℤ
+  pub channel3-scaled : Scaled (value (before .parameters) 6) (value (before .parameters) 5) (i .sample3) channel3
+  pub trim : ℤ
+  pub trim-is : trim ≡ (if trackMode (modeIn now) || before .userbits .measuredpower then pos 0 else channel3)
+  pub mp-is : now .readings .mp ≡ (if before .userbits .measuredpower then channel3 else pos 0)
+  -- "SP is SL + trim, without trim if S2.1 is ON", SW bit 15; "SP is then limited to LS..HS."
+  pub sp-local : remoteOrRatio (modeIn now) ≡ false →
+      now .readings .sp ≡ limited (value (before .parameters) 10) (value (before .parameters) 9)
+      (value (now .parameters) 20 +ℤ (if bit (now .sw) 15 then pos 0 else trim))
+  -- "in Remote channel 2 scaled by 1L, 1H, plus trim"
+  pub channel2 : ℤ
+  pub channel2-scaled : Scaled (value (before .parameters) 2) (value (before .parameters) 1) (i .sample2) channel2
+  pub sp-remote : modeIn now ≡ some Remote →
+      now .readings .sp ≡ limited (value (before .parameters) 10) (value (before .parameters) 9) (channel2 +ℤ trim)
+  -- "In Ratio s is the sum RS + trim, that sum limited to LR..HR, q is channel 2 scaled by 2L, 2H, and SP is 100 × q
+  -- / s + RB, or with S2.3 ON q × s / 100 + RB", SW bit 13: 2H is parameter 3, 2L 4, RB 22; s lies above zero
+  pub q : ℤ
+  pub q-scaled : Scaled (value (before .parameters) 4) (value (before .parameters) 3) (i .sample2) q
+  pub s : ℕ
+  pub s-is : s ≡ natAbs (limited (value (before .parameters) 8) (value (before .parameters) 7) (value (now .parameters) 21 +ℤ trim))
+  pub quotient : ℤ
+  pub quotient-is : modeIn now ≡ some Ratio → bit (now .sw) 13 ≡ false → NearestAway (pos 100 *ℤ q) s quotient
+  pub inverse-is : modeIn now ≡ some Ratio → bit (now .sw) 13 ≡ true → NearestAway (q *ℤ pos s) 100 quotient
+  pub sp-ratio : modeIn now ≡ some Ratio →
+      now .readings .sp ≡ limited (value (before .parameters) 10) (value (before .parameters) 9) (quotient +ℤ value (before .parameters) 22)
+  -- "ER = PV - SP."
+  pub er-is : now .readings .er ≡ now .readings .pv -ℤ now .readings .sp
+  -- Words: "low alarm (PV < LA or ER < -LD), .. high (PV > HA or ER > HD)": HA is parameter 11, LA 12, HD 13, LD 14
+  pub low-alarm : now .indications .lowalarm ≡
+      (ltZ (now .readings .pv) (value (before .parameters) 12) || ltZ (now .readings .er) (negℤ (value (before .parameters) 14)))
+  pub high-alarm : now .indications .highalarm ≡
+      (ltZ (value (before .parameters) 11) (now .readings .pv) || ltZ (value (before .parameters) 13) (now .readings .er))
+  -- Input: "a sensor byte (.. 1 battery low)"; the pins and buttons of this scan
+  pub battery : now .indications .batterylow ≡ bit (i .sensors) 1
+  pub buttons : now .indications .buttons ≡ i .buttons
+  pub pins : now .conditions .pins ≡ i .pins
+  -- no sentence lets a scan touch the rest
+  pub others : (n : ℕ) → (n ≡ 20 → ⊥) → (n ≡ 21 → ⊥) → value (now .parameters) n ≡ value (before .parameters) n
+  pub fault : now .conditions .fault ≡ before .conditions .fault
+  pub userbits : now .userbits ≡ before .userbits
+  pub sw : now .sw ≡ before .sw
+
+-- ---- its answer: "A scan answers MD, DS, OP and electrical output"
+
+pub record ScanReply (c : Controller) (reply : Reply) : Type 0 where
+  pub md : ℕ
+  pub ds : ℕ
+  pub op : ℕ
+  pub electrical : ℕ
+  pub answer : reply ≡ words md ds op electrical
+  pub shows-md : ShowsMD md (c .core)
+  pub shows-ds : ShowsDS ds (c .core)
+  pub own : OwnOutput c op electrical
+
+-- of every scan that no cause refuses, at every valid controller: each that calls lead to is (`ready`)
+abbrev pub ScanEffects : Type 0
+ScanEffects =
+    (d : Controller) (i : Input) (r : ScanResult) → Valid d → ScanEnsures d i r → scanRefusal i ≡ none →
+    ScanEffect (d .core) (r .controller .core) i × ScanReply (r .controller) (replyOf (r .answer))

@@ -1,0 +1,298 @@
+"""Calls of the model, written down as statements about the rules, which the checker proves.
+
+Usage: python3 -B -m tests.statements.calls [--write]
+
+The rules and the claims about them were written by the same people; a misreading of document 01 that stands in both is
+contradicted by a model made apart.  The calls were chosen among drawn ones so that as many wrong changes of the model's
+rules as possible change one of them.  crates/worked/specs/ModelCalls.antt states of each that the rules give the
+model's whole next state, answer and bytes.  Without --write the test fails if that file isn't what the model gives.
+The last line printed is 'N passed, M failed', one count for each statement.
+"""
+
+import itertools
+import random
+import sys
+
+from tests import ROOT
+from tests.gate import tally
+from tests.lists import parameters as parameter_lists
+from tests.lists.image_source import WIDE, ImageSource, values_in, with_values
+from tests.model import loop, writes
+from tests.model.state import OPEN_CAUSE, Stored
+from tests.model.table import NAMES, NUMBER, PAIRS, ROWS, partner_of, range_of
+from tests.model.words import S2_2, S2_5
+
+FILE = ROOT / "crates/worked/specs/ModelCalls.antt"
+SEED = 6360
+FILL = 0xA5  # what each byte of a buffer is before a save
+# The calls, each by its kind and its number among those drawn, with what it shows
+KEPT = {
+    "scan": {
+        212: "Track: sample 3 beyond HO; no trim; S2.6 ON, SL becomes PV; the electrical output inverted",
+        366: "Ratio, S2.3 and S2.8 ON: SP limited to HS, SL becomes SP; three terms; measured power",
+        508: "Ratio, first open scan: PV is 1L; RS lowered by 12; RB; output kept; earlier PV and SP forgotten",
+        700: "Manual, open: Raise without SP moves the output 12 units; S2.6 ON, SL stays",
+        1233: "the memory fault: Forced Manual, request Manual; Raise and Lower together; S2.6 ON, SL limited to LS",
+        2370: "85th open scan in Fall-back, S2.5 ON: Forced Manual, the output goes to LO",
+        2660: "Remote: SP is channel 2 by 1L, 1H, and trim; SL becomes SP; derivative in seconds; high alarm by ER",
+        2688: "Auto, S1.1 OFF: c1 has the present SP; SP is SL and trim; A pressed",
+        4953: "Hold: output kept beyond HO; A pressed; SP with Lower moves SL by 1",
+        6564: "Fall-back, S2.4 ON: integral in seconds; no trim with S2.1 ON; low alarm by ER",
+        9969: "Ratio, S2.3 OFF: 100 q / s + RB below LS, SP limited to it; SP held alone; low alarm by ER",
+        16105: "Ratio, IC 1: root of sample 1; RS limited to LR; the output limited to HO",
+    },
+    "write": {
+        55: "HR limits RS anew, in Hold",
+        73: "3H not above 3L: 7",
+        125: "HS limits SL anew",
+        197: "DS takes bits 7 and 6",
+        213: "LO limits the output in Manual",
+        427: "MD takes bit 12 as the request; bits 9, 8, 5 and 1 do nothing with no fault",
+        1899: "SL in Remote: 8",
+    },
+    "write under the fault": {
+        10: "MD bit 12 with bit 8 zero clears the fault, and the request is Manual; bit 4 is taken",
+        17: "MD bit 11 with bit 8 zero in an open cause: 11",
+    },
+    "read": {29: "SP"},
+    "restart": {
+        0: "a sound image: request Auto, user bits and MD bit 4, OP limited to HO; PV is 1L, SP is SL",
+        1: "a fault of 1, S2.5 and S2.2 ON: the memory fault, request Manual, OP is HO",
+        2: "a wrong sumcheck, each value below its range: defaults, then SL and RS limited; 44h is 0",
+        3: "a wrong sumcheck, pairs out of order take both defaults, an equal one stays; HO 9999, LO 0, OP minimum by S2.2",
+        4: "a right sumcheck, SL above HS: 14",
+    },
+    "save": {0: "in Hold under the memory fault; bytes past the 137 stay"},
+}
+HEAD = '''-- Calls of a reference model that was made apart from the rules, stated of the rules; proofs/ModelCalls.antt proves
+-- them. Made by tests/statements/calls.py, which the gate compares with this file.
+use mathlib.Core.Bool.{Bool, true, false}
+use mathlib.Core.List.{List, [], _∷_}
+use mathlib.Core.Path.{_≡_}
+use Prim.Native.Nat.{ℕ}
+use lib.IntN.{ℤ, pos, negℤ}
+use lib.ListN.{replicate}
+use Rattle.signals.specs.Refusals.{refusedBy}
+use Rattle.signals.specs.declared.Input.{Input}
+use Rattle.fields.specs.Fields.{saveTests, savedIn}
+use Rattle.modes.specs.declared.Request.{Request}
+use Rattle.modes.specs.declared.Request.the-variants.{Manual, Auto, Remote}
+use Rattle.setpoints.specs.declared.Readings.{Readings}
+use Rattle.outputs.specs.declared.History.{History}
+use Rattle.outputs.specs.declared.History.the-variants.{Nothing, One, Two}
+use Rattle.controller.specs.Answers.{Reply, words, reading, acceptance, number, replyBy}
+use Rattle.controller.specs.Read.{read}
+use Rattle.controller.specs.Restart.{restart}
+use Rattle.controller.specs.Save.{savedImage}
+use Rattle.controller.specs.Scan.{scan}
+use Rattle.controller.specs.Write.{write}
+use Rattle.controller.specs.declared.Controller.{Controller}
+
+abbrev pub readings : ℤ → ℤ → ℤ → ℤ → Readings
+readings pv sp er mp = record { pv = pv; sp = sp; er = er; mp = mp }
+
+-- SW, parameters, request, memory fault, user bits 1 and 2, MD bit 4, open count, pins, readings, buttons, battery low,
+-- low alarm, high alarm, history, output
+abbrev pub state : ℕ → List ℤ → Request → Bool → Bool → Bool → Bool → ℕ → ℕ → Readings → ℕ → Bool → Bool → Bool → History → ℤ → Controller
+state sw numbers request fault user1 user2 power opencount pins latest buttons battery low high history output =
+    record {
+      core = record {
+        sw = sw;
+        parameters = record { values = pos 0 ∷ numbers };
+        conditions = record { request = request; fault = fault; opencount = opencount; pins = pins };
+        userbits = record { user1 = user1; user2 = user2; measuredpower = power };
+        readings = latest;
+        indications = record { buttons = buttons; batterylow = battery; lowalarm = low; highalarm = high };
+        history = history;
+      };
+      output = output;
+    }
+
+abbrev pub input : ℕ → ℕ → ℕ → ℕ → ℕ → ℕ → Input
+input pins sample1 sample2 sample3 buttons sensors =
+    record { pins = pins; sample1 = sample1; sample2 = sample2; sample3 = sample3; buttons = buttons; sensors = sensors }
+
+-- a scan, a write, a restart of the state before it leaves the state after it, and this answer
+abbrev pub Scans : Controller → Input → Controller → Reply → Type 0
+Scans before i after answer = scan before i ≡ record { next = after; answer = answer }
+
+abbrev pub Writes : Controller → ℕ → ℤ → Controller → Reply → Type 0
+Writes before n v after answer = write before n v ≡ record { next = after; answer = answer }
+
+abbrev pub Restarts : Controller → List ℕ → Controller → Reply → Type 0
+Restarts before image after answer = restart before image ≡ record { next = after; answer = answer }
+
+-- a save into so many bytes of 165 gives this answer, and these bytes
+abbrev pub Saves : Controller → ℕ → Reply → List ℕ → Type 0
+Saves before size answer bytes =
+    let buffer = replicate {A = ℕ} size 165 in
+    (replyBy (refusedBy (saveTests buffer)) ≡ answer) × (savedIn (savedImage before) buffer ≡ bytes)
+'''
+
+
+# The calls drawn, as the state before and the call ------------------------------------
+
+def scans():
+    """Scans of the lists with drawn parameters, some once more with the memory fault standing before them.
+
+    Refused scans aren't among them.
+    """
+    generator = random.Random(SEED)
+    for calls in parameter_lists.all_calls(generator):
+        controller = None  # each list begins with a fresh start
+        for call in calls:
+            if call[0] == "scan" and controller.parameters.IC and call[2] <= 10000:
+                call = (*call[:2], 9900 + call[2] % 100, *call[3:])  # the definition counts a root down from 10000
+            after, answer = loop.make(controller, call, Stored)
+            if call[0] == "scan":
+                befores = (controller, controller._replace(memory_fault=True)) if generator.random() < 0.01 else (controller,)
+                yield from ((before, call) for before in befores if answer[0] == "scan")
+            controller = after
+
+
+def drawn_state(generator):
+    """A controller with drawn parameters, pins, request, open count and output, as scans and writes may leave it.
+
+    A cause leaves the request Manual.
+    """
+    parameters, opens = parameter_lists.draw_parameters(generator), generator.choice((0, 0, 0, 84, OPEN_CAUSE))
+    pv, sp = generator.randint(-9999, 9999), generator.randint(-9999, 9999)
+    return loop.fresh(generator.getrandbits(16), Stored)._replace(
+        parameters=parameters, request="M" if opens == OPEN_CAUSE else generator.choice("MAR"), user_bits=generator.getrandbits(2),
+        measured_power=generator.random() < 0.5, open_count=opens, pins=generator.choice((0x00, 0x20, 0x80, 0xA0, 0xA5, 0xC0, 0xE0)),
+        buttons=generator.getrandbits(8) & 0xCF, output=generator.randint(0, 9999 * 65536), PV=pv, SP=sp, ER=pv - sp,
+        MP=generator.randint(-9999, 9999), battery_low=generator.random() < 0.5, low_alarm=generator.random() < 0.5,
+        high_alarm=generator.random() < 0.5, previous_PV=pv, previous_SP=sp, PV_before_previous=generator.choice((None, sp)))
+
+
+def drawn_writes():
+    """Writes of every number in drawn states, with values about the ends of what is acceptable, without end."""
+    generator = random.Random(SEED)
+    while True:
+        before, number = drawn_state(generator), generator.randint(0, 34)
+        if not 1 <= number < NUMBER["SW"]:
+            yield before, ("write", number, generator.randint(-9999, 9999))
+            continue
+        partner = partner_of(NAMES[number - 1])
+        about = [*range_of(before.parameters, number), *([getattr(before.parameters, partner)] if partner else [])]
+        bits = generator.choice((0x2000, 0x1000, 0x0800)) | generator.getrandbits(16) & 0xC7FF
+        yield before, ("write", number, generator.choice([generator.choice(about) + generator.randint(-1, 1),
+                                                          bits if number == NUMBER["MD"] else generator.randint(0, 9999)]))
+
+
+def writes_under_the_fault():
+    """MD with each bit of the request, and bit 8, and all other bits; with and without an open cause."""
+    others = ((0, OPEN_CAUSE), (0xC6FF, 0))
+    for bits, fault, (other, opens), pins in itertools.product((0x2000, 0x1000, 0x0800), (0, 0x0100), others, (0x80, 0xA0)):
+        before = loop.fresh(0, Stored)._replace(memory_fault=True, open_count=opens, pins=pins)
+        yield before, ("write", NUMBER["MD"], bits | fault | other)
+
+
+def reads():
+    state = drawn_state(random.Random(SEED))
+    return ((state, ("read", number)) for number in range(0, 35))
+
+
+def restarts():
+    """Of drawn states, by images with wide pairs, middling values and those given; S2.5 and S2.2 as given."""
+    generator = random.Random(SEED)
+    source = ImageSource(generator)
+    usual = {**WIDE, "LS": -500, "HS": 700, "LR": 20, "HR": 90, "SL": 0, "RS": 50, "OP": 4321, "request": 0, "fault": 0, "user_bits": 0}
+    below = {row.name: (-9999 if isinstance(row.least, str) else row.least) - 1 for row in ROWS}
+    crossed = {name: 300 + 2 * place + (name == low) for place, (high, low) in enumerate(PAIRS[:-2]) for name in (high, low)}
+    for switches, values, wrong in (
+            (S2_2, {"channel_2L": -100, "channel_3L": -200, "LO": 3000, "HO": 6000, "request": 1, "user_bits": 7, "OP": 6001}, 0),
+            (S2_5 | S2_2, {"LO": 3000, "HO": 6000, "fault": 1, "OP": 4000}, 0),
+            (0, {**below, "user_bits": 13, "fault": 2, "request": 3}, -1),
+            (S2_2, {**crossed, "HA": 400, "LA": 400, "HO": 6000, "LO": 3000, "SL": 640, "RS": 60, "user_bits": 5, "request": 1}, 256),
+            (0, {"SL": 701}, 0)):
+        state, image = drawn_state(generator), source.drawn(**{**usual, **values})
+        yield (state._replace(SW=state.SW & ~(S2_5 | S2_2) | switches),
+               ("restart", with_values(image, sumcheck=values_in(image)["sumcheck"] + wrong)))
+
+
+def saves():
+    state = drawn_state(random.Random(SEED))
+    yield state._replace(pins=0, request="M", memory_fault=True, user_bits=2, measured_power=True), ("save", 140)
+
+
+# The statements ---------------------------------------------------------------------
+
+def number_text(value):
+    return f"pos {value}" if value >= 0 else f"negℤ (pos {-value})"
+
+
+def argument(value):
+    return f"({number_text(value)})"
+
+
+def flags_text(*flags):
+    return " ".join(str(bool(flag)).lower() for flag in flags)
+
+
+def list_text(texts):
+    return f"({' ∷ '.join([*texts, '[]'])})"
+
+
+def history_text(controller):
+    if controller.previous_PV is None:
+        return "Nothing"
+    known = [controller.previous_PV, controller.previous_SP, controller.PV_before_previous]
+    return " ".join(["One" if known[2] is None else "Two", *(argument(value) for value in known if value is not None)])
+
+
+def state_text(controller):
+    request = {"M": "Manual", "A": "Auto", "R": "Remote"}[controller.request]
+    flags = flags_text(controller.memory_fault, controller.user_bits & 1, controller.user_bits & 2, controller.measured_power)
+    readings = " ".join(map(argument, (controller.PV, controller.SP, controller.ER, controller.MP)))
+    alarms = flags_text(controller.battery_low, controller.low_alarm, controller.high_alarm)
+    return (f"(state {controller.SW} {list_text(map(number_text, controller.parameters))} {request} {flags} {controller.open_count} "
+            f"{controller.pins} (readings {readings}) {controller.buttons} {alarms} ({history_text(controller)}) "
+            f"{argument(controller.output)})")
+
+
+def answer_text(answer):
+    if answer[0] == "scan":
+        return f"(words {' '.join(map(str, answer[1:]))})"
+    return {"ok": "acceptance", "image": "acceptance", "refused": f"(number {answer[-1]})",
+            "value": f"(reading {argument(answer[-1]) if answer[0] == 'value' else ''})"}[answer[0]]
+
+
+def statement(before, call):
+    """What the model gives for the call, stated of the rules."""
+    after, answer = loop.make(before, call, Stored)
+    word, given, state, next_state, reply = call[0], call[1:], state_text(before), state_text(after), answer_text(answer)
+    if word == "scan":
+        return f"Scans {state} (input {' '.join(map(str, given))}) {next_state} {reply}"
+    if word == "write":
+        return f"Writes {state} {given[0]} {argument(given[1])} {next_state} {reply}"
+    if word == "read":
+        return f"(read {state} {given[0]} ≡ {reply})"
+    if word == "restart":
+        return f"Restarts {state} {list_text(map(str, given[0]))} {next_state} {reply}"
+    return f"Saves {state} {given[0]} {reply} {list_text(map(str, answer[1].ljust(given[0], bytes([FILL]))))}"
+
+
+def statements():
+    """Each statement that is kept, with what it shows."""
+    drawn = {"scan": scans, "write": drawn_writes, "write under the fault": writes_under_the_fault, "read": reads,
+             "restart": restarts, "save": saves}
+    for kind, kept in KEPT.items():
+        for number, call in enumerate(itertools.islice(drawn[kind](), max(kept) + 1)):
+            if number in kept:
+                yield f"{kind}: {kept[number]}", statement(*call)
+
+
+def main():
+    texts = [f"-- {words}\n    {'∷ ' if place else ''}{text}" for place, (words, text) in enumerate(statements())]
+    body = "\n    ".join([*texts, "∷ []"])
+    wanted = f"{HEAD}\nunfoldable pub modelCalls : List (Type 0)\nmodelCalls =\n    {body}\n"
+    if "--write" in sys.argv:
+        FILE.write_text(wanted, encoding="utf-8")
+    same = "".join(FILE.read_text(encoding="utf-8").split()) == "".join(wanted.split())  # the kit lays lines out anew
+    print(f"{len(texts)} calls")
+    return tally.close(len(texts) if same else 0, 0 if same else len(texts))
+
+
+if __name__ == "__main__":
+    sys.exit(main())
