@@ -109,32 +109,32 @@ setpoint-in Fallback true isopen sp sl near pushed hand e = e
 setpoint-in Fallback false isopen sp sl near pushed hand e = e
 
 -- outside Remote and Ratio
+neither : (m : Mode) → remoteOrRatio (some m) ≡ false → (isRemote m ≡ false) × (isRatio m ≡ false)
+neither Hold e = (refl, refl)
+neither Track e = (refl, refl)
+neither Forced e = (refl, refl)
+neither Manual e = (refl, refl)
+neither Auto e = (refl, refl)
+neither Remote e = never (sym e)
+neither Ratio e = never (sym e)
+neither Fallback e = (refl, refl)
+
 module _ (m : Mode) (outside : remoteOrRatio (some m) ≡ false) where
   pub local-one : (remote ratio local : ℤ) → (if isRemote m then remote else if isRatio m then ratio else local) ≡ local
-  local-one remote ratio local = go m outside
+  local-one remote ratio local = go (isRemote m) (isRatio m) (neither m outside .0) (neither m outside .1)
     where
-      go : (m : Mode) → remoteOrRatio (some m) ≡ false → (if isRemote m then remote else if isRatio m then ratio else local) ≡ local
-      go Hold e = refl
-      go Track e = refl
-      go Forced e = refl
-      go Manual e = refl
-      go Auto e = refl
-      go Remote e = never (sym e)
-      go Ratio e = never (sym e)
-      go Fallback e = refl
+      go : (a b : Bool) → a ≡ false → b ≡ false → (if a then remote else if b then ratio else local) ≡ local
+      go true b e d = never (sym e)
+      go false true e d = never (sym d)
+      go false false e d = refl
 
   pub stays-local : (sp sl : ℤ) → (if isRemote m || isRatio m then sp else sl) ≡ sl
-  stays-local sp sl = go m outside
+  stays-local sp sl = go (isRemote m) (isRatio m) (neither m outside .0) (neither m outside .1)
     where
-      go : (m : Mode) → remoteOrRatio (some m) ≡ false → (if isRemote m || isRatio m then sp else sl) ≡ sl
-      go Hold e = refl
-      go Track e = refl
-      go Forced e = refl
-      go Manual e = refl
-      go Auto e = refl
-      go Remote e = never (sym e)
-      go Ratio e = never (sym e)
-      go Fallback e = refl
+      go : (a b : Bool) → a ≡ false → b ≡ false → (if a || b then sp else sl) ≡ sl
+      go true b e d = never (sym e)
+      go false true e d = never (sym d)
+      go false false e d = refl
 
 pub track-is : (m : Mode) → isTrack m ≡ trackMode (some m)
 track-is Hold = refl
