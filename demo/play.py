@@ -3,14 +3,15 @@
 Usage: python3 -B -m demo.play SESSION CONSOLE
 
 A session is a file of calls; text behind a # is a comment and heads the calls that follow. Shown of each part are its
-first and its last scan, and those at which the mode or one of the notes below changed.
+first and its last scan, and those at which the mode or one of the notes below changed. Behind the session comes its
+drying sheet.
 """
 
-import subprocess
 import sys
 
-# By the bits of MD, which show Fall-back as Auto and Ratio as Remote
-MODES = ((15, "Hold"), (14, "Track"), (13, "Manual"), (12, "Auto"), (11, "Remote"))
+from demo.console import play, scan_answer
+from demo.sheet import show
+
 NOTES = (("MD", 9, 1, "probe open too long"), ("MD", 8, 1, "memory fault"), ("DS", 3, 0, "battery low"), ("DS", 1, 0, "low alarm"),
          ("DS", 0, 0, "high alarm"))
 BAR = 40
@@ -28,32 +29,29 @@ def is_set(word, bit):
     return word >> bit & 1
 
 
-def standing(md, ds):
+def standing(answer):
     """The mode and what DS and MD report beside it, in words."""
-    name = next(name for bit, name in MODES if is_set(md, bit))
-    forced = name == "Manual" and (is_set(md, 9) or is_set(md, 8))
-    words = {"MD": md, "DS": ds}
-    notes = [text for word, bit, level, text in NOTES if is_set(words[word], bit) == level]
-    return ("Forced Manual" if forced else name), ", ".join(notes)
+    notes = [text for word, bit, level, text in NOTES if is_set(getattr(answer, word), bit) == level]
+    return answer.mode, ", ".join(notes)
 
 
 def row(number, call, answer):
-    """One scan: its number, what the probe read, the mode, the output and a bar of it."""
-    _, md, ds, op, _ = answer.split()
-    mode, notes = standing(int(md), int(ds))
+    """One scan: its number, what the probe read and PV, the mode, the output and a bar of it."""
+    mode, notes = standing(answer)
     probe = "open" if int(call.split()[6]) & 1 else f"{int(call.split()[2]) / 100:.2f} %"
-    bar = "#" * round(int(op) * BAR / 9999)
-    return f"  {number:5}  {probe:>8}  {mode:<13}  {int(op) / 100:6.2f} %  {bar:<20}  {notes}".rstrip()
+    bar = "#" * round(answer.OP * BAR / 9999)
+    return f"  {number:5}  {probe:>8}  {answer.PV:4}  {mode:<13}  {answer.OP / 100:6.2f} %  {bar:<20}  {notes}".rstrip()
 
 
 def rows(part):
     """The scans of one part that are worth a line."""
     before = None
-    for place, (number, call, answer) in enumerate(part):
-        if not answer.startswith("scan"):
-            yield f"  {number:5}  {answer}"
+    for place, (number, call, line) in enumerate(part):
+        if not line.startswith("scan"):
+            yield f"  {number:5}  {line}"
             continue
-        now = standing(*map(int, answer.split()[1:3]))
+        answer = scan_answer(line)
+        now = standing(answer)
         if place in (0, len(part) - 1) or now != before:
             yield row(number, call, answer)
         before = now
@@ -75,12 +73,12 @@ def parts(calls, answers):
 def main():
     session, console = sys.argv[1:]
     calls = list(read_session(session))
-    text = "".join(call + "\n" for call, _ in calls)
-    answers = subprocess.run([console], input=text, capture_output=True, text=True, check=True).stdout.splitlines()
-    print(f"\n{session}: {len(calls)} calls\n\n   scan     probe  mode              OP")
+    answers, sheet = play([call for call, _ in calls], console)
+    print(f"\n{session}: {len(calls)} calls\n\n   scan     probe    PV  mode              OP")
     for title, part in parts(calls, answers):
         print(f"\n{title}")
         print("\n".join(rows(part)))
+    show("The drying sheet of this lot", {"the console's numbers": sheet}, "%")
 
 
 if __name__ == "__main__":

@@ -2,49 +2,42 @@
 
 Usage: python3 -B -m demo.power_cut CONSOLE
 
-A dryer runs and saves an image of its settings, runs on and saves a newer one; then the console is ended, as a power
-cut would end it, and started anew. It is given the newer image, the same with the power-fail switch ON, and every
-mixture of the two that a cut in the midst of saving would leave. Ends with status 1 if a setting doesn't come back or a
-mixture gives settings that are neither image's.
+A dryer runs and saves an image of its settings, runs on and saves a newer one; its drying sheet is shown; then the
+console is ended, as a power cut would end it, and started anew. It is given the newer image, the same with the
+power-fail switch ON, and every mixture of the two that a cut in the midst of saving would leave. Ends with status 1 if
+a setting doesn't come back or a mixture gives settings that are neither image's.
 """
 
 import collections
-import subprocess
 import sys
+
+from demo.console import Console, scan_answer
+from demo.sheet import show as show_sheet
 
 POWER_FAIL = 0x0800  # S2.5
 NAMES = {1: "1H", 2: "1L", 9: "HS", 15: "HO", 16: "LO", 17: "XP", 18: "TI", 19: "TD", 20: "SL"}
 SETTINGS = {1: 1200, 9: 1100, 15: 8500, 16: 500, 17: 400, 18: 900, 19: 20, 20: 650}
 MD, OP, SL, XP, TI = 24, 28, 20, 17, 18
-AUTO, MEMORY_FAULT, MANUAL = 0x1000, 0x0100, 0x2000
+MEMORY_FAULT, MANUAL = 0x0100, 0x2000
 IMAGE_BYTES = 137
 A_BUTTON, PINS = 0x02, 0x81
 
 
-class Console:
-    """The program, asked line by line; ending it is the power cut."""
+class Dryer(Console):
+    """A dryer behind the program; ending it is the power cut."""
 
     def __init__(self, program, switches):
-        self.process = subprocess.Popen([program], stdin=subprocess.PIPE, stdout=subprocess.PIPE, text=True)
+        super().__init__(program)
         self.ask(f"fresh {switches}")
-
-    def ask(self, line):
-        self.process.stdin.write(line + "\n")
-        self.process.stdin.flush()
-        return self.process.stdout.readline().rstrip("\n")
 
     def read(self, number):
         return int(self.ask(f"read {number}").split()[1])
 
     def scan(self, sample, buttons=0):
-        return [int(word) for word in self.ask(f"scan {PINS} {sample} 0 0 {buttons} 0").split()[1:]]
+        return scan_answer(self.call(f"scan {PINS} {sample} 0 0 {buttons} 0"))
 
     def save(self):
         return self.ask(f"save {IMAGE_BYTES}").split()[1]
-
-    def end(self):
-        self.process.kill()
-        self.process.communicate()
 
 
 def standing(console):
@@ -57,14 +50,15 @@ def show(title, values):
 
 
 def dry(console, samples):
-    for sample in samples:
-        md, _, op, _ = console.scan(sample)
-    return md, op
+    """Scans with these samples; the last one's answer."""
+    return [console.scan(sample) for sample in samples][-1]
 
 
 def before_the_cut(program):
-    """A dryer in Auto with its own settings; an older and a newer image, and what stood when each was saved."""
-    console = Console(program, 0)
+    """A dryer in Auto with its own settings; an older and a newer image, what stood when each was saved, and the
+    sheet.
+    """
+    console = Dryer(program, 0)
     for number, value in SETTINGS.items():
         console.ask(f"write {number} {value}")
     console.scan(4800, A_BUTTON)
@@ -74,14 +68,14 @@ def before_the_cut(program):
     console.ask(f"write {XP} 350")
     console.ask(f"write {TI} 1200")
     dry(console, range(5200, 5600, 10))
-    newer = standing(console), console.save()
+    newer, sheet = (standing(console), console.save()), console.sheet()
     console.end()
-    return older, newer
+    return older, newer, sheet
 
 
 def after_the_cut(program, switches, image):
     """A console started anew, and its answer to the image."""
-    console = Console(program, switches)
+    console = Dryer(program, switches)
     return console, console.ask(f"restart {image or '-'}")
 
 
@@ -90,7 +84,7 @@ def mixed(program, older, newer):
 
     A state is told by the image that it saves to.
     """
-    console, counts, faulty = Console(program, 0), collections.Counter(), None
+    console, counts, faulty = Dryer(program, 0), collections.Counter(), None
     states = {}
     for name, image in (("the older image's settings", older), ("the newer image's settings", newer)):
         console.ask(f"restart {image}")
@@ -111,14 +105,15 @@ def mixed(program, older, newer):
 
 def main():
     program = sys.argv[1]
-    (older_standing, older), (newer_standing, newer) = before_the_cut(program)
+    (_, older), (newer_standing, newer), sheet = before_the_cut(program)
+    show_sheet("The drying sheet of a lot that a power cut ends", {"the console's numbers": sheet}, "degrees")
     print(f"\nA power cut\n\n  saved: {newer[:40]}.. ({len(newer) // 2} bytes)")
     show("before the cut", newer_standing)
-    console = Console(program, 0)
+    console = Dryer(program, 0)
     show("started anew, before the restart", standing(console))
     answer = console.ask(f"restart {newer}")
     show(f"restarted: {answer}", standing(console))
-    survived = answer == "ok" and standing(console) == newer_standing and dry(console, [5600])[0] & AUTO
+    survived = answer == "ok" and standing(console) == newer_standing and dry(console, [5600]).mode == "Auto"
     print("  every setting is back, and the next scan is in Auto" if survived else "  NOT AS BEFORE")
     console, answer = after_the_cut(program, POWER_FAIL, newer)
     show(f"power-fail switch ON: {answer}", standing(console))

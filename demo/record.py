@@ -21,15 +21,15 @@ LEADING, FOLLOWING = HERE / "leading.txt", HERE / "following.txt"
 HEADS = {
     LEADING: """\
 # The leading dryer, call by call: what the console is given. Text behind a # is a comment. Made with a simple drum, not
-# measured. PV is in tenths of a degree; after each scan PV is read and feeds channel 2 of the following dryer, in
+# measured. PV is in tenths of a degree; that of each scan's answer feeds channel 2 of the following dryer, in
 # following.txt. A scan is PINS S1 S2 S3 BUTTONS SENSORS; pins: 128 Hold at 15 V, 64 Track, 1 unit address; buttons: 2
-# A. Parameters: 1 1H, 2 1L, 9 HS, 17 XP, 18 TI, 20 SL, 29 SP, 30 PV.
+# A. Parameters: 1 1H, 2 1L, 9 HS, 17 XP, 18 TI, 20 SL, 29 SP.
 """,
     FOLLOWING: """\
 # The following dryer, call by call: what the console is given. Text behind a # is a comment. Made with a simple drum,
 # not measured. Sample 2 of each scan is the sample that gives the PV of the leading dryer, leading.txt, in the same
 # scan. Pins: 128 Hold at 15 V, 64 Track, 32 Remote, 2 unit address; buttons: 64 Raise, 8 SP, 4 R. Parameters: 1 1H,
-# 3 2H, 7 HR, 8 LR, 9 HS, 17 XP, 18 TI, 20 SL, 21 RS, 22 RB, 29 SP, 30 PV.
+# 3 2H, 7 HR, 8 LR, 9 HS, 17 XP, 18 TI, 20 SL, 21 RS, 22 RB, 29 SP.
 """}
 SCANS, DISPLAY_EVERY = 120, 6
 RANGE = 1200            # 0 to 120.0 degrees on channels 1 and 2
@@ -58,11 +58,13 @@ class Dryer:
             self.call("write", NUMBER[name], value)
 
     def read(self, name):
-        return self.call("read", NUMBER[name])[1]
+        self.call("read", NUMBER[name])
 
     def scan(self, pins, second=0, third=0, buttons=0, note=""):
-        _, _, _, self.OP, _ = self.call("scan", pins, round(self.temperature), second, third, buttons, 0, note=note)
+        """The PV that the scan answers; its OP moves the temperature."""
+        _, _, _, self.OP, _, _, PV = self.call("scan", pins, round(self.temperature), second, third, buttons, 0, note=note)
         self.temperature += (2000 + 0.75 * self.OP - self.temperature) / self.lag
+        return PV
 
     def show(self, number, others):
         """SP and SL are read where the player is to show a line: every few scans and at the numbers given."""
@@ -86,7 +88,7 @@ DISPLAYED = {1, 3, 4, 5, 21, 22, 30, 31, 45, 46, 47, 55, 56, 57, 60, 64, 71, 72,
 
 
 def lead(dryer, number):
-    """One scan of the leading dryer and what comes before it; the PV that is read behind it."""
+    """One scan of the leading dryer and what comes before it; the PV that it answers."""
     if number == 1:
         dryer.call("fresh", 0, note="Started fresh; a range of 0 to 120.0 degrees, "
                    "setpoints up to 100.0, XP 25.0 percent, TI 0.4 s, SL 60.0 degrees")
@@ -98,10 +100,9 @@ def lead(dryer, number):
         (name, value), = parameters.items()
         dryer.call("write", NUMBER[name], value, note=note)
     if number <= 3:
-        dryer.scan(TRACK | 1, third=4500, note="Track: the output follows the preset on channel 3" if number == 1 else "")
+        PV = dryer.scan(TRACK | 1, third=4500, note="Track: the output follows the preset on channel 3" if number == 1 else "")
     else:
-        dryer.scan(0x81, buttons=A_BUTTON if number == 4 else 0, note="A is pressed: Auto" if number == 4 else "")
-    PV = dryer.read("PV")
+        PV = dryer.scan(0x81, buttons=A_BUTTON if number == 4 else 0, note="A is pressed: Auto" if number == 4 else "")
     dryer.show(number, DISPLAYED)
     return PV
 
@@ -138,7 +139,6 @@ def follow(dryer, number, sample):
         raised = "SP and Raise are held: RS goes up by 12 a scan" if number == RAISED[0] else ""
         dryer.scan(REMOTE, sample, buttons=SP_AND_RAISE if number in RAISED else 0,
                    note=f"The Remote pin is at 15 V again: {back}" if back else raised)
-    dryer.read("PV")
     dryer.show(number, DISPLAYED)
 
 

@@ -13,15 +13,16 @@ import concurrent.futures
 import multiprocessing
 import random
 import sys
-import textwrap
 
 from tests.comparison import whole_inputs
 from tests.comparison.program import NO_END, PROGRAM_SECONDS, SHORT_SECONDS, run, run_in_pieces, run_lines
 from tests.comparison.shortest import print_broken_claim, print_wrong_answer
+from tests.coverage.coverage import print_counts
 from tests.coverage.images import ImageCoverage
 from tests.coverage.parameters import ParameterCoverage
 from tests.coverage.power_cuts import PowerCutCoverage
 from tests.coverage.scans import ScanCoverage
+from tests.coverage.sheets import SheetCoverage
 from tests.coverage.writes import WriteCoverage
 from tests.figures import check as figure_check
 from tests.gate import tally
@@ -30,6 +31,7 @@ from tests.lists import images as image_lists
 from tests.lists import parameters as parameter_lists
 from tests.lists import restarts as restart_lists
 from tests.lists import scans as scan_lists
+from tests.lists import sheets as sheet_lists
 from tests.lists import writes as write_lists
 from tests.lists.line_forms import LINE_ERRORS
 from tests.model.lines import call_of, line_of
@@ -37,11 +39,10 @@ from tests.model.pair import Pair, answers_of
 
 DEFAULT_SEED = 6360
 INPUTS, AT_ONCE = 4, 2     # the lists are shared out among so many runs of the program, so many of them at once
-COVERAGES = ScanCoverage, ParameterCoverage, WriteCoverage, ImageCoverage, PowerCutCoverage
+COVERAGES = ScanCoverage, ParameterCoverage, WriteCoverage, ImageCoverage, PowerCutCoverage, SheetCoverage
 KINDS = ((scan_lists, ScanCoverage), (parameter_lists, ParameterCoverage), (write_lists, WriteCoverage), (image_lists, ImageCoverage),
-         (restart_lists, ImageCoverage), (power_cuts, PowerCutCoverage))
-FAULTS_PRINTED, COUNTS_PRINTED = 10, 12
-WIDTH = 150  # of a printed line
+         (restart_lists, ImageCoverage), (power_cuts, PowerCutCoverage), (sheet_lists, SheetCoverage))
+FAULTS_PRINTED = 10
 
 
 class Results:
@@ -91,7 +92,7 @@ def expected_answers(entries, pair, coverage, results):
             continue
         before = pair.controllers
         answer, broken = pair.make(call)
-        coverage.call(call, before, pair.controllers, answer, pair.claim.automatic_scans)
+        coverage.call(call, before, pair.controllers, answer, pair)
         if broken:
             results.broken_claim(broken, [each.line for each in entries[:place + 1]])
         else:
@@ -125,12 +126,13 @@ def compare(program, lists, results):
 def all_lists(generator):
     """Every list with the place among `COVERAGES` of what counts its calls, shared out among the runs.
 
-    Each run begins with a list that has no fresh start.
+    Each run begins with lists that have no fresh start.
     """
     lists = [(*each, COVERAGES.index(coverage)) for module, coverage in KINDS for each in module.all_lists(generator)]
     generator.shuffle(lists)
-    first = COVERAGES.index(ScanCoverage)
-    return [[(*scan_lists.first_list(generator), first), *lists[number::INPUTS]] for number in range(INPUTS)]
+    sheets, scans = COVERAGES.index(SheetCoverage), COVERAGES.index(ScanCoverage)
+    return [[(*sheet_lists.first_list(generator, number), sheets), (*scan_lists.first_list(generator), scans), *lists[number::INPUTS]]
+            for number in range(INPUTS)]
 
 
 class Parts:
@@ -191,15 +193,6 @@ def check_whole_inputs(program, generator, results):
     for size, text, expected in whole_inputs.in_pieces(lines, answers_of):
         written, trouble = run_in_pieces(program, text, size)
         results.check(written == expected and not trouble, f"input in pieces of {size} bytes: wrong or too few answers {trouble}")
-
-
-def print_counts(coverage):
-    """What was met most plainly, and what stands nearest to its least."""
-    least, counts = coverage.least_counts(), coverage.counts
-    first = ", ".join(f"{name} {counts[name]}" for name in [*least][:COUNTS_PRINTED])
-    print(textwrap.fill(f"{coverage.title}, {len(least)} things to be met: {first}", WIDTH, subsequent_indent="    "))
-    rarest = min(least, key=lambda name: counts[name] / least[name])
-    print(f"{coverage.title}: nearest to its least is {rarest!r}, {counts[rarest]} of {least[rarest]}", flush=True)
 
 
 def main():

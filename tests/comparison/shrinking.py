@@ -111,6 +111,9 @@ def simpler_columns(numbers):
 
 
 def simpler_than(given):
+    """Of a mode there is nothing simpler."""
+    if isinstance(given, str):
+        return []
     return simpler_images(given) if isinstance(given, bytes) else simpler_numbers(given)
 
 

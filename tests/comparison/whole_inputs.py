@@ -3,11 +3,13 @@ comes in pieces.
 """
 
 from tests.figures.images import FRESH
+from tests.figures.sheets import EMPTY
 from tests.model.lines import LONGEST_LINE, lines_in
 
-# Worked by hand.  SW 0, pins 80h, all else 0: Manual is MD 2000h; DS is 80h, then bits 4, 3, 2, 1, 0: 801Fh; output 0.
+# Worked by hand.  SW 0, pins 80h, all else 0: Manual is MD 2000h; DS is 80h, then bits 4, 3, 2, 1, 0: 801Fh; output and
+# PV 0.
 FIRST_SCAN = "scan 128 0 0 0 0 0"
-FIRST_ANSWER = "scan 8192 32799 0 0"
+FIRST_ANSWER = "scan 8192 32799 0 0 manual 0"
 IMAGE = FRESH.split()[1]  # a fresh controller's
 BY_HAND = (
     ("no input", "", ""),
@@ -23,11 +25,11 @@ BY_HAND = (
     ("a tab for a blank", "fresh\t0\n\tfresh 0\nfresh 0\t\n", "error\nerror\nerror\n"),
     ("a byte beyond ASCII", "\xff", "error\n"),
     ("a scan before any fresh", FIRST_SCAN, FIRST_ANSWER + "\n"),
-    ("S2.2 ON", f"fresh 16384\n{FIRST_SCAN}", "ok\nscan 8192 32799 0 9999\n"),
-    ("a fresh start ends Auto", f"scan 128 0 0 0 2 0\nfresh 0\n{FIRST_SCAN}\n", f"scan 4098 32831 0 0\nok\n{FIRST_ANSWER}\n"),
+    ("S2.2 ON", f"fresh 16384\n{FIRST_SCAN}", "ok\nscan 8192 32799 0 9999 manual 0\n"),
+    ("a fresh start ends Auto", f"scan 128 0 0 0 2 0\nfresh 0\n{FIRST_SCAN}\n", f"scan 4098 32831 0 0 auto 0\nok\n{FIRST_ANSWER}\n"),
     ("a word cut by a newline", "fre\nsh 0\n", "error\nerror\n"),
     ("a call after a line with NULs", f"\0\0\0\n{FIRST_SCAN}\n", f"error\n{FIRST_ANSWER}\n"),
-    ("the greatest numbers", "fresh 65535\nscan 255 10000 10000 10000 207 3\n", "ok\nscan 17615 65335 9999 0\n"),
+    ("the greatest numbers", "fresh 65535\nscan 255 10000 10000 10000 207 3\n", "ok\nscan 17615 65335 9999 0 track 0\n"),
     ("one beyond the greatest", "fresh 65536\nscan 256 0 0 0 0 0\nscan 0 65536 0 0 0 0\nscan 0 65535 0 0 0 0\n",
      "error\n" * 3 + "refused 1\n"),
     ("a write and reads", "write 20 5\nread 20\nread 29\n", "ok\nvalue 5\nvalue 0\n"),
@@ -53,6 +55,28 @@ BY_HAND = (
      f"restart {IMAGE[:-2]}4g\nrestart {IMAGE[:-2]}:2\nrestart {IMAGE[:-2]}`2\nrestart {IMAGE[:-2]}@2\nrestart {IMAGE[:-2]}/2\n"
      f"Restart {IMAGE}\nrestart{IMAGE}\nread 24\n",
      "error\n" * 25 + "value 8192\n"),
+    ("a sheet before any scan",
+     "sheet\nsheet-last\nscan 0 10001 0 0 0 0\nsheet-last\nfresh 0\nsheet-last\nsheet-feed auto -7 65533 9\nsheet-last\nsheet-new\n"
+     f"sheet-last\nsheet\nsheet-feed auto -7 65533 9\nsheet\n{FIRST_SCAN}\nsheet-last\nsheet",
+     f"{EMPTY}\nerror\nrefused 1\nerror\nok\nerror\nok\nerror\nok\nerror\n{EMPTY}\nok\n"
+     "sheet scans=1 hold=0 track=0 forced=0 manual=0 auto=1 remote=0 ratio=0 fallback=0 max=-7@1 min=-7@1 alarms=1 sumpv=-7 sumop=9\n"
+     f"{FIRST_ANSWER}\nok\n"
+     "sheet scans=2 hold=0 track=0 forced=0 manual=1 auto=1 remote=0 ratio=0 fallback=0 max=0@2 min=-7@1 alarms=1 sumpv=-7 sumop=9\n"),
+    ("sheet-last behind a restart alone", f"restart {IMAGE}\nsheet-last\nrestart -\nsheet-last\n", "ok\nerror\nrefused 12\nerror\n"),
+    ("the ends of what is fed", "sheet-feed hold -32768 0 0\nsheet-feed fallback 32767 65535 65535\nsheet-feed track -0 000 00065535\n"
+     "sheet-feed hold -32769 0 0\nsheet-feed hold 32768 0 0\nsheet-feed hold 0 -1 0\nsheet-feed hold 0 65536 0\nsheet-feed hold 0 0 -1\n"
+     "sheet-feed hold 0 0 65536\nsheet-feed hold 4294967296 0 0\nsheet-feed hold 0 4294967296 0\nsheet-feed hold 0 0 4294967296\nsheet\n",
+     "ok\n" * 3 + "error\n" * 9 + "sheet scans=3 hold=1 track=1 forced=0 manual=0 auto=0 remote=0 ratio=0 fallback=1 "
+     "max=32767@2 min=-32768@1 alarms=2 sumpv=-1 sumop=131070\n"),
+    ("no calls on the sheet",
+     "sheet-feed\nsheet-feed hold\nsheet-feed hold 0 0\nsheet-feed hold 0 0 0 0\nsheet-feed 0 0 0\nsheet-feed 0 hold 0 0\n"
+     "sheet-feed Hold 0 0 0\nsheet-feed HOLD 0 0 0\nsheet-feed forced-manual 0 0 0\nsheet-feed fall-back 0 0 0\nsheet-feed hold 0 0 x\n"
+     "sheet-feed hold +1 0 0\nsheet-feed forced manual 0 0 0\nsheet-new 0\nsheet-last 0\nsheet 0\nsheet new\nsheet last\nsheet-new -\n"
+     "sheet sheet\nSheet\nSHEET\nSheet-new\nsheet-New\nsheet-\nsheetnew\nsheet_new\nsheet-last\nsheet\n",
+     "error\n" * 28 + f"{EMPTY}\n"),
+    ("blanks about calls on the sheet", "  sheet-new  \n   sheet-feed   hold  1   3  1 \n sheet-last \n  sheet \n",
+     "ok\nok\nerror\nsheet scans=1 hold=1 track=0 forced=0 manual=0 auto=0 remote=0 ratio=0 fallback=0 "
+     "max=1@1 min=1@1 alarms=0 sumpv=1 sumop=1\n"),
     ("the lowest refusal wins", "scan 0 10001 0 0 48 255\nscan 0 0 0 0 16 4\nscan 0 0 0 0 0 4\n", "refused 1\nrefused 2\nrefused 3\n"),
 )
 
@@ -80,7 +104,9 @@ def overlong():
 def cut_short(answers_of):
     """An input that ends after any byte of its last line; of an image after some bytes only."""
     for text in ("fresh 1024\nscan 192 4990 20 5000 4 0\nscan 0160  10001 -0 070 66 03", "write 22 -7\nwrite 0022  -2147483649",
-                 "write 22 -7\nread 0022", "write 22 -7\nsave  0000000137 ", f"write 22 -7\nrestart {IMAGE} "):
+                 "write 22 -7\nread 0022", "write 22 -7\nsave  0000000137 ", f"write 22 -7\nrestart {IMAGE} ",
+                 "sheet-feed ratio -7 1 9\nsheet-feed forced  -32768 65535 065535 ", "sheet-feed ratio -7 1 9\nsheet-last  ",
+                 "sheet-feed ratio -7 1 9\nsheet-new ", "sheet-feed ratio -7 1 9\n sheet 0"):
         first = text.index("\n") + 1
         lengths = range(first, len(text) + 1)
         for length in lengths if len(lengths) < 100 else (*lengths[:14], *lengths[14:-6:25], *lengths[-6:]):

@@ -84,7 +84,7 @@ class ImageCoverage(Coverage):
         self.base, self.saved, self.calls = None, {}, 0
         self.restarted, self.remembered, self.open_since = None, None, 0
 
-    def call(self, call, before, after, answer, automatic_scans):
+    def call(self, call, before, after, answer, pair):
         self.calls += 1
         self.count("calls", call[0])
         {"fresh": self.fresh, "save": self.save, "restart": self.restart, "scan": self.scanned, "write": self.written,

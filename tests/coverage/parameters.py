@@ -20,9 +20,9 @@ def least_counts():
 class ParameterCoverage(Coverage):
     title, least_counts = "drawn parameters", staticmethod(least_counts)
 
-    def call(self, call, before, after, answer, automatic_scans):
+    def call(self, call, before, after, answer, pair):
         if call[0] == "scan":
-            self.counts.update(met(before, after, answer, automatic_scans))
+            self.counts.update(met(before, after, answer, pair.claim.automatic_scans))
 
 
 def met(before, after, answer, automatic_scans):

@@ -22,7 +22,7 @@ class PowerCutCoverage(Coverage):
         super().__init__()
         self.pair, self.cut = [], 0
 
-    def call(self, call, before, after, answer, automatic_scans):
+    def call(self, call, before, after, answer, pair):
         if call[0] == "fresh":
             self.pair, self.cut = [], -2  # the two images come first
         elif call == ("save", IMAGE_BYTES):

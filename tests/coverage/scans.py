@@ -48,7 +48,7 @@ def switches_in(SW, mode):
 class ScanCoverage(Coverage):
     title, least_counts = "scans", staticmethod(least_counts)
 
-    def call(self, call, before, after, answer, automatic_scans):
+    def call(self, call, before, after, answer, pair):
         """The open count is read from the exact controller."""
         if call[0] == "scan":
             self.counts["scans"] += 1

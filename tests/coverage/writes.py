@@ -81,7 +81,7 @@ class WriteCoverage(Coverage):
         """What was written since the last accepted scan."""
         self.changed, self.MD_written_at_84, self.bit_4_written, self.user_bits_written, self.waits_in = set(), False, False, False, None
 
-    def call(self, call, before, after, answer, automatic_scans):
+    def call(self, call, before, after, answer, pair):
         self.count("calls", call[0])
         if call[0] == "fresh":
             self.forget()

@@ -1,12 +1,13 @@
 """Compares what was worked by hand, and the manual's own figures, with the model and with a program."""
 
 from tests.figures import images as image_figures
+from tests.figures import manual as manual_figures
 from tests.figures import scans as scan_figures
+from tests.figures import sheets as sheet_figures
 from tests.figures import writes as write_figures
-from tests.figures.manual import FIGURES
 from tests.lists.parameters import writes_of
 from tests.model import loop
-from tests.model.lines import line_of
+from tests.model.lines import line_of, text_of
 from tests.model.state import Exact, Parameters, Stored
 from tests.model.table import NUMBER
 
@@ -16,7 +17,7 @@ CASES = (*scan_figures.CASES, *write_figures.CASES, *image_figures.CASES)
 FRESH = {"SW": 0x1234, "request": "M", "output": 0, "user_bits": 0, "measured_power": False, "memory_fault": False, "previous_PV": None,
          "PV_before_previous": None, "previous_SP": None, "pins": 0x80, "buttons": 0, "open_count": 0, "PV": 0, "SP": 0, "ER": 0, "MP": 0,
          "battery_low": False, "low_alarm": False, "high_alarm": False}
-SCAN_WORDS = ("MD", "DS", "OP", "electrical")
+SCAN_WORDS = ("MD", "DS", "OP", "electrical", "mode", "PV")
 
 
 def calls_of(case):
@@ -90,7 +91,7 @@ def is_answer(answer, expected):
     """Whether an answer is the one expected; words expected are those of a scan, by place."""
     if isinstance(expected, dict):
         words = answer.split()
-        return len(words) == 5 and words[0] == "scan" and all(words[place] == str(value) for place, value in expected.items())
+        return len(words) == 7 and words[0] == "scan" and all(words[place] == text_of(value) for place, value in expected.items())
     return expected is None or answer == expected
 
 
@@ -101,7 +102,7 @@ def all_lines():
     """
     for case in CASES:
         yield from ((case.name, *line) for line in lines_of(case))
-    for name, steps in FIGURES:
+    for name, steps in (*manual_figures.FIGURES, *sheet_figures.FIGURES):
         yield from ((name, *line) for line in (("fresh 0", "ok"), *steps))
 
 
@@ -113,5 +114,3 @@ def wrong_in(answers_of):
     wrong = [f"{name}: {line!r} is answered {answer!r}, expected {expected!r}"
              for (name, line, expected), answer in zip(lines, answers) if not is_answer(answer, expected)]
     return wrong, sum(expected is not None for _, _, expected in lines)
-
-

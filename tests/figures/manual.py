@@ -72,7 +72,7 @@ FIGURES = (
     *((f"2.6.2: sumcheck failure, S2.2 {position}", (
         (f"fresh {SW}", "ok"), restart(0x0000, **LIMITS), read("HO", 9999), read("LO", 0), read("OP", OP), read("MD", 0x2100),
         read("DS", 0x801B),
-        ("scan 128 0 0 0 2 0", f"scan {0x2102} {0x801B} {OP} 0")))
+        ("scan 128 0 0 0 2 0", f"scan {0x2102} {0x801B} {OP} 0 forced 0")))
       for position, SW, OP in (("OFF", 0, 0), ("ON", 0x4000, 9999))),
     # "writing a logic zero to bit 8": bit 8 "will reset to logic zero"; "revert to the normal MANUAL operating mode";
     # bit 2 of DS "will reset to logic "1""; "Any other operating modes can be selected"

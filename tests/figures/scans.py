@@ -33,15 +33,16 @@ def terms(name, SW, set_before, calls, steps):
 
 
 def manual(name, set_before, sample, DS):
-    """One scan in Manual, for the alarms.
+    """One scan in Manual, for the alarms; PV is a tenth of the sample.
 
     "3 is 0 for battery low, 2 for a cause, 1 for low alarm .., 0 for high ..".
     """
-    return Case("alarm: " + name, 0, set_before, [scan(first=sample)], {"MD": 0x2000, "DS": DS})
+    return Case("alarm: " + name, 0, set_before, [scan(first=sample)], {"MD": 0x2000, "DS": DS, "mode": "Manual", "PV": sample // 10})
 
 
 def ratio(name, SW, set_before, calls, setpoint):
-    return Case("Ratio: " + name, S2_1 | SW, {"LS": -1000, **set_before}, calls, {"SP": setpoint, "SL": setpoint, "MD": 0x0C04})
+    return Case("Ratio: " + name, S2_1 | SW, {"LS": -1000, **set_before}, calls,
+                {"SP": setpoint, "SL": setpoint, "MD": 0x0C04, "mode": "Ratio"})
 
 
 OPEN_IN_AUTO = [track(2500), scan(), *[scan(sensors=1)] * 84]
@@ -49,7 +50,8 @@ UP_BY_ONE = [track(5000), track(5000), scan(first=10)]   # PV 0, 0, 1: c - c1 = 
 LIMITS = {"HO": 3000, "LO": 2000}
 
 CASES = (
-    Case("fresh: electrical output with S2.2 ON", S2_2, {}, [scan()], {"MD": 0x2000, "DS": 0x801F, "OP": 0, "electrical": 9999}),
+    Case("fresh: electrical output with S2.2 ON", S2_2, {}, [scan()],
+         {"MD": 0x2000, "DS": 0x801F, "OP": 0, "electrical": 9999, "mode": "Manual", "PV": 0}),
     # "Worked by hand", and the other sense of each switch
     terms("c - c1 = 1 gives 10 units", 0, {}, [track(5000, 20), scan(first=10)], 5010 * UNIT),
     terms("S2.4 ON", S2_4, {}, [track(5000, 20), scan(first=10)], 4990 * UNIT),
@@ -77,25 +79,34 @@ CASES = (
     manual("none at LA", {"LA": 500}, 5000, 0x801F), manual("below LA", {"LA": 500}, 4990, 0x801D),
     manual("none at HD", {"HD": 10}, 100, 0x801F), manual("above HD", {"HD": 10}, 110, 0x801E),
     manual("none at -LD", {"LD": 10, "SL": 20}, 100, 0x801F), manual("below -LD", {"LD": 10, "SL": 20}, 90, 0x801D),
-    Case("alarm: an open scan too", 0, {"channel_1L": 7, "HA": 6}, [scan(sensors=1)], {"DS": 0x801E}),
+    Case("alarm: an open scan too", 0, {"channel_1L": 7, "HA": 6}, [scan(sensors=1)], {"DS": 0x801E, "PV": 7}),
     manual("both", {"HA": 500, "LD": 10, "SL": 600}, 5500, 0x801C),
     # Words
-    Case("Auto with bit 4 is MD 1010h", 0, {"measured_power": True, "request": "A"}, [scan()], {"MD": 0x1010, "DS": 0x803F}),
-    Case("pins 91h in Auto, healthy: DS 913Fh", 0, {"request": "A"}, [scan(0x91)], {"MD": 0x1000, "DS": 0x913F}),
+    Case("Auto with bit 4 is MD 1010h", 0, {"measured_power": True, "request": "A"}, [scan()],
+         {"MD": 0x1010, "DS": 0x803F, "mode": "Auto"}),
+    Case("pins 91h in Auto, healthy: DS 913Fh", 0, {"request": "A"}, [scan(0x91)], {"MD": 0x1000, "DS": 0x913F, "mode": "Auto"}),
     Case("user bit 1", 0, {"user_bits": 1}, [scan()], {"DS": 0x805F}),
     Case("user bit 2", 0, {"user_bits": 2}, [scan()], {"DS": 0x809F}),
     Case("battery low", 0, {}, [scan(sensors=2)], {"MD": 0x2000, "DS": 0x8017}),
-    Case("Track with request Manual", 0, {}, [scan(0xC0)], {"MD": 0x4000, "DS": 0xC03F}),
-    Case("Hold with all else", 0, {}, [scan(0x7F, buttons=0xCF)], {"MD": 0x84CF, "DS": 0x7F1F}),
-    Case("Remote", 0, {}, [scan(0xA0, buttons=R)], {"MD": 0x0C04, "DS": 0xA02F}),
-    Case("Fall-back", 0, {}, [scan(0x80, buttons=R)], {"MD": 0x1004, "DS": 0x803F}),
+    Case("Track with request Manual", 0, {}, [scan(0xC0)], {"MD": 0x4000, "DS": 0xC03F, "mode": "Track"}),
+    Case("Hold with all else", 0, {}, [scan(0x7F, buttons=0xCF)], {"MD": 0x84CF, "DS": 0x7F1F, "mode": "Hold"}),
+    Case("Remote", 0, {}, [scan(0xA0, 3210, buttons=R)], {"MD": 0x0C04, "DS": 0xA02F, "mode": "Remote", "PV": 321}),
+    # "MD can't tell Fall-back from Auto"; nor Ratio from Remote
+    Case("Fall-back", 0, {}, [scan(0x80, 3210, buttons=R)], {"MD": 0x1004, "DS": 0x803F, "mode": "Fall-back", "PV": 321}),
+    Case("Auto, no button pressed", 0, {}, [scan(buttons=A), scan()], {"MD": 0x1000, "mode": "Auto"}),
+    Case("Fall-back, no button pressed", 0, {}, [scan(buttons=R), scan()], {"MD": 0x1000, "mode": "Fall-back"}),
+    Case("Ratio", S2_1, {}, [scan(0xA0, 3210, buttons=R)], {"MD": 0x0C04, "DS": 0xA02F, "mode": "Ratio", "PV": 321}),
+    Case("Fall-back with S2.1 ON", S2_1, {}, [scan(0x80, buttons=R)], {"MD": 0x1004, "mode": "Fall-back"}),
     # Causes: "Open scan 84 isn't a cause, 85 is"; A doesn't leave Forced Manual
-    Case("84 open scans", 0, {}, [*[scan(sensors=1)] * 83, scan(sensors=1, buttons=A)], {"MD": 0x1002, "DS": 0x803F, "request": "A"}),
-    Case("85 open scans", 0, {}, [*[scan(sensors=1)] * 84, scan(sensors=1, buttons=A)], {"MD": 0x2202, "DS": 0x801B, "request": "M"}),
-    Case("A after 85 open scans", 0, {}, [*[scan(sensors=1)] * 85, scan(buttons=A)], {"MD": 0x1002, "DS": 0x803F}),
+    Case("84 open scans", 0, {}, [*[scan(sensors=1)] * 83, scan(sensors=1, buttons=A)],
+         {"MD": 0x1002, "DS": 0x803F, "request": "A", "mode": "Auto"}),
+    Case("85 open scans", 0, {}, [*[scan(sensors=1)] * 84, scan(sensors=1, buttons=A)],
+         {"MD": 0x2202, "DS": 0x801B, "request": "M", "mode": "Forced Manual"}),
+    Case("A after 85 open scans", 0, {}, [*[scan(sensors=1)] * 85, scan(buttons=A)], {"MD": 0x1002, "DS": 0x803F, "mode": "Auto"}),
     Case("a cause in Hold", 0, {"request": "A"}, [*[scan(sensors=1)] * 84, scan(0, sensors=1)],
-         {"MD": 0x8200, "DS": 0x001B, "request": "M"}),
-    Case("the memory fault", 0, {"memory_fault": True}, [scan(buttons=A)], {"MD": 0x2102, "DS": 0x801B, "request": "M"}),
+         {"MD": 0x8200, "DS": 0x001B, "request": "M", "mode": "Hold"}),
+    Case("the memory fault", 0, {"memory_fault": True}, [scan(buttons=A)],
+         {"MD": 0x2102, "DS": 0x801B, "request": "M", "mode": "Forced Manual"}),
     # Output: minimum, limits
     Case("minimum", S2_5, LIMITS, [*OPEN_IN_AUTO, scan(sensors=1, buttons=RAISE)], {"OP": 2000, "electrical": 2000}),
     Case("minimum, S2.2 ON", S2_5 | S2_2, LIMITS, [*OPEN_IN_AUTO, scan(sensors=1)], {"OP": 3000, "electrical": 6999}),

@@ -87,9 +87,9 @@ CASES = (
     accepted("buttons stay", 0, {}, [scan(buttons=SP), write("MD", 0x1000)], MD=0x1008),
     accepted("bit 4 waits for MP", 0, {"channel_3H": 100}, [scan(third=5000), write("MD", 0x2010)], MD=0x2010, MP=0, SP=50),
     Case("bit 4 shows in the next scan", 0, {"channel_3H": 100}, [scan(third=5000), write("MD", 0x2010), scan(third=5000)],
-         {"MD": 0x2010, "MP": 50, "SP": 0}),
+         {"MD": 0x2010, "MP": 50, "SP": 0, "mode": "Manual"}),
     Case("Auto written before the 85th", S2_5, LIMITS, [track(2500, 0, M), *OPEN_84, write("MD", 0x1000), OPEN],
-         {"OP": 2000, "MD": 0x2200}),
+         {"OP": 2000, "MD": 0x2200, "mode": "Forced Manual"}),
     Case("Manual written before the 85th", S2_5, LIMITS, [track(2500), *OPEN_84, write("MD", 0x2000), scan(sensors=1, buttons=RAISE)],
          {"OP": 2512}),
     # The memory fault

@@ -27,9 +27,10 @@ PROOFS = (
 TESTS = (
     ("the console's answers compared with the model's", [*MODULE, "tests.comparison.console", "target/bin/console"]),
     ("the calculator's answers compared with the model's", [*MODULE, "tests.comparison.calculator", "target/bin/calculator"]),
+    ("kept sheets compared with the model's", [*MODULE, "tests.comparison.kept_sheets", "target/bin/sheet_console"]),
     ("the gate's own tests", [*MODULE, "tests.gate.gate_test"]),
     ("the model's calls that the rules are proved to give", [*MODULE, "tests.statements.calls"]),
-    ("programs that forge a controller", [*MODULE, "tests.outsider.outsider"]),
+    ("programs that forge a controller or a sheet", [*MODULE, "tests.outsider.outsider"]),
     ("layout", [*MODULE, "tests.repository.layout"]),
     ("names", [*MODULE, "tests.repository.names"]),
     ("the tests of layout and names", [*MODULE, "tests.repository.repository_test"]),

@@ -1,6 +1,6 @@
 """Other forms of the same call's line, and lines that are no call, drawn from a seed."""
 
-from tests.model.lines import ANY, LONGEST_LINE, RANGES, line_of, text_of
+from tests.model.lines import ANY, LONGEST_LINE, MODE, MODE_WORDS, RANGES, line_of, text_of
 
 
 # Other forms of the same call ----------------------------------------------
@@ -11,11 +11,12 @@ def of_digits(number, digits):
 
 
 def with_leading_zeros(generator, call):
-    return line_of((call[0], *(of_digits(number, generator.randint(min(18, len(str(abs(number))) + 1), 18)) for number in call[1:])))
+    return line_of(tuple(of_digits(part, generator.randint(min(18, len(str(abs(part))) + 1), 18)) if isinstance(part, int) else part
+                         for part in call))
 
 
 def with_eighteen_digits(generator, call):
-    return line_of((call[0], *(of_digits(number, 18) for number in call[1:])))
+    return line_of(tuple(of_digits(part, 18) if isinstance(part, int) else part for part in call))
 
 
 def with_minus_zeros(generator, call):
@@ -30,9 +31,13 @@ def with_more_blanks(generator, call):
 
 def with_700_bytes(generator, call):
     """The longest line: filled up with blanks, before the call, inside it or behind it."""
-    line = line_of(call)
-    missing = " " * (LONGEST_LINE - len(line))
-    return generator.choice([missing + line, line + missing, line.replace(" ", " " + missing, 1)])
+    return filled_up(generator, line_of(call), LONGEST_LINE)
+
+
+def filled_up(generator, line, length):
+    """A line with more blanks, so that it has so many bytes; a line of one word has no blank inside."""
+    missing = " " * (length - len(line))
+    return generator.choice([missing + line, line + missing, *([line.replace(" ", " " + missing, 1)] if " " in line else [])])
 
 
 def in_small_letters(generator, call):
@@ -55,17 +60,18 @@ NO_BYTES = ("--", "-0", "-00", "0-", "00-", "+00", "0x00", "00h", "0h", "g0", "0
             "0_0", "0,0", "\u00b2\u00b3", "\xff\xff", "0", "123")
 NO_WORDS = ("scam", "sca", "scann", "scan,", "scans", "freshen", "fres", "writ", "writes", "rewrite", "rea", "reads", "ok", "value",
             "refused", "error", "x", "-", "128", "scan128", "read5", "sav", "saves", "restar", "restarts", "start", "image", "save137")
+NO_SHEET_WORDS = (*NO_WORDS, "shee", "sheets", "sheet-", "sheet-ne", "sheet-news", "sheet_new", "sheetnew", "sheet-las", "sheet-lasts",
+                  "sheetlast", "sheet-fee", "sheet-feeds", "sheetfeed", "new", "last", "feed", "full", "sheet-old", "sheet=", "-sheet")
+# In place of a mode: parts and other forms of the words, the names that document 01 has for modes, numbers
+NO_MODES = ("hol", "holds", "trac", "tracking", "force", "forced-manual", "forcedmanual", "manua", "man", "manuals", "aut", "automatic",
+            "autos", "remot", "remotes", "rati", "ratios", "fall-back", "fallbac", "fallbacks", "fall", "m", "a", "r", "-", "0", "1", "7",
+            "hold,", "auto=", "auto=1", "none", "mode", "sheet", "\xff")
 OTHER_BLANKS = ("\t", "\v", "\f", "\r", "\0", "\xa0", ",")
 
 
 def with_number(call, place, number):
     """The call with another number, or with other text, at this place."""
     return line_of((*call[:place], number, *call[place + 1:]))
-
-
-def changed(generator, call, text):
-    """The call with one of its numbers put otherwise."""
-    return with_number(call, generator.randrange(1, len(call)), text)
 
 
 def number_missing(generator, call):
@@ -78,34 +84,61 @@ def number_too_many(generator, call):
     return line_of((*call[:place], generator.choice([0, 0, 128, 5000]), *call[place:]))
 
 
+def numbers_in(call):
+    """Place, least and greatest of each number of a call; a restart has none."""
+    return [(place, *ends) for place, ends in enumerate(RANGES.get(call[0], ()), 1) if ends != MODE]
+
+
 def number_beyond_its_type(generator, call):
     """One beyond an end, or far beyond: among them numbers that come out right in 8, 16, 32 bits if only the low bits
     are kept.
     """
-    place = generator.choice([place for place, ends in enumerate(RANGES[call[0]], 1) if ends != ANY])
-    least, greatest = RANGES[call[0]][place - 1]
+    place, least, greatest = generator.choice([each for each in numbers_in(call) if each[1:] != ANY])
     beyond = [greatest + 1, greatest + 1 + call[place], (1 << 16) + call[place], (1 << 32) + call[place], 10 ** 18 - 1]
     if least < 0:
-        beyond += [least - 1, call[place] - (1 << 32), 1 - 10 ** 18]
+        beyond += [least - 1, call[place] - (1 << 32), 1 - 10 ** 18, *([call[place] - (1 << 16)] if greatest < 1 << 16 else [])]
     return with_number(call, place, generator.choice([number for number in beyond if not least <= number <= greatest]))
 
 
 def number_below_zero(generator, call):
-    return changed(generator, call, generator.choice([-1, -2, -128, -256, -32768, -65536, -(1 << 32), 1 - 10 ** 18]))
+    """In place of a number that has no sign, or of a restart's bytes."""
+    number = generator.choice([-1, -2, -128, -256, -32768, -65536, -(1 << 32), 1 - 10 ** 18])
+    return with_number(call, generator.choice([place for place, least, _ in numbers_in(call) if least == 0] or [1]), number)
 
 
 def nineteen_digits(generator, call):
-    place = generator.randrange(1, len(call))
+    place, _, _ = generator.choice(numbers_in(call))
     text = generator.choice([of_digits(call[place], 19), "0" * 19, f"-{0:019}", str((1 << 64) + call[place]), "9" * 40, "0" * 300 + "5"])
     return with_number(call, place, text)
 
 
 def no_number(generator, call):
-    return changed(generator, call, generator.choice(NO_NUMBERS))
+    text = generator.choice((*NO_NUMBERS, *MODE_WORDS.values()) if call[0] == "sheet-feed" else NO_NUMBERS)
+    return with_number(call, generator.choice(numbers_in(call))[0], text)
+
+
+def with_mode_text(call, text):
+    """The call with a text in place of its mode; a mode's own name would be put as its word."""
+    return " ".join([call[0], text, *map(text_of, call[2:])])
+
+
+def no_mode(generator, call):
+    return with_mode_text(call, generator.choice(NO_MODES))
+
+
+def mode_in_capitals(generator, call):
+    word = text_of(call[1])
+    return with_mode_text(call, generator.choice((word.upper(), word.capitalize(), word[:-1] + word[-1].upper())))
+
+
+def mode_behind(generator, call):
+    """The mode stands behind one or more of the numbers, or behind all."""
+    place = generator.randint(2, len(call) - 1)
+    return line_of((call[0], *call[2:place + 1], call[1], *call[place + 1:]))
 
 
 def unknown_word(generator, call):
-    return line_of((generator.choice(NO_WORDS), *call[1:]))
+    return line_of((generator.choice(NO_SHEET_WORDS if call[0].startswith("sheet") else NO_WORDS), *call[1:]))
 
 
 def word_in_capitals(generator, call):
@@ -146,9 +179,7 @@ def overlong_line(generator, call):
 
     Of the longest the first or the last 700 bytes would be a call.
     """
-    line = line_of(call)
-    missing = " " * (generator.choice([701, 702, 768, 1024, 1400, 4096, 5000]) - len(line))
-    return generator.choice([missing + line, line + missing, line.replace(" ", " " + missing, 1)])
+    return filled_up(generator, line_of(call), generator.choice([701, 702, 768, 1024, 1400, 4096, 5000]))
 
 
 def with_wrong_text(text, wrong, place):
@@ -178,17 +209,24 @@ LINE_ERRORS = {"number missing": number_missing, "number too many": number_too_m
                "number below zero": number_below_zero, "nineteen digits": nineteen_digits, "no number": no_number,
                "unknown word": unknown_word, "word in capitals": word_in_capitals, "no word": no_word, "word twice": word_twice,
                "empty line": empty_line, "blanks only": blanks_only, "other blank": other_blank, "two calls": two_calls,
-               "overlong line": overlong_line, "no bytes": no_bytes, "odd digits": odd_digits, "blank in bytes": blank_in_bytes}
-# Only a restart has bytes, and it has no numbers; some lines with a number that is wrong elsewhere are calls all the
-# same.
+               "overlong line": overlong_line, "no bytes": no_bytes, "odd digits": odd_digits, "blank in bytes": blank_in_bytes,
+               "no mode": no_mode, "mode in capitals": mode_in_capitals, "mode behind": mode_behind}
+# What is made of bytes, which only a restart has, of a mode, which only an answer to be entered has, and of numbers,
+# which a restart and some calls on the sheet haven't; some lines with a number that is wrong elsewhere are calls all
+# the same.
 OF_BYTES = ("small letters", "both cases", "no bytes", "odd digits", "blank in bytes")
+OF_MODES = ("no mode", "mode in capitals", "mode behind")
 OF_NUMBERS = ("leading zeros", "eighteen digits", "minus zero", "number beyond its type", "nineteen digits", "no number")
-NOT_OF = {"write": ("number below zero",), "read": ("number below zero", "number beyond its type")}
+NOT_OF = {"restart": (*OF_NUMBERS, *OF_MODES), "sheet-feed": OF_BYTES,
+          "write": (*OF_BYTES, *OF_MODES, "number below zero"),
+          "read": (*OF_BYTES, *OF_MODES, "number below zero", "number beyond its type"),
+          **{word: (*OF_BYTES, *OF_MODES, *OF_NUMBERS, "number missing", "number below zero")
+             for word, ranges in RANGES.items() if not ranges}}
 
 
 def applies(kind, word):
     """Whether a call of this word can be put in this form or made into this line error."""
-    return kind not in (OF_NUMBERS if word == "restart" else OF_BYTES) and kind not in NOT_OF.get(word, ())
+    return kind not in NOT_OF.get(word, (*OF_BYTES, *OF_MODES))
 
 
 def other_forms_of(word):

@@ -97,11 +97,11 @@ class Claim:
         stored, exact = after
         is_to_leave = call[0] in ("read", "save") or answers[0][0] == "refused"
         if is_to_leave and stored is before[0] and exact is before[1]:  # all that was found of them still holds
-            return [*broken_answers(call, stored, None, answers)]
+            return [*broken_answers(call, after, None, answers)]
         mode, indicated = first_mode_present(exact), mode_of(stored)
         self.follow(call, before[1], exact, answers[1], mode)
         return [*self.broken_states(after), *broken_leaving(call, before, after, answers),
-                *broken_answers(call, stored, mode, answers),
+                *broken_answers(call, after, mode, answers),
                 *self.broken_output(stored, exact, mode),
                 *([] if indicated == mode else [f"the mode is {indicated}, the first condition present is that of {mode}"])]
 
@@ -191,9 +191,10 @@ def broken_image(stored, answers):
         yield f"the image's sumcheck isn't right: {ours.hex()}"
 
 
-def broken_answers(call, stored, mode, answers):
+def broken_answers(call, after, mode, answers):
     """Compared: "all answers equal, save OP and electrical output, which are those of our own stored output"."""
     ours, others = answers
+    stored, exact = after
     if ours[0] == others[0] == "image":
         yield from broken_image(stored, answers)
         return
@@ -202,15 +203,23 @@ def broken_answers(call, stored, mode, answers):
         if ours != ("value", whole_units):
             yield f"OP reads {ours}, that of the output {stored.output} is {whole_units}"
         return
-    if ours[0] != "scan":
-        if ours != others:
-            yield f"the answer is {ours}, the exact controller's {others}"
-        return
-    if ours[:3] != others[:3]:
-        yield f"the words are {ours[:3]}, the exact controller's {others[:3]}"
+    if ours[0] == "scan":
+        yield from broken_words(stored, exact, mode, answers)
+    elif ours != others:
+        yield f"the answer is {ours}, the exact controller's {others}"
+
+
+def broken_words(stored, exact, mode, answers):
+    """A scan's answer; its mode is the first in the priority order whose condition is present."""
+    (_, md, ds, *outputs, answered, pv), (_, exact_md, exact_ds, _, _, exact_answered, exact_pv) = answers
+    if (md, ds, answered, pv) != (exact_md, exact_ds, exact_answered, exact_pv):
+        yield f"the answer is {answers[0]}, the exact controller's {answers[1]}"
+    whole_units = stored.output // STEPS_IN_A_UNIT
     electrical = 9999 - whole_units if bit(stored.SW, 14) else whole_units
-    if ours[3:] != (whole_units, electrical):
-        yield f"OP and electrical output are {ours[3:]}, those of the output {stored.output} are {(whole_units, electrical)}"
-    bits = [place for place in MODES_BY_MD_BIT if bit(ours[1], place)]
+    if outputs != [whole_units, electrical]:
+        yield f"OP and electrical output are {outputs}, those of the output {stored.output} are {(whole_units, electrical)}"
+    if answered != mode or pv != exact.PV:
+        yield f"the answer's mode is {answered} and its PV {pv}, the exact controller's are {mode} and {exact.PV}"
+    bits = [place for place in MODES_BY_MD_BIT if bit(md, place)]
     if len(bits) != 1 or mode not in MODES_BY_MD_BIT[bits[0]]:
-        yield f"MD {ours[1]:04X}h does not show {mode}"
+        yield f"MD {md:04X}h does not show {mode}"

@@ -1,9 +1,9 @@
 """The lines that the console reads, and those it answers: the form that was decided for them.
 
 A number is an optional minus and one to eighteen digits.  Bytes are two hexadecimal digits each, of either case; a
-minus alone stands for none.  One or more blanks, spaces only, stand between words and may stand before and behind.  A
-line has up to 700 bytes without its newline.  A line that isn't a call is answered error and changes nothing.  Texts
-here have one character for each byte of the line.
+minus alone stands for none.  A mode is one of eight words in small letters.  One or more blanks, spaces only, stand
+between words and may stand before and behind.  A line has up to 700 bytes without its newline.  A line that isn't a
+call is answered error and changes nothing.  Texts here have one character for each byte of the line.
 """
 
 import re
@@ -12,11 +12,18 @@ from functools import lru_cache
 LONGEST_LINE = 700
 NUMBER = re.compile("-?[0-9]{1,18}")
 BYTES = re.compile("-|(?:[0-9A-Fa-f]{2})+")
-# The least and the greatest of each number: SW and samples have 16 bits, pins, buttons and sensors 8, a value to be
-# written 32 and a sign; a parameter number may be any; a save's buffer has up to 300 bytes.  A restart has bytes in
-# place of numbers.  Further kinds of call are to be added here.
-BYTE, WORD, VALUE, ANY, BUFFER = (0, 255), (0, 65535), (-1 << 31, (1 << 31) - 1), (1 - 10 ** 18, 10 ** 18 - 1), (0, 300)
-RANGES = {"fresh": (WORD,), "scan": (BYTE, WORD, WORD, WORD, BYTE, BYTE), "write": (ANY, VALUE), "read": (ANY,), "save": (BUFFER,)}
+# The modes by the words that stand for them in lines, and the other way round
+MODE_WORDS = {"Hold": "hold", "Track": "track", "Forced Manual": "forced", "Manual": "manual", "Auto": "auto", "Remote": "remote",
+              "Ratio": "ratio", "Fall-back": "fallback"}
+MODE_OF_WORD = {word: mode for mode, word in MODE_WORDS.items()}
+# The least and the greatest of each number: SW, samples, DS and OP have 16 bits, pins, buttons and sensors 8, a value
+# to be written 32 and a sign, a PV to be entered in a sheet 16 and a sign; a parameter number may be any; a save's
+# buffer has up to 300 bytes.  A restart has bytes in place of numbers, and an answer to be entered begins with a mode.
+# Further kinds of call are to be added here.
+BYTE, WORD, SIGNED_WORD, VALUE = (0, 255), (0, 65535), (-1 << 15, (1 << 15) - 1), (-1 << 31, (1 << 31) - 1)
+ANY, BUFFER, MODE = (1 - 10 ** 18, 10 ** 18 - 1), (0, 300), "mode"
+RANGES = {"fresh": (WORD,), "scan": (BYTE, WORD, WORD, WORD, BYTE, BYTE), "write": (ANY, VALUE), "read": (ANY,), "save": (BUFFER,),
+          "sheet-new": (), "sheet-last": (), "sheet-feed": (MODE, SIGNED_WORD, WORD, WORD), "sheet": ()}
 MOST_BYTES = 300  # of an image in the lists; what the console makes of more isn't decided
 
 
@@ -29,16 +36,32 @@ def call_of(line):
     """
     if len(line) > LONGEST_LINE:
         return None
-    word, *texts = [part for part in line.split(" ") if part] or [""]
+    word, *texts = words_of(line)
     if word == "restart":
         return (word, bytes_of(texts[0])) if len(texts) == 1 and BYTES.fullmatch(texts[0]) else None
-    ranges = RANGES.get(word)
-    if ranges is None or len(texts) != len(ranges) or not all(map(NUMBER.fullmatch, texts)):
+    return call_by(RANGES, word, texts)
+
+
+def words_of(line):
+    return [part for part in line.split(" ") if part] or [""]
+
+
+def call_by(ranges, word, texts):
+    """The call with these texts behind its word, by a table of what stands behind each word; None if it isn't one."""
+    if word not in ranges or len(texts) != len(ranges[word]):
         return None
-    numbers = tuple(map(int, texts))
-    if any(not least <= number <= greatest for number, (least, greatest) in zip(numbers, ranges, strict=True)):
+    parts = tuple(map(part_of, texts, ranges[word]))
+    return None if None in parts else (word, *parts)
+
+
+def part_of(text, kind):
+    """The number or the mode that a text is, or None."""
+    if kind == MODE:
+        return MODE_OF_WORD.get(text)
+    if not NUMBER.fullmatch(text):
         return None
-    return (word, *numbers)
+    least, greatest = kind
+    return int(text) if least <= int(text) <= greatest else None
 
 
 def bytes_of(text):
@@ -46,10 +69,10 @@ def bytes_of(text):
 
 
 def text_of(part):
-    """A word, a number or bytes; the console answers bytes in capitals."""
+    """A word, a mode, a number or bytes; the console answers bytes in capitals."""
     if isinstance(part, bytes):
         return part.hex().upper() or "-"
-    return str(part)
+    return MODE_WORDS.get(part) or str(part)
 
 
 @lru_cache(maxsize=1 << 14)

@@ -3,32 +3,39 @@
 from tests.model import loop
 from tests.model.claim import Claim
 from tests.model.lines import call_of, line_of
+from tests.model.session import SHEET_CALLS, Session
 from tests.model.state import Exact, Stored
 from tests.model.words import mode_of
 
 
 class Pair:
-    """The pair begins as the program does: "fresh with SW 0"."""
+    """The pair begins as the program does: "fresh with SW 0"; beside it goes the session with its sheet."""
 
     def __init__(self):
-        self.claim = Claim()
+        self.claim, self.session = Claim(), Session()
         self.controllers = loop.fresh(0, Stored), loop.fresh(0, Exact)
 
     def make(self, call):
         """Makes the call; our answer and the parts of the claim that were broken."""
+        if call[0] in SHEET_CALLS:
+            return self.session.make(call), []
         before = self.controllers
         stored, answer = loop.make(before[0], call, Stored)
         exact, exact_answer = loop.make(before[1], call, Exact)
         self.controllers = stored, exact
+        self.session.follow(answer)
         return answer, self.claim.broken(call, before, self.controllers, (answer, exact_answer), mode_of)
 
 
 def answers_of(lines):
-    """The model's answers to the lines, from the controller that is fresh with SW 0."""
-    controller, answers = loop.fresh(0, Stored), []
+    """The model's answers to the lines, from the controller that is fresh with SW 0 and an empty sheet."""
+    controller, session, answers = loop.fresh(0, Stored), Session(), []
     for line in lines:
         call = call_of(line)
-        if call:
+        if call and call[0] in SHEET_CALLS:
+            answer = session.make(call)
+        elif call:
             controller, answer = loop.make(controller, call, Stored)
+            session.follow(answer)
         answers.append(line_of(answer) if call else "error")
     return answers

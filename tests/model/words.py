@@ -71,6 +71,9 @@ def DS(controller):
 
 
 def scan_words(controller, arithmetic):
-    """Words: "A scan answers MD, DS, OP and electrical output"; the last is OP, "or 9999 - OP with S2.2 ON"."""
+    """Words: "A scan answers MD, DS, OP and electrical output"; the last is OP, "or 9999 - OP with S2.2 ON".
+
+    Document 02, request 1: "A scan's answer carries the mode and PV as well from now on".
+    """
     OP = arithmetic.whole_units(controller.output)
-    return MD(controller), DS(controller), OP, 9999 - OP if controller.SW & S2_2 else OP
+    return MD(controller), DS(controller), OP, 9999 - OP if controller.SW & S2_2 else OP, mode_of(controller), controller.PV

@@ -1,4 +1,4 @@
-"""A program outside the library has no controller but those that `Controller::fresh` and the calls give.
+"""A program outside the library has no controller and no sheet but those that their calls give.
 
 Usage: python3 -B -m tests.outsider.outsider
 
@@ -18,13 +18,16 @@ import tempfile
 from tests import ROOT
 from tests.gate import tally
 
-# A controller is made; whatever else the program is given, it can put nothing of it into the controller.
+# A controller and a sheet are made; whatever else the program is given, it can put nothing of it into them.
 PROGRAM = """use controller::Controller;
 use controller::Core;
 use parameters::Parameters;
+use sheet::Sheet;
+use sheet::SheetValues;
 
-pub fn forged(mut core: Core, mut parameters: Parameters, output: i64) -> Controller {
+pub fn forged(mut core: Core, mut parameters: Parameters, output: i64, values: SheetValues) -> Controller {
     let mut controller = Controller::fresh(0);
+    let mut sheet = Sheet::empty();
     LINE
     controller
 }
@@ -38,6 +41,8 @@ LINES = (
     ("core.parameters = parameters;", "private-field"),
     ("parameters.values[1] = output;", "private-field"),
     ("parameters = Parameters { values: [output; 24] };", "private-field"),
+    ("sheet.values = values;", "private-field"),
+    ("sheet = Sheet { values };", "private-field"),
     ("controller = controller.written(1, output);", "unknown-method"),
     ("core = core.parameter_written(1, output);", "unknown-method"),
     ("let legal = controller::repaired::are_legal(parameters);", "unknown-name"),
@@ -56,7 +61,7 @@ def repository(folder):
             (folder / part / path.name).symlink_to(path)
     shutil.copytree(ROOT / "target" / "stamp", folder / "target" / "stamp")
     listed = (ROOT / "crates.txt").read_text(encoding="utf-8")
-    (folder / "crates.txt").write_text(f"{listed}outsider: parameters controller\n", encoding="utf-8")
+    (folder / "crates.txt").write_text(f"{listed}outsider: parameters controller sheet\n", encoding="utf-8")
     (folder / "crates" / "outsider" / "src").mkdir(parents=True)
 
 
@@ -90,7 +95,7 @@ def main():
                 faults.append(f"{line} isn't refused for {cause} alone:\n{printed}")
             elif cause in UNKNOWN and not is_there(line):
                 faults.append(f"{line} calls a function that isn't there")
-    return tally.report(faults, 1 + len(LINES), "a controller comes from the calls alone")
+    return tally.report(faults, 1 + len(LINES), "controllers and sheets come from the calls alone")
 
 
 if __name__ == "__main__":

@@ -64,8 +64,9 @@ def broken_links(document):
 def edits():
     """Must-fail edits that the trace doesn't cite, or cites and aren't there; and how many there are in all."""
     there = {f"{path.parent.parent.name}/{path.stem}" for path in ROOT.glob("crates/*/must-fail/*.edit")}
-    cited = set(re.findall(r"\bedit (\w+/\w+)", (ROOT / "docs/TRACE.md").read_text(encoding="utf-8")))
-    return [f"docs/TRACE.md: edit {name} is cited or there, and not both" for name in sorted(there ^ cited)], len(there | cited)
+    trace = "".join(path.read_text(encoding="utf-8") for path in (ROOT / "docs").glob("TRACE*.md"))
+    cited = set(re.findall(r"\bedit (\w+/\w+)", trace))
+    return [f"docs/TRACE: edit {name} is cited or there, and not both" for name in sorted(there ^ cited)], len(there | cited)
 
 
 def main():

@@ -1,4 +1,4 @@
--- Laws of the commands: the next controller is valid, and a save changes no byte that isn't the image's.
+-- Laws of the calls: the next controller is valid, and a save changes no byte that isn't the image's.
 use mathlib.Core.Bool.{Bool, true, false, _&&_, cond}
 use mathlib.Core.List.{List, [], _∷_, _++_, append-assoc}
 use mathlib.Core.Option.{some, none}
@@ -26,11 +26,11 @@ use Rattle.controller.specs.declared.Controller.{Controller}
 use Rattle.console.specs.Calls.{isFilled, stepOf, unchangedWith, performed, checkedReply, saveReply}
 use Rattle.console.specs.declared.call.Reply.the-variants.{Image, Refused, Error}
 use Rattle.console.specs.declared.call.Step.{Step}
-use Rattle.console.specs.declared.request.Command.{Command}
-use Rattle.console.specs.declared.request.Command.the-variants.{Fresh, Scan, Write, Read, Restart, Save, Invalid}
+use Rattle.console.specs.declared.request.Call.{Call}
+use Rattle.console.specs.declared.request.Call.the-variants.{Fresh, Scan, Write, Read, Restart, Save}
 
--- every command leaves a controller that the next call may take
-pub valid-performed : (c : Controller) (command : Command) (bytes : List ℕ) → Valid c → Valid (performed c command bytes .controller)
+-- every call leaves a controller that the next call may take
+pub valid-performed : (c : Controller) (call : Call) (bytes : List ℕ) → Valid c → Valid (performed c call bytes .controller)
 unfolding performed
 valid-performed c (Fresh sw) bytes v = valid-fresh sw
 valid-performed c (Scan input) bytes v = valid-scan c input v
@@ -40,7 +40,6 @@ valid-performed c (Restart count) bytes v =
     by-cases (λ (s : Step). Valid (s .controller)) (leb count (length bytes)) (stepOf (restart c (take count bytes)))
     (unchangedWith c Error) (λ e. valid-restart c (take count bytes) v) (λ e. v)
 valid-performed c (Save count) bytes v = v
-valid-performed c Invalid bytes v = v
 
 -- ---- filled buffers
 

@@ -5,25 +5,45 @@ use mathlib.Core.Option.{Option, none}
 use Prim.Native.Nat.{ℕ}
 use lib.Dec.{leb, ltb}
 use lib.IntN.{ℤ, pos, negℤ, natAbs}
-use lib.ListN.{length, take, getD}
+use lib.ListN.{length, take}
 use lib.Signed.{leZ}
 use Rattle.integers.specs.Choice.{if_then_else_}
 use Rattle.integers.specs.Sign.{isNegative}
-use Rattle.text.specs.Arguments.{part, argumentsFrom, isCall, naturalIn}
+use Rattle.text.specs.Arguments.{part, argument, argumentsFrom, isCall, naturalIn}
 use Rattle.text.specs.Hexadecimal.{bytesOf, countIn, bytesIn}
 use Rattle.text.specs.Words.{wordAt, sameBytes}
 use Rattle.text.specs.declared.arguments.Arguments.{Arguments}
 use Rattle.text.specs.declared.hexadecimal.Count.{Count}
 use Rattle.text.specs.declared.hexadecimal.Count.the-variants.{Bytes, Malformed}
 use Rattle.formatting.specs.Ascii.{ascii}
+use Rattle.sheet_lines.specs.Answers.{answerFrom}
+use Rattle.sheet_lines.specs.declared.answer.ParsedAnswer.{ParsedAnswer}
+use Rattle.sheet_lines.specs.declared.answer.ParsedAnswer.the-variants as parsed
+use Rattle.console.specs.declared.request.Call.the-variants.{Fresh, Scan, Write, Read, Restart, Save}
 use Rattle.console.specs.declared.request.Command.{Command}
-use Rattle.console.specs.declared.request.Command.the-variants.{Fresh, Scan, Write, Read, Restart, Save, Invalid}
+use Rattle.console.specs.declared.request.Command.the-variants as command
+use Rattle.console.specs.declared.sheet_call.SheetCall.the-variants as sheetcall
+use Rattle.console.specs.declared.sheet_call.SheetCall.the-variants.{New, Last, Feed}
+
+-- ---- the sheet
+
+-- sheet-new, sheet-last and sheet, with no arguments
+unfoldable pub sheetCommand : List ℕ → Arguments → Command
+sheetCommand word a =
+    if isCall word (ascii "sheet-new") a 0 then command.Sheet New else
+    if isCall word (ascii "sheet-last") a 0 then command.Sheet Last else
+    if isCall word (ascii "sheet") a 0 then command.Sheet sheetcall.Read else command.Invalid
+
+-- with the answer of the line; a malformed one asks nothing
+abbrev pub feedOf : ParsedAnswer → Command
+feedOf (parsed.Answer v) = command.Sheet (Feed v)
+feedOf parsed.Malformed = command.Invalid
+
+-- sheet-feed MODE PV DS OP: a PV of 16 bits
+unfoldable pub feedCommand : List ℕ → ℕ → Command
+feedCommand line start = feedOf (answerFrom line start (negℤ (pos 32768)) (pos 32767))
 
 -- ---- numbers
-
--- an argument, counted from 0
-abbrev pub argument : List ℤ → ℕ → ℤ
-argument values i = getD values i (pos 0)
 
 -- the number of a parameter; one below zero is no parameter's, and 0 stands for it
 abbrev pub parameterNumber : ℤ → ℕ
@@ -31,7 +51,9 @@ parameterNumber v = if isNegative v then 0 else natAbs v
 
 -- fresh SW
 unfoldable pub freshCommand : List ℤ → Command
-freshCommand values = let sw = naturalIn (argument values 0) 0 65535 in if sw .ok then Fresh (sw .value) else Invalid
+freshCommand values =
+    let sw = naturalIn (argument values 0) 0 65535 in
+    if sw .ok then command.Call (Fresh (sw .value)) else command.Invalid
 
 -- scan PINS S1 S2 S3 BUTTONS SENSORS
 unfoldable pub scanCommand : List ℤ → Command
@@ -42,33 +64,36 @@ scanCommand values =
     let sample3 = naturalIn (argument values 3) 0 65535 in
     let buttons = naturalIn (argument values 4) 0 255 in
     let sensors = naturalIn (argument values 5) 0 255 in
-    if pins .ok && sample1 .ok && sample2 .ok && sample3 .ok && buttons .ok && sensors .ok then Scan (record {
+    if pins .ok && sample1 .ok && sample2 .ok && sample3 .ok && buttons .ok && sensors .ok then command.Call (Scan (record {
       pins = pins .value;
       sample1 = sample1 .value;
       sample2 = sample2 .value;
       sample3 = sample3 .value;
       buttons = buttons .value;
       sensors = sensors .value;
-    }) else Invalid
+    })) else command.Invalid
 
 -- write NUMBER VALUE: a value that 32 bits don't hold is no call
 unfoldable pub writeCommand : List ℤ → Command
 writeCommand values =
     let v = argument values 1 in
-    if leZ (negℤ (pos 2147483648)) v && leZ v (pos 2147483647) then Write (parameterNumber (argument values 0)) v else Invalid
+    if leZ (negℤ (pos 2147483648)) v && leZ v (pos 2147483647) then
+    command.Call (Write (parameterNumber (argument values 0)) v) else command.Invalid
 
 -- save LENGTH
 unfoldable pub saveCommand : List ℤ → Command
-saveCommand values = let size = naturalIn (argument values 0) 0 300 in if size .ok then Save (size .value) else Invalid
+saveCommand values =
+    let size = naturalIn (argument values 0) 0 300 in
+    if size .ok then command.Call (Save (size .value)) else command.Invalid
 
 -- a command whose arguments are numbers
 unfoldable pub numbersCommand : List ℕ → Arguments → Command
 numbersCommand word a =
     if isCall word (ascii "scan") a 6 then scanCommand (a .values) else
     if isCall word (ascii "write") a 2 then writeCommand (a .values) else
-    if isCall word (ascii "read") a 1 then Read (parameterNumber (argument (a .values) 0)) else
+    if isCall word (ascii "read") a 1 then command.Call (Read (parameterNumber (argument (a .values) 0))) else
     if isCall word (ascii "fresh") a 1 then freshCommand (a .values) else
-    if isCall word (ascii "save") a 1 then saveCommand (a .values) else Invalid
+    if isCall word (ascii "save") a 1 then saveCommand (a .values) else sheetCommand word a
 
 -- ---- a restart
 
@@ -81,8 +106,8 @@ restartImage line start =
 
 -- with that many bytes; a malformed word asks nothing
 abbrev pub restartOf : Count → Command
-restartOf (Bytes n) = Restart n
-restartOf Malformed = Invalid
+restartOf (Bytes n) = command.Call (Restart n)
+restartOf Malformed = command.Invalid
 
 -- ---- a line
 
@@ -92,6 +117,7 @@ commandOf call size =
     let w = wordAt call 0 in
     let word = part call (w .from) (w .to) in
     if sameBytes word (ascii "restart") then restartOf (countIn (restartImage call (w .to)) size) else
+    if sameBytes word (ascii "sheet-feed") then feedCommand call (w .to) else
     numbersCommand word (argumentsFrom call (w .to))
 
 -- and the buffer afterwards
@@ -102,7 +128,7 @@ commandBytes call bytes =
 
 -- a line that fills its whole buffer is too long
 unfoldable pub commandIn : List ℕ → ℕ → ℕ → Command
-commandIn line len size = if leb (length line) len then Invalid else commandOf (take len line) size
+commandIn line len size = if leb (length line) len then command.Invalid else commandOf (take len line) size
 
 -- and the buffer afterwards
 unfoldable pub bytesAfter : List ℕ → ℕ → List ℕ → List ℕ

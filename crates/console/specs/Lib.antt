@@ -1,5 +1,7 @@
 pub mod Replies
-pub mod Calls
-pub mod CallLaws
 pub mod ReplyLaws
 pub mod Commands
+pub mod Calls
+pub mod CallLaws
+pub mod Sessions
+pub mod Lines

@@ -1,31 +1,60 @@
--- The lines that answer calls, as bytes.
+-- The lines that answer commands, as bytes.
 use mathlib.Core.Path.{_≡_, refl}
-use mathlib.Core.List.{List, [], _++_}
+use mathlib.Core.List.{List, _++_}
 use Prim.Native.Nat.{ℕ}
+use lib.IntN.{ℤ, pos}
 use lib.ListN.{take}
+use Rattle.modes.specs.declared.Mode.the-variants.{Auto}
+use Rattle.answers.specs.declared.ScanValues.{ScanValues}
+use Rattle.sheet.specs.declared.Sheet.{Sheet}
 use Rattle.text.specs.Digits.{digitsWithin, digits, decimal, hexadecimal}
 use Rattle.formatting.specs.Ascii.{ascii}
+use Rattle.sheet_lines.specs.ModeWords.{modeWord}
+use Rattle.sheet_lines.specs.SheetText.{sheetText}
 use Rattle.console.specs.declared.call.Reply.{Reply}
-use Rattle.console.specs.declared.call.Reply.the-variants.{Accepted, Value, Words, Image, Refused, Error}
+use Rattle.console.specs.declared.call.Reply.the-variants.{Accepted, Value, Answer, Image, WholeSheet, Full, Refused, Error}
 
 -- a blank and a number
 unfoldable pub spaced : ℕ → List ℕ
 spaced n = ascii " " ++ digits n
 
--- a line without its end; the image is the first 137 bytes of the buffer that was saved into
-unfoldable pub replyText : Reply → List ℕ → List ℕ
-replyText Accepted saved = ascii "ok"
-replyText (Value v) saved = ascii "value " ++ decimal v
-replyText (Words md ds op electrical) saved = ascii "scan" ++ spaced md ++ spaced ds ++ spaced op ++ spaced electrical
-replyText Image saved = ascii "image " ++ hexadecimal (take 137 saved)
-replyText (Refused number) saved = ascii "refused" ++ spaced number
-replyText Error saved = ascii "error"
+-- the words of a scan's answer
+unfoldable pub wordsText : ScanValues → List ℕ
+wordsText v = ascii "scan" ++ spaced (v .md) ++ spaced (v .ds) ++ spaced (v .op) ++ spaced (v .electrical)
+
+-- all of it
+unfoldable pub answerText : ScanValues → List ℕ
+answerText v = wordsText v ++ ascii " " ++ modeWord (v .mode) ++ ascii " " ++ decimal (v .pv)
+
+-- a parameter's value
+unfoldable pub valueText : ℤ → List ℕ
+valueText v = ascii "value " ++ decimal v
+
+-- an image: the first 137 bytes of the buffer that was saved into
+unfoldable pub imageText : List ℕ → List ℕ
+imageText saved = ascii "image " ++ hexadecimal (take 137 saved)
+
+unfoldable pub refusedText : ℕ → List ℕ
+refusedText number = ascii "refused" ++ spaced number
+
+-- a line without its end, with the buffer that was saved into, and the sheet
+unfoldable pub replyText : Reply → List ℕ → Sheet → List ℕ
+replyText Accepted saved sheet = ascii "ok"
+replyText (Value v) saved sheet = valueText v
+replyText (Answer v) saved sheet = answerText v
+replyText Image saved sheet = imageText saved
+replyText WholeSheet saved sheet = sheetText (sheet .values)
+replyText Full saved sheet = ascii "full"
+replyText (Refused number) saved sheet = refusedText number
+replyText Error saved sheet = ascii "error"
 
 -- the line of a reply
-unfoldable pub replyLine : Reply → List ℕ → List ℕ
-replyLine reply saved = replyText reply saved ++ ascii "\n"
+unfoldable pub replyLine : Reply → List ℕ → Sheet → List ℕ
+replyLine reply saved sheet = replyText reply saved sheet ++ ascii "\n"
 
--- a scan that fresh pins give: MD first, then DS, OP and electrical output
-words-example : replyLine (Words 0x1002 0x913F 0 0) [] ≡ ascii "scan 4098 37183 0 0\n"
-unfolding replyLine replyText spaced digits digitsWithin
-words-example = refl
+-- a scan that fresh pins give: MD first, then DS, OP, electrical output, the mode and PV
+answer-example :
+    answerText (record { md = 0x1002; ds = 0x913F; op = 0; electrical = 0; mode = Auto; pv = pos 500 })
+    ≡ ascii "scan 4098 37183 0 0 auto 500"
+unfolding answerText wordsText spaced digits digitsWithin decimal modeWord
+answer-example = refl

@@ -1,4 +1,4 @@
-// What comes of a command: the controller's next state, and the reply.
+// What comes of a call of the controller: its next state, and the reply.
 ghost use mathlib.Core.Path.{_≡_};
 ghost use Rattle.controller.specs.Answers.{replyOf, replyOfVerdict, replyOfRead};
 ghost use Rattle.controller.specs.Read.{read};
@@ -6,7 +6,8 @@ ghost use Rattle.controller.specs.Scan.{scan};
 ghost use Rattle.controller.specs.Valid.{Valid};
 ghost use Rattle.controller.specs.Write.{write};
 ghost use Rattle.console.specs.Calls.{replyTo, stepOf, performed, bufferAfter};
-use crate::request::Command;
+use crate::request::Call;
+use answers::ScanValues;
 use controller::Answer;
 use controller::Controller;
 use controller::ReadAnswer;
@@ -16,41 +17,31 @@ use signals::Verdict;
 pub enum Reply {
     Accepted,
     Value(i32),
-    Words {
-        md: u16,
-        ds: u16,
-        op: u16,
-        electrical: u16,
-    },
+    // of an accepted scan
+    Answer(ScanValues),
     // the image that was saved in the buffer beside
     Image,
+    // the sheet beside
+    WholeSheet,
+    // an answer that a full sheet didn't take
+    Full,
     Refused(u8),
     // the line was no command
     Error,
 }
 
-// The controller after a line, and the reply to it.
+// The controller after a call, and the reply to it.
 pub struct Step {
     pub controller: Controller,
     pub reply: Reply,
 }
 
-// The contract rules out words that are exchanged, and another number of a refusal.
+// The contract rules out values that are exchanged, and another number of a refusal.
 fn reply_of(answer: Answer) -> Reply
     ensures { λ r. ⌜ r ≡ replyTo (replyOf answer) ⌝ }
 {
     match answer {
-        Answer::Words {
-            md,
-            ds,
-            op,
-            electrical,
-        } => Reply::Words {
-            md,
-            ds,
-            op,
-            electrical,
-        },
+        Answer::Accepted(values) => Reply::Answer(values),
         Answer::Refused(refusal) => Reply::Refused(refusal.number()),
     }
 }
@@ -103,37 +94,33 @@ fn write(controller: Controller, number: u64, value: i32) -> Step
     }
 }
 
-// Performs a command, with the buffer that holds a restart's bytes and takes a saved image. The contract gives the next
+// Performs a call, with the buffer that holds a restart's bytes and takes a saved image. The contract gives the next
 // controller, the reply and every byte of the buffer, so it rules out the reply of another call, a controller that
-// isn't handed on, and a command that is always an error; and a controller that the next call could not take.
-pub fn perform(controller: Controller, command: Command, buffer: &mut [u8]) -> Step
+// isn't handed on, and a call that is always an error; and a controller that the next call could not take.
+pub fn perform(controller: Controller, call: Call, buffer: &mut [u8]) -> Step
     requires { ⌜ Valid controller ⌝ }
-    ensures { λ r. ⌜ (r ≡ performed controller command (now (buffer .entry)))
-        × (now (buffer .exit) ≡ bufferAfter controller command (now (buffer .entry)))
+    ensures { λ r. ⌜ (r ≡ performed controller call (now (buffer .entry)))
+        × (now (buffer .exit) ≡ bufferAfter controller call (now (buffer .entry)))
         × Valid (r .controller) ⌝ }
 {
-    match command {
-        Command::Fresh(sw) => Step {
+    match call {
+        Call::Fresh(sw) => Step {
             controller: Controller::fresh(sw),
             reply: Reply::Accepted,
         },
-        Command::Scan(input) => scan(controller, input),
-        Command::Write(number, value) => write(controller, number, value),
-        Command::Read(number) => {
+        Call::Scan(input) => scan(controller, input),
+        Call::Write(number, value) => write(controller, number, value),
+        Call::Read(number) => {
             let answer = controller.read(number);
             Step {
                 controller,
                 reply: reply_to_read(answer),
             }
         }
-        Command::Restart(count) => crate::image::restart(controller, count, buffer),
-        Command::Save(count) => {
+        Call::Restart(count) => crate::image::restart(controller, count, buffer),
+        Call::Save(count) => {
             let reply = crate::image::save(controller, count, buffer);
             Step { controller, reply }
         }
-        Command::Invalid => Step {
-            controller,
-            reply: Reply::Error,
-        },
     }
 }

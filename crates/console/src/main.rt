@@ -1,68 +1,63 @@
-// Reads calls of the controller on standard input, one to a line, and answers each with one line, until the end of the
-// input:
+// Reads commands on standard input, one to a line, and answers each with one line, until the end of the input. The
+// calls of the controller:
 //     fresh SW                               ok
-//     scan PINS S1 S2 S3 BUTTONS SENSORS     scan MD DS OP ELECTRICAL, or refused N
+//     scan PINS S1 S2 S3 BUTTONS SENSORS     scan MD DS OP ELECTRICAL MODE PV, or refused N
 //     write NUMBER VALUE                     ok, or refused N
 //     read NUMBER                            value V, or refused N
 //     restart HEX, or - for no bytes         ok, or refused N
 //     save LENGTH                            image HEX, or refused N
-// A line that is no such call gets `error` and changes nothing. Before the first `fresh` the controller is fresh with
-// SW 0.
+// and those of the drying sheet:
+//     sheet-new                              ok
+//     sheet-last                             ok, or full: enters the answer of the last accepted scan
+//     sheet-feed MODE PV DS OP               ok, or full: enters an answer with these values
+//     sheet                                  sheet scans=N hold=N track=N forced=N manual=N auto=N remote=N ratio=N
+//                                                fallback=N max=V@N min=V@N alarms=N sumpv=V sumop=V, in one line
+// A line that is no such command gets `error` and changes nothing. Before the first `fresh` the controller is fresh
+// with SW 0, and before the first `sheet-new` the sheet is empty.
 ghost use mathlib.Core.Path.{_≡_};
 ghost use lib.ListN.{length};
-ghost use Rattle.controller.specs.State.{freshController};
-ghost use Rattle.controller.specs.Valid.{Valid};
-ghost use Rattle.console.specs.Calls.{Performed};
-use controller::Controller;
+ghost use Rattle.console.specs.Lines.{Performed};
+ghost use Rattle.console.specs.Sessions.{ValidSession};
+use session::Session;
 
 mod call;
 mod image;
 mod print;
 mod request;
+mod session;
+mod sheet_call;
 
-// The controller after a line, and how much of the output is used.
+// The session after a line, and how much of the output is used.
 struct Answered {
-    controller: Controller,
+    session: Session,
     used: usize,
 }
 
 // Performs the command of a line and appends its reply. The contract rules out another command than the line has, a
-// controller other than the one that it leaves, any bytes but the line of its reply, and a line that is cut in an
-// output of 65,536 bytes.
-fn line_answer(
-    controller: Controller,
-    line: &[u8],
-    len: usize,
-    out: &mut [u8],
-    used: usize,
-) -> Answered
-    requires { ⌜ Valid controller ⌝ }
-    ensures { λ r. ⌜ Valid (r .controller)
-        × Performed controller (r .controller) (now (line .entry)) len (now (out .entry)) (now (out .exit)) used (r .used) ⌝ }
+// session other than the one that it leaves, any bytes but the line of its reply, and a line that is cut in an output
+// of 65,536 bytes.
+fn line_answer(session: Session, line: &[u8], len: usize, out: &mut [u8], used: usize) -> Answered
+    requires { ⌜ ValidSession session ⌝ }
+    ensures { λ r. ⌜ ValidSession (r .session)
+        × Performed session (r .session) (now (line .entry)) len (now (out .entry)) (now (out .exit)) used (r .used) ⌝ }
 {
     let free = lines::room(out, used);
     let mut buffer = image::buffer();
     let command = request::parse(line, len, &mut buffer);
-    let step = call::perform(controller, command, &mut buffer);
-    let next = step.controller;
+    let step = session::perform(session, command, &mut buffer);
+    let next = step.session;
     let reply = step.reply;
+    let sheet = next.sheet;
     Answered {
-        controller: next,
-        used: print::append_reply(out, free, reply, &buffer),
+        session: next,
+        used: print::append_reply(out, free, reply, &buffer, sheet),
     }
-}
-
-// The contract rules out another switch word than 0.
-fn first_controller() -> Controller
-    ensures { λ r. ⌜ (r ≡ freshController 0) × Valid r ⌝ }
-{
-    Controller::fresh(0)
 }
 
 // Answers one line after another to the end of the input. A proved loop must end, so the lines are counted down from a
 // number that no run uses up.
 fn run(input: &mut [u8], line: &mut [u8], out: &mut [u8]) -> usize {
-    let mut controller = first_controller();
+    let mut session = session::first();
     let mut place = lines::start();
     let mut turns = u64::MAX;
     while turns > 0 {
@@ -70,8 +65,8 @@ fn run(input: &mut [u8], line: &mut [u8], out: &mut [u8]) -> usize {
         if !place.complete {
             return place.used;
         }
-        let answered = line_answer(controller, line, place.len, out, place.used);
-        controller = answered.controller;
+        let answered = line_answer(session, line, place.len, out, place.used);
+        session = answered.session;
         place.used = answered.used;
         turns -= 1;
     }

@@ -1,11 +1,12 @@
-// The line that answers a call, appended to the output.
+// The line that answers a command, appended to the output.
 ghost use mathlib.Core.Path.{_≡_};
-ghost use mathlib.Core.List.{[]};
 ghost use Rattle.formatting.specs.Buffer.{buffer, appendAll};
-ghost use Rattle.console.specs.ReplyLaws.{InRange};
-ghost use Rattle.console.specs.Replies.{spaced, replyText, replyLine};
-ghost use Rattle.console.specs.declared.call.Reply.the-variants.{Value, Words, Image, Refused};
+ghost use Rattle.console.specs.ReplyLaws.{WordsRange, AnswerRange, InRange};
+ghost use Rattle.console.specs.Replies.{spaced, wordsText, answerText, refusedText, valueText, imageText};
+ghost use Rattle.console.specs.Replies.{replyText, replyLine};
 use crate::call::Reply;
+use answers::ScanValues;
+use sheet::Sheet;
 
 // A blank and a number.
 fn append_spaced(out: &mut [u8], used: usize, number: u64) -> usize
@@ -15,20 +16,32 @@ fn append_spaced(out: &mut [u8], used: usize, number: u64) -> usize
     formatting::append_decimal(out, end, number)
 }
 
-// The words of a scan. The contract rules out two that are exchanged.
-fn append_words(out: &mut [u8], used: usize, md: u16, ds: u16, op: u16, electrical: u16) -> usize
-    ensures { λ r. ⌜ buffer (now (out .exit)) r ≡ appendAll (buffer (now (out .entry)) used) (replyText (Words md ds op electrical) []) ⌝ }
+// The words of an answer. The contract rules out two that are exchanged.
+fn append_words(out: &mut [u8], used: usize, values: ScanValues) -> usize
+    ensures { λ r. ⌜ (buffer (now (out .exit)) r ≡ appendAll (buffer (now (out .entry)) used) (wordsText values)) × WordsRange values ⌝ }
 {
     let name = formatting::append_bytes(out, used, b"scan");
-    let one = append_spaced(out, name, md as u64);
-    let two = append_spaced(out, one, ds as u64);
-    let three = append_spaced(out, two, op as u64);
-    append_spaced(out, three, electrical as u64)
+    let one = append_spaced(out, name, values.md as u64);
+    let two = append_spaced(out, one, values.ds as u64);
+    let three = append_spaced(out, two, values.op as u64);
+    append_spaced(out, three, values.electrical as u64)
+}
+
+// What an accepted scan answers. The contract rules out another mode's word, and a sign of PV that is lost.
+fn append_answer(out: &mut [u8], used: usize, values: ScanValues) -> usize
+    ensures { λ r. ⌜ (buffer (now (out .exit)) r ≡ appendAll (buffer (now (out .entry)) used) (answerText values)) × AnswerRange values ⌝ }
+{
+    let words = append_words(out, used, values);
+    let blank = formatting::append_byte(out, words, b' ');
+    let mode = values.mode;
+    let word = sheet_lines::mode::append_mode(out, blank, mode);
+    let end = formatting::append_byte(out, word, b' ');
+    formatting::append_signed(out, end, integers::wide(values.pv))
 }
 
 // A refusal and its number.
 fn append_refused(out: &mut [u8], used: usize, number: u8) -> usize
-    ensures { λ r. ⌜ buffer (now (out .exit)) r ≡ appendAll (buffer (now (out .entry)) used) (replyText (Refused number) []) ⌝ }
+    ensures { λ r. ⌜ buffer (now (out .exit)) r ≡ appendAll (buffer (now (out .entry)) used) (refusedText number) ⌝ }
 {
     let name = formatting::append_bytes(out, used, b"refused");
     append_spaced(out, name, number as u64)
@@ -36,7 +49,7 @@ fn append_refused(out: &mut [u8], used: usize, number: u8) -> usize
 
 // A parameter's value. The contract rules out a sign that is lost.
 fn append_value(out: &mut [u8], used: usize, v: i32) -> usize
-    ensures { λ r. ⌜ buffer (now (out .exit)) r ≡ appendAll (buffer (now (out .entry)) used) (replyText (Value v) []) ⌝ }
+    ensures { λ r. ⌜ buffer (now (out .exit)) r ≡ appendAll (buffer (now (out .entry)) used) (valueText v) ⌝ }
 {
     let name = formatting::append_bytes(out, used, b"value ");
     formatting::append_signed(out, name, integers::wide(v))
@@ -44,7 +57,7 @@ fn append_value(out: &mut [u8], used: usize, v: i32) -> usize
 
 // The image that was saved: the first 137 bytes, or all where there are fewer. The contract rules out one byte more.
 fn append_image(out: &mut [u8], used: usize, saved: &[u8]) -> usize
-    ensures { λ r. ⌜ buffer (now (out .exit)) r ≡ appendAll (buffer (now (out .entry)) used) (replyText Image (now (saved .entry))) ⌝ }
+    ensures { λ r. ⌜ buffer (now (out .exit)) r ≡ appendAll (buffer (now (out .entry)) used) (imageText (now (saved .entry))) ⌝ }
 {
     let name = formatting::append_bytes(out, used, b"image ");
     if saved.len() < 137 {
@@ -55,20 +68,17 @@ fn append_image(out: &mut [u8], used: usize, saved: &[u8]) -> usize
 
 // What a reply's line has before its end. The contract also says that the reply's numbers are such as its types hold,
 // so that a caller knows how long the line is.
-fn append_text(out: &mut [u8], used: usize, reply: Reply, saved: &[u8]) -> usize
-    ensures { λ r. ⌜ (buffer (now (out .exit)) r ≡ appendAll (buffer (now (out .entry)) used) (replyText reply (now (saved .entry))))
-        × InRange reply ⌝ }
+fn append_text(out: &mut [u8], used: usize, reply: Reply, saved: &[u8], sheet: Sheet) -> usize
+    ensures { λ r. ⌜ (buffer (now (out .exit)) r ≡ appendAll (buffer (now (out .entry)) used)
+        (replyText reply (now (saved .entry)) sheet)) × InRange reply sheet ⌝ }
 {
     match reply {
         Reply::Accepted => formatting::append_bytes(out, used, b"ok"),
         Reply::Value(v) => append_value(out, used, v),
-        Reply::Words {
-            md,
-            ds,
-            op,
-            electrical,
-        } => append_words(out, used, md, ds, op, electrical),
+        Reply::Answer(values) => append_answer(out, used, values),
         Reply::Image => append_image(out, used, saved),
+        Reply::WholeSheet => sheet_lines::print::append_sheet(out, used, sheet),
+        Reply::Full => formatting::append_bytes(out, used, b"full"),
         Reply::Refused(number) => append_refused(out, used, number),
         Reply::Error => formatting::append_bytes(out, used, b"error"),
     }
@@ -76,10 +86,10 @@ fn append_text(out: &mut [u8], used: usize, reply: Reply, saved: &[u8]) -> usize
 
 // The line of a reply; `saved` is the buffer that a save wrote into. The contract rules out the line of another reply,
 // and one with no end.
-pub fn append_reply(out: &mut [u8], used: usize, reply: Reply, saved: &[u8]) -> usize
-    ensures { λ r. ⌜ (buffer (now (out .exit)) r ≡ appendAll (buffer (now (out .entry)) used) (replyLine reply (now (saved .entry))))
-        × InRange reply ⌝ }
+pub fn append_reply(out: &mut [u8], used: usize, reply: Reply, saved: &[u8], sheet: Sheet) -> usize
+    ensures { λ r. ⌜ (buffer (now (out .exit)) r ≡ appendAll (buffer (now (out .entry)) used)
+        (replyLine reply (now (saved .entry)) sheet)) × InRange reply sheet ⌝ }
 {
-    let end = append_text(out, used, reply, saved);
+    let end = append_text(out, used, reply, saved, sheet);
     formatting::append_byte(out, end, b'\n')
 }

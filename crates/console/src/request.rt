@@ -5,11 +5,13 @@ ghost use lib.ListN.{length};
 ghost use Rattle.text.specs.Hexadecimal.{countIn, bytesIn};
 ghost use Rattle.console.specs.Commands.{parameterNumber, freshCommand, scanCommand, writeCommand, saveCommand};
 ghost use Rattle.console.specs.Commands.{numbersCommand, restartImage, restartOf, commandIn, bytesAfter};
+use crate::sheet_call::SheetCall;
 use signals::Input;
 use text::arguments::Arguments;
 use text::hexadecimal::Count;
 
-pub enum Command {
+// A call of the controller.
+pub enum Call {
     Fresh(u16),
     Scan(Input),
     // a parameter's number and a value
@@ -19,6 +21,11 @@ pub enum Command {
     Restart(usize),
     // into so many bytes
     Save(usize),
+}
+
+pub enum Command {
+    Call(Call),
+    Sheet(SheetCall),
     Invalid,
 }
 
@@ -29,7 +36,7 @@ fn fresh(values: [i64; 6]) -> Command
 {
     let sw = text::arguments::natural_in(values[0], 0, 65535);
     if sw.ok {
-        return Command::Fresh(sw.value as u16);
+        return Command::Call(Call::Fresh(sw.value as u16));
     }
     Command::Invalid
 }
@@ -45,14 +52,14 @@ fn scan(values: [i64; 6]) -> Command
     let buttons = text::arguments::natural_in(values[4], 0, 255);
     let sensors = text::arguments::natural_in(values[5], 0, 255);
     if pins.ok & sample1.ok & sample2.ok & sample3.ok & buttons.ok & sensors.ok {
-        return Command::Scan(Input {
+        return Command::Call(Call::Scan(Input {
             pins: pins.value as u8,
             sample1: sample1.value as u16,
             sample2: sample2.value as u16,
             sample3: sample3.value as u16,
             buttons: buttons.value as u8,
             sensors: sensors.value as u8,
-        });
+        }));
     }
     Command::Invalid
 }
@@ -72,7 +79,7 @@ fn write(values: [i64; 6]) -> Command
     let number = number_in(values[0]);
     let v = values[1];
     if integers::not_above(-2147483648, v) & integers::not_above(v, 2147483647) {
-        return Command::Write(number, integers::narrow(v));
+        return Command::Call(Call::Write(number, integers::narrow(v)));
     }
     Command::Invalid
 }
@@ -83,12 +90,12 @@ fn save(values: [i64; 6]) -> Command
 {
     let size = text::arguments::natural_in(values[0], 0, 300);
     if size.ok {
-        return Command::Save(size.value as usize);
+        return Command::Call(Call::Save(size.value as usize));
     }
     Command::Invalid
 }
 
-// A call whose arguments are numbers. The contract rules out the command of another name.
+// A command whose arguments are numbers. The contract rules out the command of another name.
 fn of_numbers(word: &[u8], a: Arguments) -> Command
     ensures { λ r. ⌜ r ≡ numbersCommand (now (word .entry)) a ⌝ }
 {
@@ -100,7 +107,7 @@ fn of_numbers(word: &[u8], a: Arguments) -> Command
         return write(values);
     }
     if text::arguments::is_call(word, b"read", a, 1) {
-        return Command::Read(number_in(values[0]));
+        return Command::Call(Call::Read(number_in(values[0])));
     }
     if text::arguments::is_call(word, b"fresh", a, 1) {
         return fresh(values);
@@ -108,7 +115,7 @@ fn of_numbers(word: &[u8], a: Arguments) -> Command
     if text::arguments::is_call(word, b"save", a, 1) {
         return save(values);
     }
-    Command::Invalid
+    crate::sheet_call::of_word(word, a)
 }
 
 // restart HEX, or - for no bytes: one argument, which is no number. The contract gives every byte of the buffer, so it
@@ -127,7 +134,7 @@ fn restart(line: &[u8], start: usize, bytes: &mut [u8]) -> Command
     }
     let count = text::hexadecimal::parse(&line[from..to], bytes);
     match count {
-        Count::Bytes(n) => Command::Restart(n),
+        Count::Bytes(n) => Command::Call(Call::Restart(n)),
         Count::Malformed => Command::Invalid,
     }
 }
@@ -148,6 +155,9 @@ pub fn parse(line: &[u8], len: usize, bytes: &mut [u8]) -> Command
     let to = w.to;
     if text::same(&call[from..to], b"restart") {
         return restart(call, to, bytes);
+    }
+    if text::same(&call[from..to], b"sheet-feed") {
+        return crate::sheet_call::feed(call, to);
     }
     of_numbers(&call[from..to], text::arguments::parse(call, to))
 }

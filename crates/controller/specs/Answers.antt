@@ -9,8 +9,9 @@ use Rattle.signals.specs.Signals.{switchesOf}
 use Rattle.signals.specs.declared.Verdict.{Verdict}
 use Rattle.signals.specs.declared.Verdict.the-variants as verdict
 use Rattle.signals.specs.declared.Verdict.the-variants.{Accepted}
+use Rattle.modes.specs.declared.Mode.{Mode}
 use Rattle.controller.specs.declared.Answer.{Answer}
-use Rattle.controller.specs.declared.Answer.the-variants.{Words, Refused}
+use Rattle.controller.specs.declared.Answer.the-variants as answer
 use Rattle.controller.specs.declared.Controller.{Controller}
 use Rattle.controller.specs.declared.CallResult.{CallResult}
 use Rattle.controller.specs.declared.ReadAnswer.{ReadAnswer}
@@ -19,8 +20,9 @@ use Rattle.controller.specs.declared.ReadAnswer.the-variants.{Value}
 use Rattle.controller.specs.declared.ScanResult.{ScanResult}
 
 pub data Reply : Type 0 where
-  -- "A scan answers MD, DS, OP and electrical output"
-  words : (md ds op electrical : ℕ) → Reply
+  -- "A scan answers MD, DS, OP and electrical output"; document 02, request 1: "A scan's answer carries the mode and PV
+  -- as well from now on"
+  words : (md ds op electrical : ℕ) (mode : Mode) (pv : ℤ) → Reply
   -- "a read answers the value"
   reading : ℤ → Reply
   -- "an accepted write, restart or save says only that it was accepted"
@@ -30,8 +32,8 @@ pub data Reply : Type 0 where
 
 -- the paper's number and values for each case of our answer
 abbrev pub replyOf : Answer → Reply
-replyOf (Words md ds op electrical) = words md ds op electrical
-replyOf (Refused refusal) = number (numberOf refusal)
+replyOf (answer.Accepted v) = words (v .md) (v .ds) (v .op) (v .electrical) (v .mode) (v .pv)
+replyOf (answer.Refused refusal) = number (numberOf refusal)
 
 -- "Each call takes the controller and hands back the next one": it, and the answer
 pub record Response : Type 0 where

@@ -69,7 +69,7 @@ coreAfter c after x r =
 
 -- the answer but for OP and electrical output
 pub data Status : Type 0 where
-  status : (md ds : ℕ) → Status
+  status : (md ds : ℕ) (mode : Mode) (pv : ℤ) → Status
   accepts : Status
   refusedWith : ℕ → Status
 
@@ -81,7 +81,7 @@ abbrev pub dsNow : Core → ℕ
 dsNow c = DS (modeNow c) (c .conditions) (c .userbits) (c .indications)
 
 unfoldable pub statusOf : Core → Status
-statusOf c = status (mdNow c) (dsNow c)
+statusOf c = status (mdNow c) (dsNow c) (modeNow c) (c .readings .pv)
 
 pub record Outcome : Type 0 where
   pub next : Core
@@ -115,7 +115,7 @@ scanCore more c i = refusedOr (refusedBy (scanTests i)) c (accepted more c i)
 
 -- an answer with the OP and electrical output of a stored output
 abbrev pub withOutput : Status → ℕ → ℤ → Reply
-withOutput (status md ds) sw output = words md ds (opOf output) (electricalOf sw output)
+withOutput (status md ds mode pv) sw output = words md ds (opOf output) (electricalOf sw output) mode pv
 withOutput accepts sw output = acceptance
 withOutput (refusedWith n) sw output = number n
 

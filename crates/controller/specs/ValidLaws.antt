@@ -7,8 +7,11 @@ use Prim.Native.Nat.{ℕ, _≤_}
 use native.Mathlib.Omega.{arith}
 use lib.Dec.{ltb}
 use lib.IntN.{ℤ, pos, natAbs, _-ℤ_}
+use mir.Syntax.{w64}
+use mir.Val.{toZ, ofZ}
 use borrow.Author.Tests.{ltb-false}
 use Rattle.integers.specs.Choice.{if_then_else_, never}
+use Rattle.integers.specs.Machine.{back}
 use Rattle.integers.specs.Operations.{number, difference}
 use Rattle.integers.specs.Parts.{integers}
 use Rattle.signals.specs.Refusals.{refusedBy, scanTests}
@@ -32,6 +35,10 @@ use Rattle.controller.specs.State.{startReadings, freshParameters, fresh
 use Rattle.controller.specs.Valid.{Valid, Readable}
 use Rattle.controller.specs.declared.Controller.{Controller}
 use Rattle.controller.specs.declared.Core.{Core}
+
+-- ---- a reading stands as it is in 64 bits
+pub reading-back : (z : ℤ) → natAbs z ≤ 19998 → toZ w64 (ofZ w64 z) ≡ z
+reading-back z h = back w64 z (omega (arith, h, number z))
 
 -- ---- a call that no test refuses passed each test
 

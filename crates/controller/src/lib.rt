@@ -6,6 +6,7 @@ ghost use Rattle.outputs.specs.OutputLaws.{OutputRange};
 ghost use Rattle.controller.specs.Answers.{opOf, electricalOf};
 ghost use Rattle.controller.specs.Scan.{modeNow, mdNow, dsNow};
 ghost use Rattle.controller.specs.State.{startConditions, startReadings, startCore, freshController};
+use answers::ScanValues;
 use modes::Conditions;
 use modes::Mode;
 use modes::Request;
@@ -45,12 +46,7 @@ pub struct Controller {
 }
 
 pub enum Answer {
-    Words {
-        md: u16,
-        ds: u16,
-        op: u16,
-        electrical: u16,
-    },
+    Accepted(ScanValues),
     Refused(Refusal),
 }
 

@@ -1,9 +1,8 @@
-// One scan: document 01's steps, each a function, and the words that it answers. Steps 2 and 3 come first, as the mode
+// One scan: document 01's steps, each a function, and what it answers. Steps 2 and 3 come first, as the mode
 // decides the others; step 6 comes last, as it needs what step 5 gives.
 ghost use mathlib.Core.Path.{_≡_};
 ghost use Rattle.parameters.specs.Legal.{Legal};
 ghost use Rattle.setpoints.specs.ComputationLaws.{SampleRange};
-ghost use Rattle.outputs.specs.OutputLaws.{OutputRange};
 ghost use Rattle.controller.specs.Answers.{replyOf, responseOf};
 ghost use Rattle.controller.specs.Scan.{contextOf, computedIn, indicationsAfter, coreAfter, statusOf, withOutput, stepped, scan};
 ghost use Rattle.controller.specs.Valid.{Valid};
@@ -11,6 +10,7 @@ use crate::Answer;
 use crate::Controller;
 use crate::Core;
 use crate::ScanResult;
+use answers::ScanValues;
 use modes::Conditions;
 use outputs::Context;
 use setpoints::Computed;
@@ -111,9 +111,10 @@ impl Controller {
         Controller { core: next, output }
     }
 
-    // MD, DS, OP and electrical output of the present state.
-    fn words(self) -> Answer
-        requires { ⌜ OutputRange (self .output) ⌝ }
+    // MD, DS, OP, electrical output, mode and PV of the present state. The contract rules out a value that is
+    // another's, and the mode or PV of before the scan.
+    fn answer(self) -> Answer
+        requires { ⌜ Valid self ⌝ }
         ensures { λ r. ⌜ replyOf r ≡ withOutput (statusOf (self .core)) (self .core .sw) (self .output) ⌝ }
     {
         let core = self.core;
@@ -121,12 +122,17 @@ impl Controller {
         let ds = core.ds();
         let op = crate::op_of(self.output);
         let electrical = crate::electrical_of(core.sw, self.output);
-        Answer::Words {
+        let mode = core.mode();
+        let readings = core.readings;
+        let pv = integers::narrow(readings.pv);
+        Answer::Accepted(ScanValues {
             md,
             ds,
             op,
             electrical,
-        }
+            mode,
+            pv,
+        })
     }
 
     // One scan: the next controller and the answer, or the refusal and the controller as it was. The
@@ -144,7 +150,7 @@ impl Controller {
             },
             Verdict::Accepted => {
                 let controller = self.stepped(input);
-                let answer = controller.words();
+                let answer = controller.answer();
                 ScanResult { controller, answer }
             }
         }

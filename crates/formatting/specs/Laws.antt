@@ -5,8 +5,8 @@ use Prim.Native.Nat.{ℕ, suc, _+_, _≤_, _<_}
 use native.Mathlib.Numerals.{add-one}
 use native.Mathlib.Nat.{add-zero, add-suc, suc-add}
 use native.Mathlib.Omega.{arith}
-use lib.ListN.{length, set, take, drop, getD, length-set, take-append-drop, drop-of-length-le}
-use lib.Seq.{drop-cons, take-suc-set, drop-set-lt, append-snoc}
+use lib.ListN.{length, set, take, drop, getD, length-set, length-append, take-append-drop, drop-of-length-le}
+use lib.Seq.{drop-cons, take-append-seam, take-suc-set, drop-set-lt, append-snoc}
 use borrow.Author.Tests.{lt-ltb}
 use Rattle.formatting.specs.Buffer.{Buffer, buffer, append, appendAll}
 
@@ -48,6 +48,17 @@ append-room (b ∷ bs) out used h =
     simp (lt-ltb used (length out) l)
     (append-room bs (set out used b) (used + 1) (omega (arith, length-set out used b)) ∙
     rw (replaced-more used b bs out l) (ap (buffer (replaced used (b ∷ bs) out)) (omega arith)))
+
+-- in front of a buffer of which nothing was used, the bytes stand by themselves
+pub append-front : (bytes out after : List ℕ) (end : ℕ) → length bytes ≤ length out → buffer after end ≡ appendAll (buffer out 0) bytes
+    → (end ≤ length after) × (take end after ≡ bytes)
+unfolding replaced
+append-front bytes out after end h e =
+    let r = e ∙ append-room bytes out 0 (omega arith) in
+    let a : after ≡ bytes ++ drop (0 + length bytes) out = cc in
+    let n : end ≡ 0 + length bytes = cc in
+    let l : end ≡ length bytes = omega arith in
+    rw (a, l) (simp length-append (omega arith), take-append-seam bytes _)
 
 -- ---- a loop over the bytes of a slice, each of which appends what f gives of it
 

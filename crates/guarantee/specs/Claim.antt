@@ -7,7 +7,7 @@ use mathlib.Core.List.{List, [], _∷_, _++_}
 use mathlib.Core.Option.{some}
 use Prim.Native.Nat.{ℕ, _+_, _-_, _*_, _/_, min}
 use lib.Dec.{ltb}
-use lib.IntN.{pos, _*ℤ_}
+use lib.IntN.{ℤ, pos, _*ℤ_}
 use lib.ListN.{length, drop}
 use lib.Signed.{_≤ℤ_, _<ℤ_}
 use Rattle.integers.specs.Choice.{if_then_else_}
@@ -78,10 +78,12 @@ pub record ShowsMode (md : ℕ) (now : Core) : Type 0 where
   pub field : md / 2048 ≡ modeField mode
 
 -- an answer that was returned with the controller c, beside that of the exact controller, which this
--- call left in the state `now`
+-- call left in the state `now`: the mode that it gives is the first whose condition is present, which MD shows too; its
+-- PV is the exact controller's
 pub data SameAnswer (c : Controller) (now : Core) : Reply → Status → Type 0 where
-  same-words : {md ds op electrical : ℕ} → ShowsMode md now → OwnOutput c op electrical →
-      SameAnswer c now (words md ds op electrical) (status md ds)
+  same-words : {md ds op electrical : ℕ} {mode : Mode} {pv : ℤ} →
+      ShowsMode md now → OwnOutput c op electrical → modeIn now ≡ some mode → pv ≡ now .readings .pv →
+      SameAnswer c now (words md ds op electrical mode pv) (status md ds mode pv)
   same-acceptance : SameAnswer c now acceptance accepts
   same-number : {n : ℕ} → SameAnswer c now (number n) (refusedWith n)
 

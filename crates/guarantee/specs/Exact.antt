@@ -50,7 +50,7 @@ abbrev pub exactOutcome : Exact → Call → Outcome
 exactOutcome c x = outcomeOf oneMore (c .core) x
 
 abbrev pub isAccepted : Status → Bool
-isAccepted (status md ds) = true
+isAccepted (status md ds mode pv) = true
 isAccepted accepts = true
 isAccepted (refusedWith n) = false
 

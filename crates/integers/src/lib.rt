@@ -1,8 +1,8 @@
 // Signed numbers taken apart into sign and magnitude and put together again, limited, and quotients taken to the
 // nearest whole number. The laws that let `omega` read integers, for the proofs of every crate above, are in specs/.
 ghost use mathlib.Core.Path.{_≡_};
-ghost use Prim.Native.Nat.{_<_, _≤_};
-ghost use lib.IntN.{natAbs, _+ℤ_, _-ℤ_};
+ghost use Prim.Native.Nat.{_*_, _<_, _≤_};
+ghost use lib.IntN.{pos, natAbs, _+ℤ_, _-ℤ_, _*ℤ_};
 ghost use lib.Signed.{leZ, ltZ, mag};
 ghost use Rattle.integers.specs.Choice.{if_then_else_};
 ghost use Rattle.integers.specs.Machine.{Small};
@@ -73,6 +73,22 @@ pub fn minus(a: i64, b: i64) -> i64
     ensures { λ r. ⌜ r ≡ a -ℤ b ⌝ }
 {
     a - b
+}
+
+// a + b of any numbers whose sum fits. The contract rules out a sum that wraps.
+pub fn sum(a: i64, b: i64) -> i64
+    requires { ⌜ mag (a +ℤ b) < 9223372036854775808 ⌝ }
+    ensures { λ r. ⌜ r ≡ a +ℤ b ⌝ }
+{
+    a + b
+}
+
+// a × n where the product's size fits. The contract rules out a product that wraps, and a sign that is lost.
+pub fn times(a: i64, n: u64) -> i64
+    requires { ⌜ natAbs a * n < 9223372036854775808 ⌝ }
+    ensures { λ r. ⌜ r ≡ a *ℤ pos n ⌝ }
+{
+    signed(negative(a), magnitude(a) * n)
 }
 
 fn at_least(low: i64, value: i64) -> i64

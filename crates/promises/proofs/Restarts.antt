@@ -112,7 +112,7 @@ pub fresh-starts : FreshStarts
 fresh-starts word n e = subst (FreshState word) (sym e) (fresh-state word)
 
 abbrev pub isAcceptance : Reply → Bool
-isAcceptance (words md ds op electrical) = false
+isAcceptance (words md ds op electrical mode pv) = false
 isAcceptance (reading v) = false
 isAcceptance acceptance = true
 isAcceptance (number n) = false

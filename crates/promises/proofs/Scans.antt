@@ -33,16 +33,19 @@ use Rattle.controller.specs.declared.Core.{Core}
 use Rattle.guarantee.specs.Modes.{modeIn, trackMode}
 use Rattle.guarantee.proofs.Modes.{mode-is-first}
 use Rattle.promises.specs.Scans.{Scaled, NearestAway, expectedRatio, expectedSetpoint, ScanEffect}
-use Rattle.promises.specs.Words.{remoteOrRatio}
+use Rattle.promises.specs.Words.{ShowsMD, ShowsDS, remoteOrRatio}
 use Rattle.signals.specs.Refusals.{refusedBy, scanTests}
-use Rattle.controller.specs.Answers.{Response, opOf, electricalOf}
+use Rattle.controller.specs.Answers.{Reply, words, reading, acceptance, number, replyOf, Response}
 use Rattle.controller.specs.Scan as rules
-use Rattle.controller.specs.Scan.{mdNow, dsNow, statusOf, scanCore, controllerAfter, responseFrom, stepped}
+use Rattle.controller.specs.Scan.{statusOf, scanCore, controllerAfter, responseFrom, stepped}
 use Rattle.controller.specs.Valid.{Valid}
 use Rattle.controller.specs.ValidLaws.{sampled, stepped-valid}
+use Rattle.controller.specs.declared.Answer.{Answer}
+use Rattle.controller.specs.declared.Answer.the-variants.{Accepted, Refused}
 use Rattle.controller.specs.declared.Controller.{Controller}
+use Rattle.guarantee.specs.Claim.{OwnOutput}
 use Rattle.guarantee.proofs.Answers.{own-output}
-use Rattle.promises.specs.Scans.{ScanReply, ScanEffects}
+use Rattle.promises.specs.Scans.{ScanAnswer, ScanEffects}
 use Rattle.promises.proofs.RefusalCauses.{scan-tests}
 use Rattle.promises.proofs.Setpoints.{scaled-is, root-found, nearest-away, by-hand, setpoint-in, local-one, stays-local}
 use Rattle.promises.proofs.Setpoints.{track-is, ratio-is, same-mode}
@@ -253,24 +256,34 @@ module _ (c : Core) (i : Input) (legal : Legal (c .parameters)) (sampled : Sampl
 
 -- ---- over the contract
 
+-- what is told of the values of an answer, by its reply
+abbrev Told : Controller → Reply → Type 0
+Told c (words md ds op electrical mode pv) =
+    ShowsMD md (c .core) × ShowsDS ds (c .core) × OwnOutput c op electrical × (modeIn (c .core) ≡ some mode) × (pv ≡ c .core .readings .pv)
+Told c (reading v) = ⊥
+Told c acceptance = ⊥
+Told c (number n) = ⊥
+
+answered : (c : Controller) (answer : Answer) → Told c (replyOf answer) → ScanAnswer c answer
+answered c (Accepted v) t =
+    record { values = v; accepted = refl; shows-md = t .0; shows-ds = t .1; own = t .2; mode-first = t .3; pv-is = t .4 }
+answered c (Refused refusal) t = absurd t
+
 abbrev Effects : Controller → Input → Response → Type 0
-Effects d i h = ScanEffect (d .core) (h .next .core) i × ScanReply (h .next) (h .answer)
+Effects d i h = ScanEffect (d .core) (h .next .core) i × Told (h .next) (h .answer)
 
 effects : (d : Controller) (i : Input) → Valid d → SampleRange i → Effects d i (responseFrom d (accepted counted (d .core) i))
 unfolding responseFrom controllerAfter accepted statusOf now coreAfter stepped
 effects d i valid range =
     let next = stepped d i in (
       effect (d .core) i (valid .legal) range,
-      record {
-        md = mdNow (next .core);
-        ds = dsNow (next .core);
-        op = opOf (next .output);
-        electrical = electricalOf (d .core .sw) (next .output);
-        answer = refl;
-        shows-md = shows-md (next .core);
-        shows-ds = shows-ds (next .core);
-        own = own-output next (stepped-valid d i valid range .stored);
-      },
+      (
+        shows-md (next .core),
+        shows-ds (next .core),
+        own-output next (stepped-valid d i valid range .stored),
+        mode-is-first (next .core),
+        refl,
+      ),
     )
 
 pub accepted-scan : (d : Controller) (i : Input) → refusedBy (scanTests i) ≡ none →
@@ -281,4 +294,5 @@ accepted-scan d i e = rw e refl
 pub scan-effects : ScanEffects
 scan-effects d i r valid e in-range =
     let passes : refusedBy (scanTests i) ≡ none = scan-tests i ∙ in-range in
-    subst (Effects d i) (sym (e ∙ accepted-scan d i passes)) (effects d i valid (sampled i passes))
+    let all = subst (Effects d i) (sym (e ∙ accepted-scan d i passes)) (effects d i valid (sampled i passes)) in
+    (all .0, answered (r .controller) (r .answer) (all .1))

@@ -15,9 +15,9 @@ use Rattle.modes.specs.declared.Mode.{Mode}
 use Rattle.modes.specs.declared.Mode.the-variants.{Hold, Track, Forced, Manual, Auto, Remote, Ratio, Fallback}
 use Rattle.words.specs.WordLaws.{weight-most}
 use Rattle.words.specs.Words.{weight, byteOf, modeBit, mdHigh, mdLow, MD, dsBit4, dsBit5, dsLow, DS}
-use Rattle.controller.specs.Scan.{modeNow, mdNow, dsNow, statusOf}
+use Rattle.controller.specs.Scan.{modeNow, mdNow, dsNow}
 use Rattle.controller.specs.declared.Core.{Core}
-use Rattle.guarantee.proofs.Answers.{now-shows}
+use Rattle.guarantee.proofs.Answers.{md-mode}
 use Rattle.guarantee.proofs.Modes.{mode-is-first}
 use Rattle.promises.specs.Words.{ShowsMD, ShowsDS, holdManualOrForced, remoteOrRatio}
 
@@ -113,10 +113,10 @@ module _ (now : Core) where
   md-bit k h = ap (λ (n : ℕ). bit n k) md-is ∙ bit-at md-bits 0 k h
 
   pub shows-md : ShowsMD (mdNow now) now
-  unfolding md-bits high-bits buttonsOf pinsOf statusOf
+  unfolding md-bits high-bits buttonsOf pinsOf
   shows-md =
       record {
-        mode = now-shows now;
+        mode = md-mode now;
         remote-pin = md-bit 10 (omega arith);
         open-cause = md-bit 9 (omega arith);
         memory-fault = md-bit 8 (omega arith);

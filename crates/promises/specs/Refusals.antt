@@ -22,7 +22,7 @@ use Rattle.guarantee.specs.Linked.{ScanEnsures, WriteEnsures, SaveEnsures, Rest
 
 -- the number that a call is refused with; none where it is accepted
 abbrev pub refusalIn : Reply → Option ℕ
-refusalIn (words md ds op electrical) = none
+refusalIn (words md ds op electrical mode pv) = none
 refusalIn (reading v) = none
 refusalIn acceptance = none
 refusalIn (number n) = some n

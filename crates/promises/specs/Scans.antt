@@ -16,8 +16,10 @@ use Rattle.signals.specs.declared.Input.{Input}
 use Rattle.modes.specs.declared.Mode.the-variants.{Manual, Auto, Remote, Ratio}
 use Rattle.modes.specs.declared.Request.the-variants as request
 use Rattle.parameters.specs.Table.{value}
-use Rattle.controller.specs.Answers.{Reply, words, replyOf}
+use Rattle.answers.specs.declared.ScanValues.{ScanValues}
 use Rattle.controller.specs.Valid.{Valid}
+use Rattle.controller.specs.declared.Answer.{Answer}
+use Rattle.controller.specs.declared.Answer.the-variants.{Accepted}
 use Rattle.controller.specs.declared.Controller.{Controller}
 use Rattle.controller.specs.declared.Core.{Core}
 use Rattle.controller.specs.declared.ScanResult.{ScanResult}
@@ -145,20 +147,20 @@ pub record ScanEffect (before now : Core) (i : Input) : Type 0 where
   pub userbits : now .userbits ≡ before .userbits
   pub sw : now .sw ≡ before .sw
 
--- ---- its answer: "A scan answers MD, DS, OP and electrical output"
-
-pub record ScanReply (c : Controller) (reply : Reply) : Type 0 where
-  pub md : ℕ
-  pub ds : ℕ
-  pub op : ℕ
-  pub electrical : ℕ
-  pub answer : reply ≡ words md ds op electrical
-  pub shows-md : ShowsMD md (c .core)
-  pub shows-ds : ShowsDS ds (c .core)
-  pub own : OwnOutput c op electrical
+-- ---- its answer: "A scan answers MD, DS, OP and electrical output"; document 02, request 1: "A scan's answer carries
+-- the mode and PV as well": the mode that the conditions give, and the PV of step 1. Told of the values that a host
+-- gets, and feeds a sheet with
+pub record ScanAnswer (c : Controller) (answer : Answer) : Type 0 where
+  pub values : ScanValues
+  pub accepted : answer ≡ Accepted values
+  pub shows-md : ShowsMD (values .md) (c .core)
+  pub shows-ds : ShowsDS (values .ds) (c .core)
+  pub own : OwnOutput c (values .op) (values .electrical)
+  pub mode-first : modeIn (c .core) ≡ some (values .mode)
+  pub pv-is : values .pv ≡ c .core .readings .pv
 
 -- of every scan that no cause refuses, at every valid controller: each that calls lead to is (`ready`)
 abbrev pub ScanEffects : Type 0
 ScanEffects =
     (d : Controller) (i : Input) (r : ScanResult) → Valid d → ScanEnsures d i r → scanRefusal i ≡ none →
-    ScanEffect (d .core) (r .controller .core) i × ScanReply (r .controller) (replyOf (r .answer))
+    ScanEffect (d .core) (r .controller .core) i × ScanAnswer (r .controller) (r .answer)

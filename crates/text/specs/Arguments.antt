@@ -4,7 +4,7 @@ use mathlib.Core.List.{List, [], _∷_, _++_}
 use Prim.Native.Nat.{ℕ, zero, suc, _-_}
 use lib.Dec.{eqb, ltb}
 use lib.IntN.{ℤ, pos, natAbs}
-use lib.ListN.{length, take, drop, replicate}
+use lib.ListN.{length, take, drop, getD, replicate}
 use Rattle.integers.specs.Sign.{isNegative}
 use Rattle.text.specs.Words.{wordAt, sameBytes}
 use Rattle.text.specs.Numbers.{numberOf}
@@ -47,6 +47,10 @@ unfoldable pub argumentsFrom : List ℕ → ℕ → Arguments
 argumentsFrom line at =
     let words = firstWords 7 line at in
     readOf (numbersOf (take 6 words)) (length words)
+
+-- an argument, counted from 0
+abbrev pub argument : List ℤ → ℕ → ℤ
+argument values i = getD values i (pos 0)
 
 -- whether all arguments are numbers and there are so many
 abbrev pub hasCount : Arguments → ℕ → Bool

@@ -9,6 +9,7 @@ use lib.Dec.{eqb, leb, ltb}
 use lib.IntN.{ℤ, pos, negsuc, natAbs}
 use lib.ListN.{length, drop, getD, length-append, length-drop, List·getD-append}
 use borrow.Author.Tests.{ltb-true, ltb-false, lt-ltb, le-ltb, le-leb, ne-eqb}
+use Rattle.integers.specs.Choice.{by-cases}
 use Rattle.integers.specs.Sign.{fromSign, isNegative}
 use Rattle.text.specs.Numbers.{isDigit, readOn, digitsOf, numberOf, digit-range}
 use Rattle.text.specs.declared.ParsedNumber.{ParsedNumber}
@@ -92,10 +93,17 @@ module _ (n : ℕ) where
   unfolding digits
   digits-first = first-within n n (omega arith)
 
-  digits-few : (k : ℕ) → 0 < k → n < 10 ^ k → length (digits n) ≤ k
+  pub digits-few : (k : ℕ) → 0 < k → n < 10 ^ k → length (digits n) ≤ k
   unfolding digits
   digits-few zero some h = absurd (omega arith)
   digits-few (suc k) some h = few-within n n (omega arith) k h
+
+-- an integer has a minus besides at the most
+pub decimal-few : (z : ℤ) (k : ℕ) → 0 < k → natAbs z < 10 ^ k → length (decimal z) ≤ suc k
+unfolding decimal
+decimal-few z k some h =
+    let d = digits-few (natAbs z) k some h in
+    by-cases (λ (ds : List ℕ). length ds ≤ suc k) (isNegative z) _ _ (λ e. omega arith) (λ e. omega arith)
 
 -- ---- read back
 

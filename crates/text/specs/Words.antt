@@ -7,8 +7,8 @@ use native.Mathlib.Omega.{arith}
 use lib.Dec.{eqb}
 use lib.ListN.{length, drop, getD, length-drop, drop-of-length-le}
 use lib.Seq.{drop-cons}
-use borrow.Author.Tests.{eq-eqb, ne-eqb}
-use Rattle.integers.specs.Choice.{by-cases}
+use borrow.Author.Tests.{eq-eqb, ne-eqb, eqb-true}
+use Rattle.integers.specs.Choice.{by-cases, never}
 use Rattle.text.specs.declared.Span.{Span}
 
 -- whether a byte is a blank, or where those are looked for that aren't blanks, isn't one
@@ -62,6 +62,18 @@ same-unequal [] (y ∷ ys) h = refl
 same-unequal (x ∷ xs) [] h = refl
 same-unequal (x ∷ xs) (y ∷ ys) h = by-cases (λ t. t ≡ false) (eqb x y) (sameBytes xs ys) false
     (λ e. same-unequal xs ys (λ l. h (ap suc l))) (λ e. refl)
+
+-- the same bytes are the same word
+pub same-equal : (a b : List ℕ) → sameBytes a b ≡ true → a ≡ b
+unfolding sameBytes
+same-equal [] [] e = refl
+same-equal [] (y ∷ ys) e = never e
+same-equal (x ∷ xs) [] e = never e
+same-equal (x ∷ xs) (y ∷ ys) e = go (eqb x y) refl e (same-equal xs ys)
+  where
+    go : (t : Bool) → eqb x y ≡ t → cond t (sameBytes xs ys) false ≡ true → (sameBytes xs ys ≡ true → xs ≡ ys) → x ∷ xs ≡ y ∷ ys
+    go true f r more = rw (eqb-true x y f, more r) refl
+    go false f r more = never r
 
 module _ (a b : List ℕ) (i : ℕ) where
   module _ (h : i < length a) (k : i < length b) where

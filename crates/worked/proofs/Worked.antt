@@ -14,6 +14,7 @@ use Rattle.signals.specs.Refusals.{refusedBy, scanTests}
 use Rattle.signals.specs.Signals.{buttonsOf, pinsOf, switchesOf, adjustmentOf}
 use Rattle.fields.specs.Fields as f
 use Rattle.modes.specs.Modes as m
+use Rattle.modes.specs.declared.Mode.the-variants.{Auto}
 use Rattle.modes.specs.Modes.{counted, openCountAfter}
 use Rattle.words.specs.Words.{byteOf, mdHigh, mdLow, MD, dsLow, DS}
 use Rattle.words.specs.Written.{mdTests}
@@ -45,7 +46,7 @@ infixr 5 _and_
 pub _and_ : {A B : Type 0} → A → B → A × B
 a and b = (a, b)
 
-scan-figure : scan (freshController 0) firstScan .answer ≡ words 0x1002 0x913F 0 0
+scan-figure : scan (freshController 0) firstScan .answer ≡ words 0x1002 0x913F 0 0 Auto (pos 500)
 unfolding s.scan s.scanCore s.accepted s.responseFrom s.controllerAfter s.contextOf s.computedIn s.indicationsAfter
     s.coreAfter s.statusOf s.modeNow State.freshController State.freshCore State.startReadings a.opOf a.electricalOf
     refusedBy scanTests buttonsOf pinsOf switchesOf adjustmentOf m.counted m.openCountAfter m.conditionsAfter m.modeOf

@@ -95,6 +95,6 @@ furtherFigures =
     ∷ (storedTerm (derivativeTerm (example 0 10) (pos 100)) ≡ negℤ (pos 655360000))
     -- the exact controller's output with the term of 0.36 units and two of 0: "its limited terms are added unrounded"
     ∷ Equal (changed exactArithmetic (termsFrom (example 10 0) 0 1 0) (whole (pos 0))) (record { numerator = pos 36; denominator = 100 })
-    -- a whole scan: started fresh with SW 0, pins 91h, PV 500, A pressed
-    ∷ (scan (freshController 0) firstScan .answer ≡ words 0x1002 0x913F 0 0)
+    -- a whole scan: started fresh with SW 0, pins 91h, half of channel 1's range, A pressed
+    ∷ (scan (freshController 0) firstScan .answer ≡ words 0x1002 0x913F 0 0 Auto (pos 500))
     ∷ []

@@ -1,9 +1,9 @@
 -- `console::line_answer` meets its contract.
 use mathlib.Core.Path.{ap, _∙_}
 use borrow.Author.Needs.{needs}
-use Rattle.console.specs.Calls.{startOf, bufferAfter, lineCommand, lineBytes, lineStep}
+use Rattle.console.specs.Lines.{startOf, lineSaved, lineStep}
 use Rattle.console.specs.ReplyLaws.{start-most, reply-fits}
-use Rattle.console.specs.declared.call.Step.{Step}
+use Rattle.console.specs.declared.session.SessionStep.{SessionStep}
 use Rattle.console.proofs.line_answer.Statement.{statement}
 use Rattle.console.proofs.line_answer.Tie as tie
 
@@ -37,26 +37,28 @@ same-length c = search needs
 returns : tie.Need-returns
 returns c =
     let a = c .before .before in
-    let p = a .before .before .before .before .before in
+    let p = a .before .before .before .before .before .before in
     let q = p .before .before .before in
     let empty = q .before .before in
     let room = empty .before in
     let start = room .before .before .before .before in
     let line = start .args .line .now in
     let len = start .args .len in
+    let session = start .args .session in
+    let step = lineStep session line len in
     let parsed = rw (empty .buffer .ensures .0) at (q .parse .ensures) in
     let result = rw (parsed .0, parsed .1) at (p .perform .ensures) in
-    let reply = ap (λ (s : Step). s .reply) (result .0) in
-    let o = rw (room .room .ensures, reply, result .1) at (a .append-reply .ensures .0) in (
+    let reply = ap (λ (s : SessionStep). s .reply) (result .0) in
+    let sheet = ap (λ (s : SessionStep). s .session .sheet) (result .0) in
+    let o = rw (room .room .ensures, reply, sheet, result .1) at (a .append-reply .ensures .0) in (
       p .perform .ensures .2,
       record {
-        controller = ap (λ (s : Step). s .controller) (result .0);
+        session = ap (λ (s : SessionStep). s .session) (result .0);
         output = o;
         whole = λ size.
             o ∙
-            reply-fits (lineStep (start .args .controller) line len .reply)
-            (bufferAfter (start .args .controller) (lineCommand line len) (lineBytes line len)) (start .args .out .now)
-            (startOf (start .args .used)) (rw reply at (a .append-reply .ensures .1)) (start-most (start .args .used)) size;
+            reply-fits (step .reply) (lineSaved session line len) (step .session .sheet) (start .args .out .now)
+            (startOf (start .args .used)) (rw (reply, sheet) at (a .append-reply .ensures .1)) (start-most (start .args .used)) size;
       },
     )
 

@@ -1,26 +1,26 @@
--- `console::run` is safe and ends, and every call is made of a valid controller.
+-- `console::run` is safe and ends, and every call is made of a valid session.
 use mathlib.Core.Path.{_≡_, refl, _∙_}
 use native.Mathlib.Omega.{arith}
 use lib.ListN.{length}
-use Rattle.controller.specs.Valid.{Valid}
+use Rattle.console.specs.Sessions.{ValidSession}
 use Rattle.console.proofs.run.Statement.{statement}
 use Rattle.console.proofs.run.Tie as tie
 
 abbrev Inv-loop : tie.InvT-loop
-Inv-loop input₀ line₀ out₀ controller₀ place₀ turns₀ input line out controller place turns = (length input ≡ length input₀) ×
-    (length line ≡ length line₀) × (length out ≡ length out₀) × Valid controller
+Inv-loop input₀ line₀ out₀ session₀ place₀ turns₀ input line out session place turns = (length input ≡ length input₀) ×
+    (length line ≡ length line₀) × (length out ≡ length out₀) × ValidSession session
 
 abbrev μ-loop : tie.MeasureT-loop
-μ-loop input₀ line₀ out₀ controller₀ place₀ turns₀ input line out controller place turns = turns
+μ-loop input₀ line₀ out₀ session₀ place₀ turns₀ input line out session place turns = turns
 
-first-controller-requires : tie.Need-first-controller-requires Inv-loop μ-loop
-first-controller-requires c κs = tt
+first-requires : tie.Need-first-requires Inv-loop μ-loop
+first-requires c κs = tt
 
 start-requires : tie.Need-start-requires Inv-loop μ-loop
 start-requires c κs = tt
 
 loop-holds : tie.Need-loop-holds Inv-loop μ-loop
-loop-holds c = (refl, refl, refl, c .before .first-controller .ensures .1)
+loop-holds c = (refl, refl, refl, c .before .first .ensures .1)
 
 next-line-requires : tie.Need-next-line-requires Inv-loop μ-loop
 next-line-requires c κs = tt
@@ -44,10 +44,14 @@ line-answer-requires c κs = let l =
     c .before .before .before .before .before .before .before .before .before .before .before .before .before in l .loop .inv .3
 
 sub-turns : tie.Need-sub-turns Inv-loop μ-loop
-sub-turns c = omega arith
+sub-turns c =
+    let n = c .before .before .before .before .before .before .before .before .before .before .before .before in
+    omega (arith, n .before .before .before .before .loop-test)
 
 loop-less : tie.Need-loop-less Inv-loop μ-loop
-loop-less c = omega arith
+loop-less c =
+    let n = c .before .before .before .before .before .before .before .before .before .before .before .before in
+    omega (arith, n .before .before .before .before .loop-test)
 
 loop-again : tie.Need-loop-again Inv-loop μ-loop
 loop-again c =
@@ -78,7 +82,7 @@ run-spec =
     (tie.spec
     Inv-loop
     μ-loop
-    first-controller-requires
+    first-requires
     start-requires
     loop-holds
     next-line-requires

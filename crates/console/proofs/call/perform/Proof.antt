@@ -7,31 +7,31 @@ use Rattle.controller.specs.Valid.{Valid}
 use Rattle.controller.specs.declared.Controller.{Controller}
 use Rattle.console.specs.CallLaws.{valid-performed}
 use Rattle.console.specs.Calls.{replyTo, unchangedWith, performed, bufferAfter}
-use Rattle.console.specs.declared.call.Reply.the-variants.{Accepted, Error}
+use Rattle.console.specs.declared.call.Reply.the-variants.{Accepted}
 use Rattle.console.specs.declared.call.Step.{Step}
 use Rattle.console.proofs.call.perform.Statement.{statement}
 use Rattle.console.proofs.call.perform.Tie as tie
 
-enum-known-command : tie.Need-enum-known-command
-enum-known-command c = search needs
+enum-known-call : tie.Need-enum-known-call
+enum-known-call c = search needs
 
 fresh-requires : tie.Need-fresh-requires
 fresh-requires c κs = search needs
 
-enum-known-command-2 : tie.Need-enum-known-command-2
-enum-known-command-2 c = search needs
+enum-known-call-2 : tie.Need-enum-known-call-2
+enum-known-call-2 c = search needs
 
 scan-requires : tie.Need-scan-requires
 scan-requires c κs = search needs
 
-enum-known-command-3 : tie.Need-enum-known-command-3
-enum-known-command-3 c = search needs
+enum-known-call-3 : tie.Need-enum-known-call-3
+enum-known-call-3 c = search needs
 
 write-requires : tie.Need-write-requires
 write-requires c κs = search needs
 
-enum-known-command-4 : tie.Need-enum-known-command-4
-enum-known-command-4 c = search needs
+enum-known-call-4 : tie.Need-enum-known-call-4
+enum-known-call-4 c = search needs
 
 read-requires : tie.Need-read-requires
 read-requires c κs = search needs
@@ -39,34 +39,31 @@ read-requires c κs = search needs
 reply-to-read-requires : tie.Need-reply-to-read-requires
 reply-to-read-requires c κs = search needs
 
-enum-known-command-5 : tie.Need-enum-known-command-5
-enum-known-command-5 c = search needs
+enum-known-call-5 : tie.Need-enum-known-call-5
+enum-known-call-5 c = search needs
 
 restart-requires : tie.Need-restart-requires
 restart-requires c κs = search needs
 
-enum-known-command-6 : tie.Need-enum-known-command-6
-enum-known-command-6 c = search needs
+enum-known-call-6 : tie.Need-enum-known-call-6
+enum-known-call-6 c = search needs
 
 save-requires : tie.Need-save-requires
 save-requires c κs = search needs
 
-enum-told : tie.Need-enum-told
-enum-told c = search needs
-
--- that a step is what the command gives
+-- that a step is what the call gives
 abbrev IsStep : tie.Start → Step → Type 0
-IsStep s step = step ≡ performed (s .args .controller) (s .args .command) (s .args .buffer .now)
+IsStep s step = step ≡ performed (s .args .controller) (s .args .call) (s .args .buffer .now)
 
 -- such a step leaves a valid controller
 valid : (s : tie.Start) (step : Step) → IsStep s step → Valid (step .controller)
-valid s step e = rw e (valid-performed (s .args .controller) (s .args .command) (s .args .buffer .now) (s .pre))
+valid s step e = rw e (valid-performed (s .args .controller) (s .args .call) (s .args .buffer .now) (s .pre))
 
 returns : tie.Need-returns
 unfolding performed bufferAfter
 returns c =
     let s = c .before .before .before .before .before in
-    let e = c .before .before .command .given .1 in
+    let e = c .before .before .call .given .1 in
     let r : IsStep s (unchangedWith (c .fresh .result) Accepted) =
     rw e (ap (λ (x : Controller). unchangedWith x Accepted) (c .fresh .ensures)) in
     (r, rw e refl, valid s _ r)
@@ -75,7 +72,7 @@ returns-2 : tie.Need-returns-2
 unfolding performed bufferAfter
 returns-2 c =
     let s = c .before .before .before .before .before in
-    let e = c .before .before .command2 .given .1 in
+    let e = c .before .before .call2 .given .1 in
     let r : IsStep s (c .scan .result) =
     rw e (c .scan .ensures) in
     (r, rw e refl, valid s _ r)
@@ -84,16 +81,16 @@ returns-3 : tie.Need-returns-3
 unfolding performed bufferAfter
 returns-3 c =
     let s = c .before .before .before .before .before in
-    let e = c .before .before .command3 .given .1 in
+    let e = c .before .before .call3 .given .1 in
     let r : IsStep s (c .write .result) =
-    rw e (rw (back w32 (c .before .before .command3 .given .0 .1 .0) (c .before .known-told3 .given .1 .0 .1)) at (c .write .ensures)) in
+    rw e (rw (back w32 (c .before .before .call3 .given .0 .1 .0) (c .before .known-told3 .given .1 .0 .1)) at (c .write .ensures)) in
     (r, rw e refl, valid s _ r)
 
 returns-4 : tie.Need-returns-4
 unfolding performed bufferAfter
 returns-4 c =
     let s = c .before .before .before .before .before .before in
-    let e = c .before .before .before .command4 .given .1 in
+    let e = c .before .before .before .call4 .given .1 in
     let r : IsStep s (unchangedWith (s .args .controller) (c .reply-to-read .result)) =
     rw e (ap (unchangedWith (s .args .controller)) (c .reply-to-read .ensures ∙ ap replyTo (c .before .read .ensures))) in
     (r, rw e refl, valid s _ r)
@@ -105,7 +102,7 @@ returns-5 : tie.Need-returns-5
 unfolding performed bufferAfter
 returns-5 c =
     let s = c .before .before .before .before .before .before in
-    let e = c .before .before .before .command5 .given .1 in
+    let e = c .before .before .before .call5 .given .1 in
     let r : IsStep s (c .restart .result) =
     rw e (c .restart .ensures) in
     (r, rw e refl, valid s _ r)
@@ -117,38 +114,28 @@ returns-6 : tie.Need-returns-6
 unfolding performed bufferAfter
 returns-6 c =
     let s = c .before .before .before .before .before .before .before .before in
-    let e = c .before .before .before .before .before .command6 .given .1 in
+    let e = c .before .before .before .before .before .call6 .given .1 in
     let r : IsStep s (unchangedWith (s .args .controller) (c .before .before .save .result)) =
     rw e (ap (unchangedWith (s .args .controller)) (c .before .before .save .ensures .0)) in
     (r, rw e (c .before .before .save .ensures .1), valid s _ r)
-
-returns-7 : tie.Need-returns-7
-unfolding performed bufferAfter
-returns-7 c =
-    let s = c .before .before .before in
-    let e = c .enum-told .given .1 in
-    let r : IsStep s (unchangedWith (s .args .controller) Error) =
-    rw e (refl) in
-    (r, rw e refl, valid s _ r)
 
 pub perform-spec : {M : Type 1} → statement M
 perform-spec =
     tie.close
     (tie.spec
-    enum-known-command
+    enum-known-call
     fresh-requires
-    enum-known-command-2
+    enum-known-call-2
     scan-requires
-    enum-known-command-3
+    enum-known-call-3
     write-requires
-    enum-known-command-4
+    enum-known-call-4
     read-requires
     reply-to-read-requires
-    enum-known-command-5
+    enum-known-call-5
     restart-requires
-    enum-known-command-6
+    enum-known-call-6
     save-requires
-    enum-told
     returns
     returns-2
     returns-3
@@ -156,5 +143,4 @@ perform-spec =
     same-length
     returns-5
     same-length-2
-    returns-6
-    returns-7)
+    returns-6)

@@ -2,7 +2,7 @@
 use mathlib.Core.Path.{refl, _∙_}
 use native.Mathlib.Omega.{arith}
 use lib.Seq.{take-all}
-use Rattle.console.specs.Replies.{replyText}
+use Rattle.console.specs.Replies.{imageText}
 use Rattle.formatting.specs.Laws.{then}
 use Rattle.formatting.specs.Buffer.{buffer}
 use Rattle.console.proofs.print.append_image.Statement.{statement}
@@ -24,7 +24,7 @@ same-length c =
     h .append-hexadecimal .kept .0 ∙ n .append-bytes .kept .0
 
 returns : tie.Need-returns
-unfolding replyText
+unfolding imageText
 returns c =
     let h = c .before .before in
     let n = h .before .before .before .before .before in
@@ -51,7 +51,7 @@ same-length-2 c =
     h .append-hexadecimal2 .kept .0 ∙ n .append-bytes .kept .0
 
 returns-2 : tie.Need-returns-2
-unfolding replyText
+unfolding imageText
 returns-2 c =
     let h = c .before .before in
     let n = h .before .before .before .before .before .before in

@@ -1,7 +1,7 @@
 -- `console::print::append_refused` meets its contract.
 use mathlib.Core.Path.{refl, _∙_}
 use Rattle.formatting.specs.Buffer.{buffer}
-use Rattle.console.specs.Replies.{replyText}
+use Rattle.console.specs.Replies.{refusedText}
 use Rattle.formatting.specs.Laws.{then}
 use Rattle.console.proofs.print.append_refused.Statement.{statement}
 use Rattle.console.proofs.print.append_refused.Tie as tie
@@ -19,7 +19,7 @@ same-length : tie.Need-same-length
 same-length c = c .before .before .append-spaced .kept .0 ∙ c .before .before .before .before .before .before .append-bytes .kept .0
 
 returns : tie.Need-returns
-unfolding replyText
+unfolding refusedText
 returns c =
     let w = c .before .before in
     let n = w .before .before .before .before in

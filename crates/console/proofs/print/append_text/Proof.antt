@@ -25,8 +25,8 @@ append-value-requires c κs = tt
 enum-known-reply-2 : tie.Need-enum-known-reply-2
 enum-known-reply-2 c = c .match .keys3
 
-append-words-requires : tie.Need-append-words-requires
-append-words-requires c κs = tt
+append-answer-requires : tie.Need-append-answer-requires
+append-answer-requires c κs = tt
 
 enum-told-2 : tie.Need-enum-told-2
 enum-told-2 c = c .match .keys4
@@ -34,20 +34,35 @@ enum-told-2 c = c .match .keys4
 append-image-requires : tie.Need-append-image-requires
 append-image-requires c κs = tt
 
-enum-known-reply-3 : tie.Need-enum-known-reply-3
-enum-known-reply-3 c = c .match .keys5
-
-append-refused-requires : tie.Need-append-refused-requires
-append-refused-requires c κs = tt
-
 enum-told-3 : tie.Need-enum-told-3
-enum-told-3 c = c .match .keys6
+enum-told-3 c = c .match .keys5
+
+append-sheet-requires : tie.Need-append-sheet-requires
+append-sheet-requires c κs = tt
+
+enum-told-4 : tie.Need-enum-told-4
+enum-told-4 c = c .match .keys6
 
 slice-aggregate-append-bytes-2 : tie.Need-slice-aggregate-append-bytes-2
 slice-aggregate-append-bytes-2 c = refl
 
 append-bytes-requires-2 : tie.Need-append-bytes-requires-2
 append-bytes-requires-2 c κs = tt
+
+enum-known-reply-3 : tie.Need-enum-known-reply-3
+enum-known-reply-3 c = c .match .keys7
+
+append-refused-requires : tie.Need-append-refused-requires
+append-refused-requires c κs = tt
+
+enum-told-5 : tie.Need-enum-told-5
+enum-told-5 c = c .match .keys8
+
+slice-aggregate-append-bytes-3 : tie.Need-slice-aggregate-append-bytes-3
+slice-aggregate-append-bytes-3 c = refl
+
+append-bytes-requires-3 : tie.Need-append-bytes-requires-3
+append-bytes-requires-3 c κs = tt
 
 same-length : tie.Need-same-length
 same-length c = c .before .before .append-bytes .kept .0
@@ -70,15 +85,14 @@ returns-2 c =
     (rw (v .1) (rw (back w32 (v .0 .0) range) at (c .before .before .append-value .ensures)), rw (v .1) (value-most (v .0 .0) range))
 
 same-length-3 : tie.Need-same-length-3
-same-length-3 c = c .before .before .append-words .kept .0
+same-length-3 c = c .before .before .append-answer .kept .0
 
 returns-3 : tie.Need-returns-3
 unfolding replyText
 returns-3 c =
     let k = c .before .before .before .before in
     let e = k .before .reply2 .given .1 in
-    let g = k .known-told2 .given in
-    (rw e (c .before .before .append-words .ensures), rw e (g .0 .1, g .1 .0 .1, g .1 .1 .0 .1, g .1 .1 .1 .0 .1))
+    (rw e (c .before .before .append-answer .ensures .0), rw e (c .before .before .append-answer .ensures .1))
 
 same-length-4 : tie.Need-same-length-4
 same-length-4 c = c .before .before .append-image .kept .0
@@ -90,14 +104,13 @@ returns-4 c =
     (rw e (c .before .before .append-image .ensures), rw e tt)
 
 same-length-5 : tie.Need-same-length-5
-same-length-5 c = c .before .before .append-refused .kept .0
+same-length-5 c = c .before .before .append-sheet .kept .0
 
 returns-5 : tie.Need-returns-5
 unfolding replyText
 returns-5 c =
-    let k = c .before .before .before .before in
-    let e = k .before .reply3 .given .1 in
-    (rw e (c .before .before .append-refused .ensures), rw e (k .known-told3 .given .0 .1))
+    let e = c .before .before .before .before .enum-told3 .given .1 in
+    (rw e (c .before .before .append-sheet .ensures .bytes), rw e (c .before .before .append-sheet .ensures .short))
 
 same-length-6 : tie.Need-same-length-6
 same-length-6 c = c .before .before .append-bytes2 .kept .0
@@ -105,8 +118,27 @@ same-length-6 c = c .before .before .append-bytes2 .kept .0
 returns-6 : tie.Need-returns-6
 unfolding replyText
 returns-6 c =
-    let e = c .before .before .before .before .before .enum-told3 .given .1 in
+    let e = c .before .before .before .before .before .enum-told4 .given .1 in
     (rw e (c .before .before .append-bytes2 .ensures), rw e tt)
+
+same-length-7 : tie.Need-same-length-7
+same-length-7 c = c .before .before .append-refused .kept .0
+
+returns-7 : tie.Need-returns-7
+unfolding replyText
+returns-7 c =
+    let k = c .before .before .before .before in
+    let e = k .before .reply3 .given .1 in
+    (rw e (c .before .before .append-refused .ensures), rw e (k .known-told3 .given .0 .1))
+
+same-length-8 : tie.Need-same-length-8
+same-length-8 c = c .before .before .append-bytes3 .kept .0
+
+returns-8 : tie.Need-returns-8
+unfolding replyText
+returns-8 c =
+    let e = c .before .before .before .before .before .enum-told5 .given .1 in
+    (rw e (c .before .before .append-bytes3 .ensures), rw e tt)
 
 pub append-text-spec : {M : Type 1} → statement M
 append-text-spec =
@@ -118,14 +150,19 @@ append-text-spec =
     enum-known-reply
     append-value-requires
     enum-known-reply-2
-    append-words-requires
+    append-answer-requires
     enum-told-2
     append-image-requires
-    enum-known-reply-3
-    append-refused-requires
     enum-told-3
+    append-sheet-requires
+    enum-told-4
     slice-aggregate-append-bytes-2
     append-bytes-requires-2
+    enum-known-reply-3
+    append-refused-requires
+    enum-told-5
+    slice-aggregate-append-bytes-3
+    append-bytes-requires-3
     same-length
     returns
     same-length-2
@@ -137,4 +174,8 @@ append-text-spec =
     same-length-5
     returns-5
     same-length-6
-    returns-6)
+    returns-6
+    same-length-7
+    returns-7
+    same-length-8
+    returns-8)

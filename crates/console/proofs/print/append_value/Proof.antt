@@ -4,7 +4,7 @@ use mir.Facts.{toZ-ofZ}
 use mir.Syntax.{w64}
 use Rattle.formatting.specs.Laws.{then}
 use Rattle.formatting.specs.Buffer.{buffer}
-use Rattle.console.specs.Replies.{replyText}
+use Rattle.console.specs.Replies.{valueText}
 use Rattle.integers.specs.Machine.{back}
 use Rattle.console.proofs.print.append_value.Statement.{statement}
 use Rattle.console.proofs.print.append_value.Tie as tie
@@ -25,7 +25,7 @@ same-length : tie.Need-same-length
 same-length c = c .before .before .append-signed .kept .0 ∙ c .before .before .before .before .before .before .before .append-bytes .kept .0
 
 returns : tie.Need-returns
-unfolding replyText
+unfolding valueText
 returns c =
     let v = c .before .before in
     let n = v .before .before .before .before .before in

@@ -2,7 +2,8 @@
 use mathlib.Core.Path.{refl}
 use mir.Syntax.{w64}
 use Rattle.integers.specs.Machine.{back}
-use Rattle.console.specs.Commands.{argument, freshCommand}
+use Rattle.text.specs.Arguments.{argument}
+use Rattle.console.specs.Commands.{freshCommand}
 use native.Mathlib.Omega.{arith}
 use Rattle.console.proofs.request.fresh.Statement.{statement}
 use Rattle.console.proofs.request.fresh.Tie as tie

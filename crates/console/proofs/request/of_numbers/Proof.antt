@@ -113,10 +113,13 @@ returns-5 c =
       sym (test5 .before .is-call5 .ensures) ∙ test5 .if5 .taken,
     ) (c .save .ensures)
 
+of-word-requires : tie.Need-of-word-requires
+of-word-requires c κs = tt
+
 returns-6 : tie.Need-returns-6
 unfolding numbersCommand
 returns-6 c =
-    let test5 = c in
+    let test5 = c .before in
     let test4 = test5 .before .before .before in
     let test3 = test4 .before .before .before in
     let test2 = test3 .before .before .before in
@@ -127,7 +130,7 @@ returns-6 c =
       sym (test3 .before .is-call3 .ensures) ∙ test3 .if3 .left,
       sym (test4 .before .is-call4 .ensures) ∙ test4 .if4 .left,
       sym (test5 .before .is-call5 .ensures) ∙ test5 .if5 .left,
-    ) refl
+    ) (c .of-word .ensures)
 
 pub of-numbers-spec : {M : Type 1} → statement M
 of-numbers-spec =
@@ -154,4 +157,5 @@ of-numbers-spec =
     is-call-requires-5
     save-requires
     returns-5
+    of-word-requires
     returns-6)

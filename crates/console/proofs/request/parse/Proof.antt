@@ -57,6 +57,39 @@ returns-2 c =
       rw (h, ← one, is) (rw sub-zero at (r .restart .ensures .1)),
     )
 
+sub-same-2 : tie.Need-sub-same-2
+sub-same-2 c = omega arith
+
+part-same-start-2 : tie.Need-part-same-start-2
+part-same-start-2 c = omega arith
+
+part-same-end-2 : tie.Need-part-same-end-2
+part-same-end-2 c = omega arith
+
+slice-aggregate-same-2 : tie.Need-slice-aggregate-same-2
+slice-aggregate-same-2 c = refl
+
+same-requires-2 : tie.Need-same-requires-2
+same-requires-2 c κs = tt
+
+feed-requires : tie.Need-feed-requires
+feed-requires c κs = omega arith
+
+returns-3 : tie.Need-returns-3
+unfolding commandIn bytesAfter commandOf commandBytes
+returns-3 c =
+    let t = c .before in
+    let i = t .before .before .before .before in
+    let s = i .before in
+    let w = s .before .before .before in
+    let one = rw sub-zero at (w .word .ensures .0) in
+    let isnot = sym (rw sub-zero at (s .same .ensures)) ∙ i .if2 .left in
+    let is = sym (rw sub-zero at (t .before .same2 .ensures)) ∙ t .if3 .taken in
+    let h = lt-leb _ _ (w .before .before .if1 .left) in (
+      rw (h, ← one, isnot, is) (rw sub-zero at (c .feed .ensures)),
+      rw (h, ← one, isnot) refl,
+    )
+
 sub-of-numbers : tie.Need-sub-of-numbers
 sub-of-numbers c = omega arith
 
@@ -72,17 +105,19 @@ parse-requires c κs = tt
 of-numbers-requires : tie.Need-of-numbers-requires
 of-numbers-requires c κs = tt
 
-returns-3 : tie.Need-returns-3
+returns-4 : tie.Need-returns-4
 unfolding commandIn bytesAfter commandOf commandBytes
-returns-3 c =
-    let i = c .before .before .before in
+returns-4 c =
+    let t = c .before .before .before in
+    let i = t .before .before .before .before in
     let s = i .before in
     let w = s .before .before .before in
     let one = rw sub-zero at (w .word .ensures .0) in
-    let is = sym (rw sub-zero at (s .same .ensures)) ∙ i .if2 .left in
+    let isnot = sym (rw sub-zero at (s .same .ensures)) ∙ i .if2 .left in
+    let other = sym (rw sub-zero at (t .before .same2 .ensures)) ∙ t .if3 .left in
     let h = lt-leb _ _ (w .before .before .if1 .left) in (
-      rw (h, ← one, is) (rw (c .before .parse .ensures, sub-zero) at (c .of-numbers .ensures)),
-      rw (h, ← one, is) refl,
+      rw (h, ← one, isnot, other) (rw (c .before .parse .ensures, sub-zero) at (c .of-numbers .ensures)),
+      rw (h, ← one, isnot) refl,
     )
 
 pub parse-spec : {M : Type 1} → statement M
@@ -102,9 +137,16 @@ parse-spec =
     restart-requires
     same-length
     returns-2
+    sub-same-2
+    part-same-start-2
+    part-same-end-2
+    slice-aggregate-same-2
+    same-requires-2
+    feed-requires
+    returns-3
     sub-of-numbers
     part-of-numbers-start
     part-of-numbers-end
     parse-requires
     of-numbers-requires
-    returns-3)
+    returns-4)

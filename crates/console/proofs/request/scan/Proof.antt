@@ -4,8 +4,8 @@ use lib.IntN.{ℤ}
 use mathlib.Core.List.{List}
 use mir.Syntax.{w64}
 use Rattle.integers.specs.Machine.{back}
-use Rattle.text.specs.Arguments.{naturalIn}
-use Rattle.console.specs.Commands.{argument, scanCommand}
+use Rattle.text.specs.Arguments.{argument, naturalIn}
+use Rattle.console.specs.Commands.{scanCommand}
 use native.Mathlib.Omega.{arith}
 use Rattle.console.proofs.request.scan.Statement.{statement}
 use Rattle.console.proofs.request.scan.Tie as tie

@@ -1,5 +1,6 @@
 -- `console::request::write` meets its contract.
-use Rattle.console.specs.Commands.{argument, writeCommand}
+use Rattle.text.specs.Arguments.{argument}
+use Rattle.console.specs.Commands.{writeCommand}
 use mathlib.Core.Path.{sym, _∙_, refl}
 use lib.ListN.{getD}
 use lib.IntN.{pos}

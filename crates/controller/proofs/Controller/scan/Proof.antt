@@ -25,12 +25,12 @@ none-refuses c = sym (c .before .before .scan-verdict .ensures) ∙ ap numberIn 
 stepped-requires : tie.Need-stepped-requires
 stepped-requires c κs = (c .before .before .before .pre, sampled (c .before .before .before .args .input) (none-refuses c))
 
-words-requires : tie.Need-words-requires
-words-requires c κs =
+answer-requires : tie.Need-answer-requires
+answer-requires c κs =
     let start = c .before .before .before .before in
     rw (c .stepped .ensures)
     (stepped-valid (start .args .self) (start .args .input) (start .pre)
-    (sampled (start .args .input) (none-refuses (c .before))) .stored)
+    (sampled (start .args .input) (none-refuses (c .before))))
 
 some-refuses : (c : tie.After-verdict) →
     refusedBy (scanTests (c .before .before .before .args .input)) ≡ some (numberOf (c .verdict .given .0 .0))
@@ -42,7 +42,7 @@ returns c = simp (some-refuses (c .before))
 
 returns-2 : tie.Need-returns-2
 unfolding scan scanCore responseFrom controllerAfter stepped accepted coreAfter
-returns-2 c = simp (none-refuses (c .before .before), c .words .ensures) (simp (c .before .stepped .ensures))
+returns-2 c = simp (none-refuses (c .before .before), c .answer .ensures) (simp (c .before .stepped .ensures))
 
 pub scan-spec : {M : Type 1} → statement M
 scan-spec =
@@ -52,6 +52,6 @@ scan-spec =
     enum-known-verdict
     enum-told
     stepped-requires
-    words-requires
+    answer-requires
     returns
     returns-2)

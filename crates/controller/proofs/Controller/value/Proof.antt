@@ -2,17 +2,15 @@
 use mathlib.Core.Bool.{false}
 use mathlib.Core.Logic.{⊎-elim}
 use mathlib.Core.Path.{_≡_}
-use Prim.Native.Nat.{_≤_}
 use native.Mathlib.Omega.{arith}
-use lib.IntN.{ℤ, natAbs}
-use mir.Val.{toZ, ofZ}
-use mir.Syntax.{w32, w64}
+use mir.Syntax.{w32}
 use borrow.Author.Tests.{le-leb, lt-leb, ne-eqb}
 use Rattle.integers.specs.Operations.{number}
 use Rattle.integers.specs.Machine.{back, cast-back}
 use Rattle.parameters.specs.Table.{isFrom}
 use Rattle.outputs.specs.OutputLaws.{stored-back}
 use Rattle.controller.specs.Read.{valueIn}
+use Rattle.controller.specs.ValidLaws.{reading-back}
 use borrow.Author.Needs.{needs}
 use Rattle.controller.proofs.Controller.value.Statement.{statement}
 use Rattle.controller.proofs.Controller.value.Tie as tie
@@ -38,22 +36,19 @@ op-of-requires c κs = search needs
 cast-result-4 : tie.Need-cast-result-4
 cast-result-4 c = search needs
 
-reads-back : (z : ℤ) → natAbs z ≤ 19998 → toZ w64 (ofZ w64 z) ≡ z
-reads-back z h = back w64 z (omega (arith, h, number z))
-
 narrow-requires : tie.Need-narrow-requires
 narrow-requires c κs = let most = c .before .before .before .before .pre .readable .sp-most in
-    simp (reads-back (c .before .before .before .before .args .self .core .readings .sp) most)
+    simp (reading-back (c .before .before .before .before .args .self .core .readings .sp) most)
     (omega (arith, most, number (c .before .before .before .before .args .self .core .readings .sp)))
 
 narrow-requires-2 : tie.Need-narrow-requires-2
 narrow-requires-2 c κs = let most = c .before .before .before .before .pre .readable .pv-most in
-    simp (reads-back (c .before .before .before .before .args .self .core .readings .pv) most)
+    simp (reading-back (c .before .before .before .before .args .self .core .readings .pv) most)
     (omega (arith, most, number (c .before .before .before .before .args .self .core .readings .pv)))
 
 narrow-requires-3 : tie.Need-narrow-requires-3
 narrow-requires-3 c κs = let most = c .before .before .before .before .pre .readable .er-most in
-    simp (reads-back (c .before .before .before .before .args .self .core .readings .er) most)
+    simp (reading-back (c .before .before .before .before .args .self .core .readings .er) most)
     (omega (arith, most, number (c .before .before .before .before .args .self .core .readings .er)))
 
 parameter-requires : tie.Need-parameter-requires
@@ -61,7 +56,7 @@ parameter-requires c κs = search needs
 
 narrow-requires-4 : tie.Need-narrow-requires-4
 narrow-requires-4 c κs = let most = c .before .before .before .before .before .pre .readable .mp-most in
-    simp (reads-back (c .before .before .before .before .before .args .self .core .readings .mp) most)
+    simp (reading-back (c .before .before .before .before .before .args .self .core .readings .mp) most)
     (omega (arith, most, number (c .before .before .before .before .before .args .self .core .readings .mp)))
 
 returns : tie.Need-returns
@@ -91,7 +86,7 @@ unfolding valueIn
 returns-6 c =
     simp (back w32 (c .narrow .result) (c .narrow .ok), c .before .before .match .keys6)
     (simp (c .narrow .ensures)
-    (simp (reads-back (c .before .before .before .before .before .args .self .core .readings .sp)
+    (simp (reading-back (c .before .before .before .before .before .args .self .core .readings .sp)
     (c .before .before .before .before .before .pre .readable .sp-most))))
 
 returns-7 : tie.Need-returns-7
@@ -99,7 +94,7 @@ unfolding valueIn
 returns-7 c =
     simp (back w32 (c .narrow2 .result) (c .narrow2 .ok), c .before .before .match .keys7)
     (simp (c .narrow2 .ensures)
-    (simp (reads-back (c .before .before .before .before .before .args .self .core .readings .pv)
+    (simp (reading-back (c .before .before .before .before .before .args .self .core .readings .pv)
     (c .before .before .before .before .before .pre .readable .pv-most))))
 
 returns-8 : tie.Need-returns-8
@@ -107,7 +102,7 @@ unfolding valueIn
 returns-8 c =
     simp (back w32 (c .narrow3 .result) (c .narrow3 .ok), c .before .before .match .keys8)
     (simp (c .narrow3 .ensures)
-    (simp (reads-back (c .before .before .before .before .before .args .self .core .readings .er)
+    (simp (reading-back (c .before .before .before .before .before .args .self .core .readings .er)
     (c .before .before .before .before .before .pre .readable .er-most))))
 
 returns-9 : tie.Need-returns-9
@@ -139,7 +134,7 @@ returns-10 c = let start = c .before .before .before .before .before .before in
       ne-eqb n 30 (r .0 .1),
       ne-eqb n 31 (r .1),
     )
-    (simp (c .narrow4 .ensures) (simp (reads-back (start .args .self .core .readings .mp) (start .pre .readable .mp-most))))
+    (simp (c .narrow4 .ensures) (simp (reading-back (start .args .self .core .readings .mp) (start .pre .readable .mp-most))))
 
 pub value-spec : {M : Type 1} → statement M
 value-spec =

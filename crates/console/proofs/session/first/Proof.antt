@@ -1,0 +1,23 @@
+-- `console::session::first` meets its contract.
+use mathlib.Core.Path.{refl}
+use Rattle.controller.specs.ValidLaws.{valid-fresh}
+use Rattle.console.specs.Sessions.{firstSession}
+use Rattle.console.proofs.session.first.Statement.{statement}
+use Rattle.console.proofs.session.first.Tie as tie
+
+fresh-requires : tie.Need-fresh-requires
+fresh-requires c κs = tt
+
+empty-requires : tie.Need-empty-requires
+empty-requires c κs = tt
+
+returns : tie.Need-returns
+unfolding firstSession
+returns c =
+    let fresh-is = c .before .fresh .ensures in (
+      rw (fresh-is, c .empty .ensures .0) refl,
+      record { controller = rw fresh-is (valid-fresh 0); sheet = c .empty .ensures .1 },
+    )
+
+pub first-spec : {M : Type 1} → statement M
+first-spec = tie.close (tie.spec fresh-requires empty-requires returns)

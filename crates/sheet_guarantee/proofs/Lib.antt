@@ -1,0 +1,7 @@
+pub mod Step
+pub mod Claim
+pub mod Unique
+pub mod Ends
+pub mod Room
+pub mod Filled
+pub mod Exactly

@@ -1,0 +1,6 @@
+pub mod ModeWords
+pub mod ModeLaws
+pub mod Answers
+pub mod AnswerLaws
+pub mod Appended
+pub mod SheetText
