@@ -38,7 +38,7 @@ inOrder greatest least =
     ((eqb (greatest .number) 1 || eqb (least .number) 1) || ltZ (least .pv +ℤ pos 1) (greatest .pv))
     else (leZ (least .pv) (greatest .pv) && eqb (greatest .number) 1 && eqb (least .number) 1)
 
--- the scans before one number but for another
+-- how many scans stand before number `here`, the one at `other` left out
 unfoldable pub scansBefore : ℕ → ℕ → ℕ
 scansBefore here other = if ltb other here then here - 2 else here - 1
 
