@@ -3,8 +3,9 @@
 Usage: python3 -B -m demo.play SESSION CONSOLE
 
 A session is a file of calls; text behind a # is a comment and heads the calls that follow. Shown of each part are its
-first and its last scan, and those at which the mode or one of the notes below changed. Behind the session comes its
-drying sheet.
+first and its last scan, those at which the mode or one of the notes below changed, and the answers of other calls.
+Scans are numbered as they are accepted, so that the numbers are those of the drying sheet, which comes behind the
+session.
 """
 
 import sys
@@ -65,7 +66,7 @@ def parts(calls, answers):
             yield title, part
             part = []
         title = comment or title
-        number += call.startswith("scan")
+        number += answer.startswith("scan")
         part.append((number, call, answer))
     yield title, part
 

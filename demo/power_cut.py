@@ -4,8 +4,9 @@ Usage: python3 -B -m demo.power_cut CONSOLE
 
 A dryer runs and saves an image of its settings, runs on and saves a newer one; its drying sheet is shown; then the
 console is ended, as a power cut would end it, and started anew. It is given the newer image, the same with the
-power-fail switch ON, and every mixture of the two that a cut in the midst of saving would leave. Ends with status 1 if
-a setting doesn't come back or a mixture gives settings that are neither image's.
+power-fail switch ON, and every mixture of the two that a cut in the midst of saving would leave. Scans are 36 ms apart;
+after the cut the host's clock begins anew, and the first scan is taken at any reading. Ends with status 1 if a setting
+doesn't come back or a mixture gives settings that are neither image's.
 """
 
 import collections
@@ -21,20 +22,23 @@ MD, OP, SL, XP, TI = 24, 28, 20, 17, 18
 MEMORY_FAULT, MANUAL = 0x0100, 0x2000
 IMAGE_BYTES = 137
 A_BUTTON, PINS = 0x02, 0x81
+APART, BEFORE, AFTER = 36, 86_400_000, 250  # milliseconds between scans, and those that the host shows before and after the cut
 
 
 class Dryer(Console):
     """A dryer behind the program; ending it is the power cut."""
 
-    def __init__(self, program, switches):
+    def __init__(self, program, switches, milliseconds=AFTER):
         super().__init__(program)
+        self.milliseconds = milliseconds
         self.ask(f"fresh {switches}")
 
     def read(self, number):
         return int(self.ask(f"read {number}").split()[1])
 
     def scan(self, sample, buttons=0):
-        return scan_answer(self.call(f"scan {PINS} {sample} 0 0 {buttons} 0"))
+        self.milliseconds += APART
+        return scan_answer(self.call(f"scan {PINS} {sample} 0 0 {buttons} 0 {self.milliseconds}"))
 
     def save(self):
         return self.ask(f"save {IMAGE_BYTES}").split()[1]
@@ -58,7 +62,7 @@ def before_the_cut(program):
     """A dryer in Auto with its own settings; an older and a newer image, what stood when each was saved, and the
     sheet.
     """
-    console = Dryer(program, 0)
+    console = Dryer(program, 0, BEFORE)
     for number, value in SETTINGS.items():
         console.ask(f"write {number} {value}")
     console.scan(4800, A_BUTTON)
@@ -115,6 +119,7 @@ def main():
     show(f"restarted: {answer}", standing(console))
     survived = answer == "ok" and standing(console) == newer_standing and dry(console, [5600]).mode == "Auto"
     print("  every setting is back, and the next scan is in Auto" if survived else "  NOT AS BEFORE")
+    print(f"  the host's clock stood beyond {BEFORE} ms before the cut; after it the console answers: {console.ask('clock')}")
     console, answer = after_the_cut(program, POWER_FAIL, newer)
     show(f"power-fail switch ON: {answer}", standing(console))
     counts, mixture = mixed(program, older, newer)

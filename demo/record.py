@@ -22,16 +22,17 @@ HEADS = {
     LEADING: """\
 # The leading dryer, call by call: what the console is given. Text behind a # is a comment. Made with a simple drum, not
 # measured. PV is in tenths of a degree; that of each scan's answer feeds channel 2 of the following dryer, in
-# following.txt. A scan is PINS S1 S2 S3 BUTTONS SENSORS; pins: 128 Hold at 15 V, 64 Track, 1 unit address; buttons: 2
-# A. Parameters: 1 1H, 2 1L, 9 HS, 17 XP, 18 TI, 20 SL, 29 SP.
+# following.txt. A scan is PINS S1 S2 S3 BUTTONS SENSORS MS; pins: 128 Hold at 15 V, 64 Track, 1 unit address; buttons:
+# 2 A; MS: the host's milliseconds, 36 from scan to scan. Parameters: 1 1H, 2 1L, 9 HS, 17 XP, 18 TI, 20 SL, 29 SP.
 """,
     FOLLOWING: """\
 # The following dryer, call by call: what the console is given. Text behind a # is a comment. Made with a simple drum,
 # not measured. Sample 2 of each scan is the sample that gives the PV of the leading dryer, leading.txt, in the same
-# scan. Pins: 128 Hold at 15 V, 64 Track, 32 Remote, 2 unit address; buttons: 64 Raise, 8 SP, 4 R. Parameters: 1 1H,
-# 3 2H, 7 HR, 8 LR, 9 HS, 17 XP, 18 TI, 20 SL, 21 RS, 22 RB, 29 SP.
+# scan. Pins: 128 Hold at 15 V, 64 Track, 32 Remote, 2 unit address; buttons: 64 Raise, 8 SP, 4 R. The last number is
+# that of another host's milliseconds, 36 from scan to scan too. Parameters: 1 1H, 3 2H, 7 HR, 8 LR, 9 HS, 17 XP, 18 TI,
+# 20 SL, 21 RS, 22 RB, 29 SP.
 """}
-SCANS, DISPLAY_EVERY = 120, 6
+SCANS, DISPLAY_EVERY, APART = 120, 6, 36  # the last in milliseconds
 RANGE = 1200            # 0 to 120.0 degrees on channels 1 and 2
 TRACK, REMOTE, NO_REMOTE = 0xC0, 0xA2, 0x82
 A_BUTTON, R_BUTTON, SP_AND_RAISE = 0x02, 0x04, 0x48
@@ -40,11 +41,12 @@ A_BUTTON, R_BUTTON, SP_AND_RAISE = 0x02, 0x04, 0x48
 class Dryer:
     """A drum and its controller.
 
-    The drum's temperature, in sample units, goes toward what its burner gives, the slower the greater its lag.
+    The drum's temperature, in sample units, goes toward what its burner gives, the slower the greater its lag.  The
+    milliseconds are those that the host's clock has shown last.
     """
 
-    def __init__(self, temperature, lag):
-        self.temperature, self.lag = temperature, lag
+    def __init__(self, temperature, lag, milliseconds):
+        self.temperature, self.lag, self.milliseconds = temperature, lag, milliseconds
         self.lines, self.controller, self.OP = [], None, 0
 
     def call(self, *call, note=""):
@@ -62,7 +64,9 @@ class Dryer:
 
     def scan(self, pins, second=0, third=0, buttons=0, note=""):
         """The PV that the scan answers; its OP moves the temperature."""
-        _, _, _, self.OP, _, _, PV = self.call("scan", pins, round(self.temperature), second, third, buttons, 0, note=note)
+        self.milliseconds += APART
+        _, _, _, self.OP, _, _, PV = self.call("scan", pins, round(self.temperature), second, third, buttons, 0, self.milliseconds,
+                                               note=note)
         self.temperature += (2000 + 0.75 * self.OP - self.temperature) / self.lag
         return PV
 
@@ -144,7 +148,7 @@ def follow(dryer, number, sample):
 
 def recorded():
     """The text of each file."""
-    leading, following = Dryer(3500, 16), Dryer(3000, 11)
+    leading, following = Dryer(3500, 16, 7_200_000), Dryer(3000, 11, 90_000)
     for number in range(1, SCANS + 1):
         PV = lead(leading, number)
         follow(following, number, round(PV * 10000 / RANGE))

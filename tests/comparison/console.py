@@ -1,4 +1,4 @@
-"""Compare the console's answers, call by call, with the model, and check the claim of document 01 after every call.
+"""Compare the console's answers, call by call, with the model, and check the claim after every call.
 
 Usage: python3 -B -m tests.comparison.console [--seed N] PROGRAM
 
@@ -17,6 +17,7 @@ import sys
 from tests.comparison import whole_inputs
 from tests.comparison.program import NO_END, PROGRAM_SECONDS, SHORT_SECONDS, run, run_in_pieces, run_lines
 from tests.comparison.shortest import print_broken_claim, print_wrong_answer
+from tests.coverage.clock import ClockCoverage
 from tests.coverage.coverage import print_counts
 from tests.coverage.images import ImageCoverage
 from tests.coverage.parameters import ParameterCoverage
@@ -26,6 +27,7 @@ from tests.coverage.sheets import SheetCoverage
 from tests.coverage.writes import WriteCoverage
 from tests.figures import check as figure_check
 from tests.gate import tally
+from tests.lists import clock as clock_lists
 from tests.lists import power_cuts
 from tests.lists import images as image_lists
 from tests.lists import parameters as parameter_lists
@@ -39,9 +41,10 @@ from tests.model.pair import Pair, answers_of
 
 DEFAULT_SEED = 6360
 INPUTS, AT_ONCE = 4, 2     # the lists are shared out among so many runs of the program, so many of them at once
-COVERAGES = ScanCoverage, ParameterCoverage, WriteCoverage, ImageCoverage, PowerCutCoverage, SheetCoverage
+COVERAGES = ScanCoverage, ParameterCoverage, WriteCoverage, ImageCoverage, PowerCutCoverage, SheetCoverage, ClockCoverage
 KINDS = ((scan_lists, ScanCoverage), (parameter_lists, ParameterCoverage), (write_lists, WriteCoverage), (image_lists, ImageCoverage),
-         (restart_lists, ImageCoverage), (power_cuts, PowerCutCoverage), (sheet_lists, SheetCoverage))
+         (restart_lists, ImageCoverage), (power_cuts, PowerCutCoverage), (sheet_lists, SheetCoverage),
+         (clock_lists, ClockCoverage))
 FAULTS_PRINTED = 10
 
 

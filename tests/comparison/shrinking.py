@@ -1,10 +1,12 @@
 """From a call list that a program answers wrongly to a short one: calls are removed, then numbers made simpler, as long
-as it stays wrong.
+as it stays wrong.  Scans keep their distances in milliseconds where others are removed between them.
 """
 
 import collections
+import itertools
 import time
 
+from tests.lists.host_clock import MOST, USUAL
 from tests.lists.line_forms import with_number
 from tests.model import loop
 from tests.model.images import IMAGE_BYTES, LAYOUT, TAGS, image_of
@@ -12,6 +14,7 @@ from tests.model.lines import RANGES, call_of, line_of
 from tests.model.state import Stored
 
 MANY_LINES = 300  # more than this are first made fewer
+READING_AT = len(RANGES["scan"])
 
 
 class Shrinking:
@@ -53,7 +56,7 @@ class Shrinking:
         while size >= 1:
             start = 0
             while start < len(lines) and not self.is_over():
-                shorter = self.still_wrong(lines[:start] + lines[start + size:])
+                shorter = self.still_wrong(closed_up(lines[:start], lines[start:start + size], lines[start + size:]))
                 if shorter is None:
                     start += size
                 else:
@@ -67,7 +70,8 @@ class Shrinking:
         Then in all calls, or all but the last, something simpler at one place.
         """
         lines = self.still_wrong([line_of(call_of(line) or (line,)) for line in lines]) or lines
-        for place in range(1, 1 + max(map(len, RANGES.values()))):
+        lines = self.still_wrong(with_usual_steps(lines)) or lines
+        for place in range(1, READING_AT):
             for simpler in simpler_columns([call_of(line)[place] for line in lines if has_number(line, place)]):
                 changed = [with_number(call_of(line), place, simpler(call_of(line)[place])) if has_number(line, place) else line
                            for line in lines]
@@ -78,7 +82,8 @@ class Shrinking:
         return lines
 
     def with_simpler_numbers(self, lines):
-        """In each call by itself smaller numbers and fewer bits, and simpler images."""
+        """Readings from 0 on; then in each call by itself smaller numbers and fewer bits, and simpler images."""
+        lines = self.still_wrong(from_zero(lines)) or lines
         for place in range(len(lines)):
             if place >= len(lines) or self.is_over():
                 return lines
@@ -92,6 +97,38 @@ class Shrinking:
                     if place >= len(lines):
                         return lines
         return lines
+
+
+def readings_in(lines):
+    """The milliseconds of each line that is a scan."""
+    return [call_of(line)[READING_AT] for line in lines if has_number(line, READING_AT)]
+
+
+def closed_up(before, removed, behind):
+    """The lines without those removed; the scans behind them so much earlier that they keep their distances.
+
+    Where that is beyond 64 bits they stay.
+    """
+    came, went = readings_in(before), readings_in(removed)
+    by = went[-1] - came[-1] if came and went else 0
+    readings = readings_in(behind)
+    if not by or not readings or min(readings) < by or max(readings) - by > MOST:
+        return before + behind
+    return before + [with_number(call_of(line), READING_AT, call_of(line)[READING_AT] - by) if has_number(line, READING_AT) else line
+                     for line in behind]
+
+
+def with_usual_steps(lines):
+    """The scans 36 ms apart."""
+    number = itertools.count(1)
+    return [with_number(call_of(line), READING_AT, next(number) * USUAL) if has_number(line, READING_AT) else line for line in lines]
+
+
+def from_zero(lines):
+    """The scans with their distances, the earliest at 0."""
+    by = min(readings_in(lines), default=0)
+    return [with_number(call_of(line), READING_AT, call_of(line)[READING_AT] - by) if has_number(line, READING_AT) else line
+            for line in lines]
 
 
 def has_number(line, place):

@@ -15,14 +15,15 @@ from tests.gate import tally
 
 LINES, RUNS, LEAST = 400_000, 3, 200_000
 SEED = 6360
+BEGINNING = 1_700_000_000_000  # as many milliseconds as hosts count that began in 1970
 
 
 def session():
-    """A fresh start and scans with random pins, samples and buttons."""
+    """A fresh start and scans with random pins, samples and buttons, 36 ms apart."""
     generator = random.Random(SEED)
     scans = (f"scan {generator.choice((128, 145, 160, 192))} "
              f"{generator.randrange(10001)} {generator.randrange(10001)} {generator.randrange(10001)} "
-             f"{generator.choice((0, 2, 4, 64, 72))} {generator.choice((0, 0, 0, 1))}" for _ in range(LINES))
+             f"{generator.choice((0, 2, 4, 64, 72))} {generator.choice((0, 0, 0, 1))} {BEGINNING + 36 * number}" for number in range(LINES))
     return "\n".join(["fresh 2048", *scans, ""]).encode()
 
 

@@ -8,9 +8,12 @@ from tests.model.lines import LONGEST_LINE, lines_in
 
 # Worked by hand.  SW 0, pins 80h, all else 0: Manual is MD 2000h; DS is 80h, then bits 4, 3, 2, 1, 0: 801Fh; output and
 # PV 0.
-FIRST_SCAN = "scan 128 0 0 0 0 0"
+FIRST_SCAN, SECOND_SCAN = "scan 128 0 0 0 0 0 36", "scan 128 0 0 0 0 0 72"
 FIRST_ANSWER = "scan 8192 32799 0 0 manual 0"
 IMAGE = FRESH.split()[1]  # a fresh controller's
+# The first of the numbers is 2 to the 64th; the third has 21 digits
+NO_READINGS = ("18446744073709551616", "99999999999999999999", "000000000000000000000", "", "-0", "-1", "+1", "x", "1 1", "1.0", "none",
+               "36ms")
 BY_HAND = (
     ("no input", "", ""),
     ("no newline at the end", "fresh 0", "ok\n"),
@@ -26,12 +29,14 @@ BY_HAND = (
     ("a byte beyond ASCII", "\xff", "error\n"),
     ("a scan before any fresh", FIRST_SCAN, FIRST_ANSWER + "\n"),
     ("S2.2 ON", f"fresh 16384\n{FIRST_SCAN}", "ok\nscan 8192 32799 0 9999 manual 0\n"),
-    ("a fresh start ends Auto", f"scan 128 0 0 0 2 0\nfresh 0\n{FIRST_SCAN}\n", f"scan 4098 32831 0 0 auto 0\nok\n{FIRST_ANSWER}\n"),
+    ("a fresh start ends Auto", f"scan 128 0 0 0 2 0 9\nfresh 0\n{FIRST_SCAN}\n", f"scan 4098 32831 0 0 auto 0\nok\n{FIRST_ANSWER}\n"),
     ("a word cut by a newline", "fre\nsh 0\n", "error\nerror\n"),
     ("a call after a line with NULs", f"\0\0\0\n{FIRST_SCAN}\n", f"error\n{FIRST_ANSWER}\n"),
-    ("the greatest numbers", "fresh 65535\nscan 255 10000 10000 10000 207 3\n", "ok\nscan 17615 65335 9999 0 track 0\n"),
-    ("one beyond the greatest", "fresh 65536\nscan 256 0 0 0 0 0\nscan 0 65536 0 0 0 0\nscan 0 65535 0 0 0 0\n",
-     "error\n" * 3 + "refused 1\n"),
+    ("the greatest numbers", "fresh 65535\nscan 255 10000 10000 10000 207 3 18446744073709551615\n",
+     "ok\nscan 17615 65335 9999 0 track 0\n"),
+    ("one beyond the greatest", "fresh 65536\nscan 256 0 0 0 0 0 0\nscan 0 65536 0 0 0 0 0\n"
+     "scan 0 0 0 0 0 0 18446744073709551616\nscan 0 65535 0 0 0 0 0\n",
+     "error\n" * 4 + "refused 1\n"),
     ("a write and reads", "write 20 5\nread 20\nread 29\n", "ok\nvalue 5\nvalue 0\n"),
     ("a value below zero", "write 22 -5\nread 22\nwrite 022 -0006\nread 0022", "ok\nvalue -5\nok\nvalue -6\n"),
     ("a fresh start ends what was written", "write 20 5\nfresh 0\nread 20\n", "ok\nok\nvalue 0\n"),
@@ -56,7 +61,7 @@ BY_HAND = (
      f"Restart {IMAGE}\nrestart{IMAGE}\nread 24\n",
      "error\n" * 25 + "value 8192\n"),
     ("a sheet before any scan",
-     "sheet\nsheet-last\nscan 0 10001 0 0 0 0\nsheet-last\nfresh 0\nsheet-last\nsheet-feed auto -7 65533 9\nsheet-last\nsheet-new\n"
+     "sheet\nsheet-last\nscan 0 10001 0 0 0 0 0\nsheet-last\nfresh 0\nsheet-last\nsheet-feed auto -7 65533 9\nsheet-last\nsheet-new\n"
      f"sheet-last\nsheet\nsheet-feed auto -7 65533 9\nsheet\n{FIRST_SCAN}\nsheet-last\nsheet",
      f"{EMPTY}\nerror\nrefused 1\nerror\nok\nerror\nok\nerror\nok\nerror\n{EMPTY}\nok\n"
      "sheet scans=1 hold=0 track=0 forced=0 manual=0 auto=1 remote=0 ratio=0 fallback=0 max=-7@1 min=-7@1 alarms=1 sumpv=-7 sumop=9\n"
@@ -77,7 +82,30 @@ BY_HAND = (
     ("blanks about calls on the sheet", "  sheet-new  \n   sheet-feed   hold  1   3  1 \n sheet-last \n  sheet \n",
      "ok\nok\nerror\nsheet scans=1 hold=1 track=0 forced=0 manual=0 auto=0 remote=0 ratio=0 fallback=0 "
      "max=1@1 min=1@1 alarms=0 sumpv=1 sumop=1\n"),
-    ("the lowest refusal wins", "scan 0 10001 0 0 48 255\nscan 0 0 0 0 16 4\nscan 0 0 0 0 0 4\n", "refused 1\nrefused 2\nrefused 3\n"),
+    ("the lowest refusal wins", "scan 0 10001 0 0 48 255 0\nscan 0 0 0 0 16 4 0\nscan 0 0 0 0 0 4 0\n",
+     "refused 1\nrefused 2\nrefused 3\n"),
+    # Document 02, request 2: "16 when the reading is less than 30 ms after the last accepted one or lies before it,
+    # tested after 3"; "any reading is taken" at first, which no refused scan and no write changes
+    ("1, 2 and 3 go before 16", f"{FIRST_SCAN}\nscan 0 10001 0 0 48 255 35\nscan 0 0 0 0 16 4 36\nscan 0 0 0 0 0 4 65\n"
+     "scan 128 0 0 0 0 0 65\nscan 128 0 0 0 0 0 0\nclock\n",
+     f"{FIRST_ANSWER}\nrefused 1\nrefused 2\nrefused 3\nrefused 16\nrefused 16\nclock 36\n"),
+    ("29 ms, then 30, 42 and 43", f"{FIRST_SCAN}\nscan 128 0 0 0 0 0 65\nscan 128 0 0 0 0 0 66\nscan 128 0 0 0 0 0 108\n"
+     "scan 128 0 0 0 0 0 151\nclock\n", f"{FIRST_ANSWER}\nrefused 16\n" + f"{FIRST_ANSWER}\n" * 3 + "clock 151\n"),
+    ("the clock before any scan", "clock\nscan 0 10001 0 0 0 0 5\nclock\nwrite 20 5\nclock\n",
+     "clock none\nrefused 1\nclock none\nok\nclock none\n"),
+    ("the clock behind starts and restarts", f"{FIRST_SCAN}\nclock\nrestart -\nclock\nrestart {IMAGE}\nclock\n{FIRST_SCAN}\nclock\n"
+     f"fresh 0\nclock\nscan 128 0 0 0 0 0 0\nclock\n",
+     f"{FIRST_ANSWER}\nclock 36\nrefused 12\nclock 36\nok\nclock none\n{FIRST_ANSWER}\nclock 36\nok\nclock none\n"
+     f"{FIRST_ANSWER}\nclock 0\n"),
+    ("the end of 64 bits", "scan 128 0 0 0 0 0 18446744073709551556\nscan 128 0 0 0 0 0 18446744073709551586\n"
+     "scan 128 0 0 0 0 0 18446744073709551615\nscan 128 0 0 0 0 0 0\nscan 128 0 0 0 0 0 20\nclock\n",
+     f"{FIRST_ANSWER}\n{FIRST_ANSWER}\n" + "refused 16\n" * 3 + "clock 18446744073709551586\n"),
+    ("the forms of a reading", "scan 128 0 0 0 0 0 00000000000000000007\nclock\nscan 128 0 0 0 0 0 18446744073709551615\nclock\n",
+     f"{FIRST_ANSWER}\nclock 7\n{FIRST_ANSWER}\nclock 18446744073709551615\n"),
+    ("no readings", "".join(f"scan 128 0 0 0 0 0 {reading}\n" for reading in NO_READINGS) + "clock\n",
+     "error\n" * len(NO_READINGS) + "clock none\n"),
+    ("no calls of the clock", "clock 0\nclock none\nclock -\nClock\nCLOCK\nclocks\ncloc\nclock\t\n clock \n",
+     "error\n" * 8 + "clock none\n"),
 )
 
 
@@ -91,7 +119,7 @@ def overlong():
         for name, line in (("behind", "fresh 0" + missing), ("before", missing + "fresh 0"), ("inside", f"fresh {missing}0")):
             yield f"{length} bytes, blanks {name}", f"{line}\n", f"{expected}\n"
             yield f"{length} bytes, blanks {name}, no newline", line, f"{expected}\n"
-        yield (f"{length} bytes between scans", f"{FIRST_SCAN}\nfresh 0{missing}\n{FIRST_SCAN}\n",
+        yield (f"{length} bytes between scans", f"{FIRST_SCAN}\nfresh 0{missing}\n{SECOND_SCAN}\n",
                f"{FIRST_ANSWER}\n{expected}\n{FIRST_ANSWER}\n")
         yield f"{length} digits and letters", f"{'7' * length}\n{'x' * length}\nfresh 1\n", "error\nerror\nok\n"
     for length in (LONGEST_LINE, LONGEST_LINE + 1):
@@ -103,10 +131,10 @@ def overlong():
 
 def cut_short(answers_of):
     """An input that ends after any byte of its last line; of an image after some bytes only."""
-    for text in ("fresh 1024\nscan 192 4990 20 5000 4 0\nscan 0160  10001 -0 070 66 03", "write 22 -7\nwrite 0022  -2147483649",
+    for text in ("fresh 1024\nscan 192 4990 20 5000 4 0 0\nscan 0160  1001 -0 070 66 03  000036", "write 22 -7\nwrite 0022  -2147483649",
                  "write 22 -7\nread 0022", "write 22 -7\nsave  0000000137 ", f"write 22 -7\nrestart {IMAGE} ",
                  "sheet-feed ratio -7 1 9\nsheet-feed forced  -32768 65535 065535 ", "sheet-feed ratio -7 1 9\nsheet-last  ",
-                 "sheet-feed ratio -7 1 9\nsheet-new ", "sheet-feed ratio -7 1 9\n sheet 0"):
+                 "sheet-feed ratio -7 1 9\nsheet-new ", "sheet-feed ratio -7 1 9\n sheet 0", "scan 128 0 0 0 0 0 9\nclock 9"):
         first = text.index("\n") + 1
         lengths = range(first, len(text) + 1)
         for length in lengths if len(lengths) < 100 else (*lengths[:14], *lengths[14:-6:25], *lengths[-6:]):

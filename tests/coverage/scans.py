@@ -60,7 +60,7 @@ class ScanCoverage(Coverage):
                 self.moved(before[0], after[0])
 
     def scan_given(self, call):
-        _, pins, *samples, buttons, _ = call
+        _, pins, *samples, _, _, _ = call
         for place, sample in enumerate(samples, 1):
             if sample in (0, 10000, 10001, 65535):
                 self.counts[f"sample {place} at {sample}"] += 1
@@ -69,7 +69,7 @@ class ScanCoverage(Coverage):
                 self.counts[f"pin {place} alone at {pins >> place & 1}"] += 1
 
     def refused(self, call, before, number):
-        _, _, *samples, buttons, sensors = call
+        _, _, *samples, buttons, sensors, _ = call
         causes = [cause for cause, present in (("1", max(samples) > 10000), ("2", buttons & 0x30), ("3", sensors & 0xFC)) if present]
         self.counts[f"refused {number}"] += 1
         self.counts["causes of refusal " + " ".join(causes)] += 1

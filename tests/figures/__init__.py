@@ -1,1 +1,1 @@
-"""Figures: cases worked by hand from document 01, and those of the 6360's manual."""
+"""Figures: cases worked by hand from documents 01 and 02, and those of the 6360's manual."""

@@ -1,35 +1,37 @@
 """Compares what was worked by hand, and the manual's own figures, with the model and with a program."""
 
+from tests.figures import clock as clock_figures
 from tests.figures import images as image_figures
 from tests.figures import manual as manual_figures
 from tests.figures import scans as scan_figures
 from tests.figures import sheets as sheet_figures
 from tests.figures import writes as write_figures
+from tests.lists.host_clock import at_usual_steps
 from tests.lists.parameters import writes_of
 from tests.model import loop
 from tests.model.lines import line_of, text_of
 from tests.model.state import Exact, Parameters, Stored
 from tests.model.table import NUMBER
 
-CASES = (*scan_figures.CASES, *write_figures.CASES, *image_figures.CASES)
+CASES = (*scan_figures.CASES, *write_figures.CASES, *image_figures.CASES, *clock_figures.CASES)
 # "requests Manual with output 0, user bits and MD bit 4 zero, no memory fault, and no earlier PV or SP remembered";
 # "pins 80h, no buttons, open count 0, PV = 1L, SP = SL, ER = PV - SP, MP 0, battery good, no alarms"; 1L and SL are 0.
 FRESH = {"SW": 0x1234, "request": "M", "output": 0, "user_bits": 0, "measured_power": False, "memory_fault": False, "previous_PV": None,
          "PV_before_previous": None, "previous_SP": None, "pins": 0x80, "buttons": 0, "open_count": 0, "PV": 0, "SP": 0, "ER": 0, "MP": 0,
-         "battery_low": False, "low_alarm": False, "high_alarm": False}
+         "battery_low": False, "low_alarm": False, "high_alarm": False, "clock": None}
 SCAN_WORDS = ("MD", "DS", "OP", "electrical", "mode", "PV")
 
 
 def calls_of(case):
     """A fresh start, the writes of what is set before, and the case's calls.
 
-    The memory fault, set alone, comes by a restart.
+    The memory fault, set alone, comes by a restart.  Scans that have no reading of their own are 36 ms apart.
     """
     given = dict(case.set_before)
     if given == {"memory_fault": True}:
-        return [("fresh", case.SW), image_figures.FAULT, *case.calls]
+        return [*at_usual_steps([("fresh", case.SW), image_figures.FAULT, *case.calls])]
     request, user_bits, power = given.pop("request", "M"), given.pop("user_bits", 0), given.pop("measured_power", False)
-    return [("fresh", case.SW), *writes_of(Parameters(**given), request, user_bits, power), *case.calls]
+    return [*at_usual_steps([("fresh", case.SW), *writes_of(Parameters(**given), request, user_bits, power), *case.calls])]
 
 
 def outcome(case, arithmetic):
@@ -80,6 +82,8 @@ def lines_of(case):
     for name, value in expected.items():
         if name in NUMBER:
             yield f"read {NUMBER[name]}", f"value {value}"
+    if "clock" in expected:
+        yield "clock", f"clock {'none' if expected['clock'] is None else expected['clock']}"
 
 
 def expected_words(expected):
@@ -95,6 +99,12 @@ def is_answer(answer, expected):
     return expected is None or answer == expected
 
 
+def timed(steps):
+    """The lines of a figure and what is expected of them; scans that have no reading of their own are 36 ms apart."""
+    calls = [("scan", *map(int, line.split()[1:])) if line.startswith("scan ") else (line,) for line, _ in steps]
+    return [(line_of(call), expected) for call, (_, expected) in zip(at_usual_steps(calls), steps, strict=True)]
+
+
 def all_lines():
     """The name, the line and what is expected of it, for each line of each case and figure.
 
@@ -103,7 +113,7 @@ def all_lines():
     for case in CASES:
         yield from ((case.name, *line) for line in lines_of(case))
     for name, steps in (*manual_figures.FIGURES, *sheet_figures.FIGURES):
-        yield from ((name, *line) for line in (("fresh 0", "ok"), *steps))
+        yield from ((name, *line) for line in timed((("fresh 0", "ok"), *steps)))
 
 
 def wrong_in(answers_of):

@@ -29,11 +29,14 @@ def switch_word(generator):
 
 
 def entries(operator, calls):
-    """The calls as lines, some in other forms; some refused scans and lines that are no call among them."""
+    """The calls as lines, some in other forms; some refused scans and lines that are no call among them.
+
+    Scans that have no reading get one here.
+    """
     generator = operator.generator
-    for call in calls:
+    for call in operator.clock.timed(calls):
         if generator.random() < 0.02:
-            yield Entry(line_of(operator.refused_scan()), "call", "scan")
+            yield Entry(line_of(operator.clock.with_reading(operator.refused_scan())), "call", "scan")
         if generator.random() < 0.03:
             kind = generator.choice(line_errors_of(call[0]))
             yield Entry(LINE_ERRORS[kind](generator, call), kind, call[0])

@@ -1,6 +1,6 @@
 """Other forms of the same call's line, and lines that are no call, drawn from a seed."""
 
-from tests.model.lines import ANY, LONGEST_LINE, MODE, MODE_WORDS, RANGES, line_of, text_of
+from tests.model.lines import ANY, LONGEST_LINE, MODE, MODE_WORDS, RANGES, READING, line_of, text_of
 
 
 # Other forms of the same call ----------------------------------------------
@@ -19,9 +19,16 @@ def with_eighteen_digits(generator, call):
     return line_of(tuple(of_digits(part, 18) if isinstance(part, int) else part for part in call))
 
 
+def with_twenty_digits(generator, call):
+    """A scan's milliseconds with leading zeros to nineteen or twenty digits."""
+    return with_number(call, len(call) - 1, of_digits(call[-1], generator.choice((19, 20, 20))))
+
+
 def with_minus_zeros(generator, call):
-    """Every zero, and only a zero, may bear a minus."""
-    return line_of((call[0], *(generator.choice(["-0", "-000", "-" + "0" * 18, "0"]) if number == 0 else number for number in call[1:])))
+    """Every zero, and only a zero, may bear a minus; but that of a scan's milliseconds."""
+    numbers = call[1:-1] if call[0] == "scan" else call[1:]
+    with_minus = (generator.choice(["-0", "-000", "-" + "0" * 18, "0"]) if number == 0 else number for number in numbers)
+    return line_of((call[0], *with_minus, *call[1 + len(numbers):]))
 
 
 def with_more_blanks(generator, call):
@@ -49,8 +56,9 @@ def in_both_cases(generator, call):
     return f"{call[0]} {''.join(generator.choice((digit, digit.lower())) for digit in text_of(call[1]))}"
 
 
-OTHER_FORMS = {"leading zeros": with_leading_zeros, "eighteen digits": with_eighteen_digits, "minus zero": with_minus_zeros,
-               "more blanks": with_more_blanks, "700 bytes": with_700_bytes, "small letters": in_small_letters, "both cases": in_both_cases}
+OTHER_FORMS = {"leading zeros": with_leading_zeros, "eighteen digits": with_eighteen_digits, "twenty digits": with_twenty_digits,
+               "minus zero": with_minus_zeros, "more blanks": with_more_blanks, "700 bytes": with_700_bytes,
+               "small letters": in_small_letters, "both cases": in_both_cases}
 
 
 # Lines that are no call ----------------------------------------------------
@@ -59,7 +67,8 @@ NO_NUMBERS = ("+5", "--5", "-", "5-", "1-2", "12x", "x12", "1.0", "1e3", "0x5", 
 NO_BYTES = ("--", "-0", "-00", "0-", "00-", "+00", "0x00", "00h", "0h", "g0", "0G", "ag", "/0", ":0", "@0", "`0", "0/", "0:", "0@", "0`",
             "0_0", "0,0", "\u00b2\u00b3", "\xff\xff", "0", "123")
 NO_WORDS = ("scam", "sca", "scann", "scan,", "scans", "freshen", "fres", "writ", "writes", "rewrite", "rea", "reads", "ok", "value",
-            "refused", "error", "x", "-", "128", "scan128", "read5", "sav", "saves", "restar", "restarts", "start", "image", "save137")
+            "refused", "error", "x", "-", "128", "scan128", "read5", "sav", "saves", "restar", "restarts", "start", "image", "save137",
+            "cloc", "clocks", "clock36", "clock-", "time", "none")
 NO_SHEET_WORDS = (*NO_WORDS, "shee", "sheets", "sheet-", "sheet-ne", "sheet-news", "sheet_new", "sheetnew", "sheet-las", "sheet-lasts",
                   "sheetlast", "sheet-fee", "sheet-feeds", "sheetfeed", "new", "last", "feed", "full", "sheet-old", "sheet=", "-sheet")
 # In place of a mode: parts and other forms of the words, the names that document 01 has for modes, numbers
@@ -85,8 +94,11 @@ def number_too_many(generator, call):
 
 
 def numbers_in(call):
-    """Place, least and greatest of each number of a call; a restart has none."""
-    return [(place, *ends) for place, ends in enumerate(RANGES.get(call[0], ()), 1) if ends != MODE]
+    """Place, least and greatest of each number of a call; a restart has none.
+
+    A scan's milliseconds have forms of their own, and aren't among them.
+    """
+    return [(place, *ends) for place, ends in enumerate(RANGES.get(call[0], ()), 1) if ends not in (MODE, READING)]
 
 
 def number_beyond_its_type(generator, call):
@@ -115,6 +127,30 @@ def nineteen_digits(generator, call):
 def no_number(generator, call):
     text = generator.choice((*NO_NUMBERS, *MODE_WORDS.values()) if call[0] == "sheet-feed" else NO_NUMBERS)
     return with_number(call, generator.choice(numbers_in(call))[0], text)
+
+
+def reading_signed(generator, call):
+    """A scan's milliseconds with a sign, 0 too."""
+    sign = generator.choice("-+-")
+    return with_number(call, len(call) - 1, sign + generator.choice((str(call[-1]), "0", "36", of_digits(call[-1], 19))))
+
+
+def reading_of_21_digits(generator, call):
+    """More digits than twenty, with a value that 64 bits hold or not."""
+    text = generator.choice((of_digits(call[-1], 21), "0" * 21, of_digits(call[-1], 40), "9" * 21, str((1 << 70) + call[-1]),
+                             "0" * 300 + "36"))
+    return with_number(call, len(call) - 1, text)
+
+
+def reading_beyond_64_bits(generator, call):
+    """Up to twenty digits; among them numbers that come out right if only the low 64 bits are kept."""
+    beyond = (1 << 64, (1 << 64) + 1, (1 << 64) + call[-1], (2 << 64) + call[-1], 10 ** 20 - 1, generator.randint(1 << 64, 10 ** 20 - 1))
+    return with_number(call, len(call) - 1, generator.choice([number for number in beyond if 1 << 64 <= number < 10 ** 20]))
+
+
+def reading_no_number(generator, call):
+    """In place of a scan's milliseconds a text that is no number, or nothing but blanks."""
+    return with_number(call, len(call) - 1, generator.choice((*NO_NUMBERS, "none", "", " ")))
 
 
 def with_mode_text(call, text):
@@ -210,14 +246,17 @@ LINE_ERRORS = {"number missing": number_missing, "number too many": number_too_m
                "unknown word": unknown_word, "word in capitals": word_in_capitals, "no word": no_word, "word twice": word_twice,
                "empty line": empty_line, "blanks only": blanks_only, "other blank": other_blank, "two calls": two_calls,
                "overlong line": overlong_line, "no bytes": no_bytes, "odd digits": odd_digits, "blank in bytes": blank_in_bytes,
-               "no mode": no_mode, "mode in capitals": mode_in_capitals, "mode behind": mode_behind}
-# What is made of bytes, which only a restart has, of a mode, which only an answer to be entered has, and of numbers,
-# which a restart and some calls on the sheet haven't; some lines with a number that is wrong elsewhere are calls all
-# the same.
+               "no mode": no_mode, "mode in capitals": mode_in_capitals, "mode behind": mode_behind,
+               "reading signed": reading_signed, "reading of 21 digits": reading_of_21_digits,
+               "reading beyond 64 bits": reading_beyond_64_bits, "reading no number": reading_no_number}
+# What is made of bytes, which only a restart has, of a mode, which only an answer to be entered has, of milliseconds,
+# which only a scan has, and of numbers, which a restart and some other calls haven't; some lines with a number that is
+# wrong elsewhere are calls all the same.
 OF_BYTES = ("small letters", "both cases", "no bytes", "odd digits", "blank in bytes")
 OF_MODES = ("no mode", "mode in capitals", "mode behind")
+OF_READINGS = ("twenty digits", "reading signed", "reading of 21 digits", "reading beyond 64 bits", "reading no number")
 OF_NUMBERS = ("leading zeros", "eighteen digits", "minus zero", "number beyond its type", "nineteen digits", "no number")
-NOT_OF = {"restart": (*OF_NUMBERS, *OF_MODES), "sheet-feed": OF_BYTES,
+NOT_OF = {"scan": (*OF_BYTES, *OF_MODES), "restart": (*OF_NUMBERS, *OF_MODES), "sheet-feed": OF_BYTES,
           "write": (*OF_BYTES, *OF_MODES, "number below zero"),
           "read": (*OF_BYTES, *OF_MODES, "number below zero", "number beyond its type"),
           **{word: (*OF_BYTES, *OF_MODES, *OF_NUMBERS, "number missing", "number below zero")
@@ -226,7 +265,7 @@ NOT_OF = {"restart": (*OF_NUMBERS, *OF_MODES), "sheet-feed": OF_BYTES,
 
 def applies(kind, word):
     """Whether a call of this word can be put in this form or made into this line error."""
-    return kind not in NOT_OF.get(word, (*OF_BYTES, *OF_MODES))
+    return kind not in NOT_OF.get(word, (*OF_BYTES, *OF_MODES)) and (word == "scan" or kind not in OF_READINGS)
 
 
 def other_forms_of(word):

@@ -1,5 +1,6 @@
 """Draws scans for the lists: the samples, and the pins and buttons that bring or keep a mode."""
 
+from tests.lists.host_clock import HostClock
 from tests.model.formulas import limit
 
 LOWER, RAISE, SP, R, A, M = 0x80, 0x40, 0x08, 0x04, 0x02, 0x01
@@ -32,11 +33,15 @@ def channel(generator):
 
 
 class Operator:
-    """Draws scans: the samples, the pins and buttons that bring or keep a mode, now and then a low battery."""
+    """Draws scans: the samples, the pins and buttons that bring or keep a mode, now and then a low battery.
+
+    They have no reading yet; the clock supplies it when their order stands.
+    """
 
     def __init__(self, generator, number=0):
         self.generator, self.number = generator, number  # the number of the list among those of its kind
         self.channels = [channel(generator) for _ in range(3)]
+        self.clock = HostClock(generator)
 
     def scan(self, pins, buttons, is_open):
         battery_low = 2 if self.generator.random() < 0.05 else 0
@@ -74,11 +79,11 @@ class Operator:
             yield self.scan(self.pins(asked), self.generator.choice(HELD), False)
             yield self.enter("Remote")
 
-    def refused_scan(self):
-        """A scan to be refused, for one cause or several, whatever else it brings."""
+    def refused_scan(self, *causes):
+        """A scan to be refused, for one cause or several, drawn or given, whatever else it brings."""
         generator = self.generator
         _, pins, *samples, buttons, sensors = self.scan(generator.getrandbits(8), generator.getrandbits(8) & 0xCF, generator.getrandbits(1))
-        causes = generator.choice(((1,), (1,), (2,), (2,), (3,), (3,), (1, 2), (1, 3), (2, 3), (1, 2, 3)))
+        causes = causes or generator.choice(((1,), (1,), (2,), (2,), (3,), (3,), (1, 2), (1, 3), (2, 3), (1, 2, 3)))
         if 1 in causes:
             for place in generator.sample(range(3), generator.choice((1, 1, 1, 2, 3))):
                 samples[place] = generator.choice((*TOO_GREAT, generator.randint(10001, 65535)))

@@ -183,4 +183,4 @@ def first_list(generator, number):
     source.controller = loop.fresh(0, Stored)
     begins = [[], [], [("fresh", 0)], [("restart", source.image())]][number % 4]
     calls = [LAST, LOOK, source.refused_scan(), LAST, *begins, LAST, LOOK, source.fed(PV_ENDS, MODES), LAST, LOOK]
-    return "first_sheet", [Entry(line_of(call), "call", call[0]) for call in calls]
+    return "first_sheet", [Entry(line_of(call), "call", call[0]) for call in source.clock.timed(calls)]

@@ -25,9 +25,10 @@ class Writer(Operator):
     controller = None
 
     def following(self, calls):
-        """The calls, each made in the model before the next is drawn."""
-        for call in calls:
+        """The calls, with the clock's readings, each made in the model before the next is drawn."""
+        for call in self.clock.timed(calls):
             self.controller, _ = loop.make(self.controller, call, Stored)
+            self.clock.last = self.controller.clock
             yield call
 
     def reads(self, *names):

@@ -1,9 +1,10 @@
-"""The claim over every list of calls (document 01, "The exact controller", demand 3), checked after every call, and
-what each call may change.
+"""The claim over every list of calls (document 01, "The exact controller", demand 3, and what document 02 adds to it),
+checked after every call, and what each call may change.
 
 It is written apart from the rules: the conditions of the modes, the causes, the accepted automatic scans and the
-outright settings are written out here again from the paper's words, and are read from the exact controller.  Nothing of
-the rules is called, and of the model only the names of the state items are used.
+outright settings are written out here again from the paper's words, and are read from the exact controller.  So is the
+clock of document 02, request 2: the reading that is remembered, and what a gap forgets, are told from the calls and
+their answers.  Nothing of the rules is called, and of the model only the names of the state items are used.
 """
 
 from functools import lru_cache
@@ -19,12 +20,13 @@ MD, OP = 24, 28
 # Where an image has its values, counted from its first byte: parameters 1 to 23 and OP two bytes each, request, fault
 # and 44h one, the sumcheck two
 TWO_BYTES, OP_AT, ONE_BYTE, FAULT_AT, SUMCHECK_AT = range(3, 120, 5), 118, (123, 127, 131), 127, 135
-# "A fresh start and an accepted restart leave"; and no earlier PV or SP is remembered
+# "A fresh start and an accepted restart leave"; and no earlier PV or SP is remembered, nor a reading
 AFTER_START = {"pins": 0x80, "buttons": 0, "open_count": 0, "MP": 0, "battery_low": False, "low_alarm": False, "high_alarm": False,
-               "previous_PV": None, "PV_before_previous": None, "previous_SP": None}
+               "previous_PV": None, "PV_before_previous": None, "previous_SP": None, "clock": None}
 # What no write may touch: "of these only scans and restarts change any", the switch word and what scans remember
 UNTOUCHED = ("SW", "open_count", "pins", "buttons", "PV", "SP", "ER", "MP", "battery_low", "low_alarm", "high_alarm",
-             "previous_PV", "PV_before_previous", "previous_SP")
+             "previous_PV", "PV_before_previous", "previous_SP", "clock")
+ASKING, TIMED = ("read", "save", "clock"), ("scan", "clock")  # calls that change nothing, and those that the clock is about
 
 
 # Compared: "all items but the output equal, open counts above 85 taken as 85"
@@ -81,12 +83,16 @@ def is_minimum(exact_before, exact, mode):
 class Claim:
     """Follows one pair of controllers; n is the number of accepted automatic scans since the output was last set
     outright.
+
+    The reading is that of the last accepted scan since the last start or accepted restart, or None.  Remembered is how
+    many of the last scans are: none behind a start, an open scan, which isn't, or before the first behind a gap.
     """
 
     def __init__(self):
         self.automatic_scans = 0
         self.restart_brought_fault = False  # whether the last accepted restart brought the memory fault
         self.cleared_since = False          # an accepted write of MD with bit 8 zero came after that restart
+        self.reading, self.remembered = None, 0
 
     def broken(self, call, before, after, answers, mode_of):
         """The parts of the claim that this call has broken.
@@ -95,25 +101,26 @@ class Claim:
         second; mode_of tells the mode that a controller of ours is in.
         """
         stored, exact = after
-        is_to_leave = call[0] in ("read", "save") or answers[0][0] == "refused"
+        is_to_leave = call[0] in ASKING or answers[0][0] == "refused"
+        untimely = [*self.broken_timing(call, answers[0])] if call[0] in TIMED else []
         if is_to_leave and stored is before[0] and exact is before[1]:  # all that was found of them still holds
-            return [*broken_answers(call, after, None, answers)]
+            return [*untimely, *broken_answers(call, after, None, answers)]
         mode, indicated = first_mode_present(exact), mode_of(stored)
         self.follow(call, before[1], exact, answers[1], mode)
-        return [*self.broken_states(after), *broken_leaving(call, before, after, answers),
+        return [*untimely, *self.broken_states(after), *broken_leaving(call, before, after, answers),
                 *broken_answers(call, after, mode, answers),
                 *self.broken_output(stored, exact, mode),
                 *([] if indicated == mode else [f"the mode is {indicated}, the first condition present is that of {mode}"])]
 
     def follow(self, call, exact_before, exact, exact_answer, mode):
         """The outright settings, "Track, minimum, start fresh and accepted restart", the accepted automatic scans:
-        automatic mode, not open; and the fault.
+        automatic mode, not open; the fault; the reading, and what is remembered.
         """
-        if call[0] == "fresh":
-            self.automatic_scans, self.restart_brought_fault, self.cleared_since = 0, False, False
-        elif call[0] == "restart" and exact_answer == ("ok",):
-            self.automatic_scans, self.restart_brought_fault, self.cleared_since = 0, brings_fault(call[1]), False
+        if call[0] == "fresh" or call[0] == "restart" and exact_answer == ("ok",):
+            self.restart_brought_fault = call[0] == "restart" and brings_fault(call[1])
+            self.automatic_scans, self.cleared_since, self.reading, self.remembered = 0, False, None, 0
         elif exact_answer[0] == "scan":
+            self.follow_clock(call[-1], exact.open_count > 0)
             if mode == "Track" or is_minimum(exact_before, exact, mode):
                 self.automatic_scans = 0
             elif mode in AUTOMATIC_MODES and exact.open_count == 0:
@@ -121,9 +128,27 @@ class Claim:
         elif call[0] == "write" and exact_answer == ("ok",) and call[1] == MD and bit(call[2], 8) == 0:
             self.cleared_since = True
 
+    def follow_clock(self, milliseconds, is_open):
+        """"After more than 42 ms the scan is taken, but earlier PV and SP are forgotten first"."""
+        is_gap = self.reading is not None and milliseconds - self.reading > 42
+        self.reading, self.remembered = milliseconds, 0 if is_open else min((0 if is_gap else self.remembered) + 1, 2)
+
+    def broken_timing(self, call, answer):
+        """"16 when the reading is less than 30 ms after the last accepted one or lies before it", and only then.
+
+        What is shown of the clock is that last one.
+        """
+        if call == ("clock",):
+            if answer != ("clock", "none" if self.reading is None else self.reading):
+                yield f"the clock is shown as {answer}, the last accepted reading is {self.reading}"
+        elif call[0] == "scan":
+            is_early = self.reading is not None and call[-1] < self.reading + 30
+            if is_early and answer[0] == "scan" or not is_early and answer == ("refused", 16):
+                yield f"a scan at {call[-1]} is answered {answer}, the last accepted reading is {self.reading}"
+
     def broken_states(self, after):
         """Compared: "all items but the output equal, open counts above 85 taken as 85"; and when "the memory fault
-        stands".
+        stands", which reading the controller has, and whether PVs and an SP are remembered.
         """
         stored, exact = after
         if compared(stored) != compared(exact):
@@ -133,6 +158,11 @@ class Claim:
             yield f"the open count is {stored.open_count}, the exact controller's {exact.open_count}"
         if stored.memory_fault != (self.restart_brought_fault and not self.cleared_since):
             yield f"the memory fault is {stored.memory_fault}"
+        if stored.clock != self.reading:
+            yield f"the clock is {stored.clock}, the last accepted reading is {self.reading}"
+        is_known = stored.previous_PV is not None, stored.PV_before_previous is not None
+        if sum(is_known) != self.remembered or is_known == (False, True) or (stored.previous_SP is not None) != is_known[0]:
+            yield f"whether PV and the PV before are remembered: {is_known}, by {self.remembered} scans; SP is {stored.previous_SP}"
 
     def broken_output(self, stored, exact, mode):
         """Compared: "outputs within the bound", 3/2 x n x 1/65,536 units.
@@ -153,10 +183,11 @@ class Claim:
 def broken_leaving(call, before, after, answers):
     """What a call may not change, and what a start must set.
 
-    A refused call, a read and a save leave the controller; a write leaves all that only scans and restarts change.
+    A refused call, a read, a save and a look at the clock leave the controller; a write leaves all that only scans and
+    restarts change.
     """
-    if (answers[0][0] == "refused" or call[0] in ("read", "save")) and after != before:
-        yield f"a refused call, a read or a save has changed a controller: {call}"
+    if (answers[0][0] == "refused" or call[0] in ASKING) and after != before:
+        yield f"a refused call, or one that only asks, has changed a controller: {call}"
     if call[0] in ("fresh", "restart") and answers[0] == ("ok",):
         yield from broken_start(before[0].SW if call[0] == "restart" else call[1], after)
     if call[0] == "write":

@@ -1,16 +1,17 @@
 """The lines that the console reads, and those it answers: the form that was decided for them.
 
-A number is an optional minus and one to eighteen digits.  Bytes are two hexadecimal digits each, of either case; a
-minus alone stands for none.  A mode is one of eight words in small letters.  One or more blanks, spaces only, stand
-between words and may stand before and behind.  A line has up to 700 bytes without its newline.  A line that isn't a
-call is answered error and changes nothing.  Texts here have one character for each byte of the line.
+A number is an optional minus and one to eighteen digits; the milliseconds of a scan are one to twenty digits without a
+sign.  Bytes are two hexadecimal digits each, of either case; a minus alone stands for none.  A mode is one of eight
+words in small letters.  One or more blanks, spaces only, stand between words and may stand before and behind.  A line
+has up to 700 bytes without its newline.  A line that isn't a call is answered error and changes nothing.  Texts here
+have one character for each byte of the line.
 """
 
 import re
 from functools import lru_cache
 
 LONGEST_LINE = 700
-NUMBER = re.compile("-?[0-9]{1,18}")
+NUMBER, MILLISECONDS = re.compile("-?[0-9]{1,18}"), re.compile("[0-9]{1,20}")
 BYTES = re.compile("-|(?:[0-9A-Fa-f]{2})+")
 # The modes by the words that stand for them in lines, and the other way round
 MODE_WORDS = {"Hold": "hold", "Track": "track", "Forced Manual": "forced", "Manual": "manual", "Auto": "auto", "Remote": "remote",
@@ -18,12 +19,12 @@ MODE_WORDS = {"Hold": "hold", "Track": "track", "Forced Manual": "forced", "Manu
 MODE_OF_WORD = {word: mode for mode, word in MODE_WORDS.items()}
 # The least and the greatest of each number: SW, samples, DS and OP have 16 bits, pins, buttons and sensors 8, a value
 # to be written 32 and a sign, a PV to be entered in a sheet 16 and a sign; a parameter number may be any; a save's
-# buffer has up to 300 bytes.  A restart has bytes in place of numbers, and an answer to be entered begins with a mode.
-# Further kinds of call are to be added here.
+# buffer has up to 300 bytes; milliseconds have 64 bits, and no sign even at 0.  A restart has bytes in place of
+# numbers, and an answer to be entered begins with a mode.  Further kinds of call are to be added here.
 BYTE, WORD, SIGNED_WORD, VALUE = (0, 255), (0, 65535), (-1 << 15, (1 << 15) - 1), (-1 << 31, (1 << 31) - 1)
-ANY, BUFFER, MODE = (1 - 10 ** 18, 10 ** 18 - 1), (0, 300), "mode"
-RANGES = {"fresh": (WORD,), "scan": (BYTE, WORD, WORD, WORD, BYTE, BYTE), "write": (ANY, VALUE), "read": (ANY,), "save": (BUFFER,),
-          "sheet-new": (), "sheet-last": (), "sheet-feed": (MODE, SIGNED_WORD, WORD, WORD), "sheet": ()}
+ANY, BUFFER, MODE, READING = (1 - 10 ** 18, 10 ** 18 - 1), (0, 300), "mode", (0, (1 << 64) - 1)
+RANGES = {"fresh": (WORD,), "scan": (BYTE, WORD, WORD, WORD, BYTE, BYTE, READING), "write": (ANY, VALUE), "read": (ANY,),
+          "save": (BUFFER,), "clock": (), "sheet-new": (), "sheet-last": (), "sheet-feed": (MODE, SIGNED_WORD, WORD, WORD), "sheet": ()}
 MOST_BYTES = 300  # of an image in the lists; what the console makes of more isn't decided
 
 
@@ -58,10 +59,10 @@ def part_of(text, kind):
     """The number or the mode that a text is, or None."""
     if kind == MODE:
         return MODE_OF_WORD.get(text)
-    if not NUMBER.fullmatch(text):
+    if not (MILLISECONDS if kind == READING else NUMBER).fullmatch(text):
         return None
-    least, greatest = kind
-    return int(text) if least <= int(text) <= greatest else None
+    (least, greatest), number = kind, int(text)
+    return number if least <= number <= greatest else None
 
 
 def bytes_of(text):

@@ -1,6 +1,6 @@
-"""The controller of document 01: its calls and its scan, one text of the rules for both arithmetics.
+"""The controller of documents 01 and 02: its calls and its scan, one text of the rules for both arithmetics.
 
-Made from document 01 and never from the code, so that a comparison of the two is a comparison with the paper.
+Made from these documents and never from the code, so that a comparison of the two is a comparison with the papers.
 """
 
 from functools import lru_cache
@@ -17,6 +17,8 @@ from tests.model.writes import read, write
 # The same numbers come again and again: what was computed once is kept, to save time.
 scale = lru_cache(maxsize=1 << 17)(formulas.scale)
 OTHER_CALLS = {"write": write, "read": read, "save": save, "restart": restart}
+# Document 02, request 2: "From 30 to 42 ms is an ordinary scan"
+SHORTEST, LONGEST = 30, 42
 
 
 # The calls -----------------------------------------------------------------
@@ -27,10 +29,14 @@ def fresh(SW, arithmetic):
 
 
 def scan(controller, given, arithmetic):
-    """One scan: the next controller and the answer, with the steps in the paper's order."""
-    number = refusal_of_scan(given)
+    """One scan: the next controller and the answer, with the steps in the paper's order.
+
+    Document 02, request 2: "the controller remembers the last accepted one" of the readings.
+    """
+    number = refusal_of_scan(controller, given)
     if number is not None:
         return controller, ("refused", number)
+    controller = before_the_terms(controller, given)
     is_open = bool(given.sensors & OPEN_SENSOR)
     now = controller._replace(
         pins=given.pins, buttons=given.buttons, battery_low=bool(given.sensors & BATTERY_SENSOR),
@@ -41,7 +47,7 @@ def scan(controller, given, arithmetic):
     mode = mode_of(now)
     now = with_setpoint(now, moved_parameters(now, mode, is_open), mode, given)
     output = next_output(controller, now, mode, given.sample_3, is_open, arithmetic)
-    now = now._replace(output=output, **remembered(controller, now, is_open))
+    now = now._replace(output=output, clock=given.milliseconds, **remembered(controller, now, is_open))
     return now, ("scan", *scan_words(now, arithmetic))
 
 
@@ -52,13 +58,16 @@ def make(controller, call, arithmetic):
         return fresh(*given, arithmetic), ("ok",)
     if word == "scan":
         return scan(controller, Input(*given), arithmetic)
+    if word == "clock":  # what the console shows of the remembered reading
+        return controller, ("clock", "none" if controller.clock is None else controller.clock)
     return OTHER_CALLS[word](controller, *given, arithmetic)
 
 
-def refusal_of_scan(given):
+def refusal_of_scan(controller, given):
     """The refusal's number, or None: "the lowest number wins".
 
-    "Plant: 1 a sample above 10000; 2 button bits 5 or 4 set; 3 sensor bits above 1 set"
+    "Plant: 1 a sample above 10000; 2 button bits 5 or 4 set; 3 sensor bits above 1 set"; and document 02, request 2:
+    "16 when the reading is less than 30 ms after the last accepted one or lies before it, tested after 3".
     """
     if max(given.sample_1, given.sample_2, given.sample_3) > 10000:
         return 1
@@ -66,10 +75,22 @@ def refusal_of_scan(given):
         return 2
     if given.sensors & 0xFC:
         return 3
+    if controller.clock is not None and given.milliseconds - controller.clock < SHORTEST:
+        return 16
     return None
 
 
 # One scan ------------------------------------------------------------------
+
+NOTHING_EARLIER = {"previous_PV": None, "PV_before_previous": None, "previous_SP": None}
+
+
+def before_the_terms(controller, given):
+    """Document 02, request 2: "After more than 42 ms the scan is taken, but earlier PV and SP are forgotten first"."""
+    if controller.clock is not None and given.milliseconds - controller.clock > LONGEST:
+        return controller._replace(**NOTHING_EARLIER)
+    return controller
+
 
 def process_value(parameters, sample, is_open):
     """Step 1: channel 1 scaled, rooted first with IC 1; "An open channel 1 reads PV = 1L"."""
@@ -178,5 +199,5 @@ def terms(before, now, mode):
 def remembered(before, now, is_open):
     """Step 7: "An open scan forgets earlier PV and SP and isn't remembered; others are"."""
     if is_open:
-        return {"previous_PV": None, "PV_before_previous": None, "previous_SP": None}
+        return NOTHING_EARLIER
     return {"previous_PV": now.PV, "PV_before_previous": before.previous_PV, "previous_SP": now.SP}

@@ -1,6 +1,6 @@
-"""The controller of document 01: its two arithmetics, its parameters and its other state items.
+"""The controller of documents 01 and 02: its two arithmetics, its parameters and its other state items.
 
-Made from document 01 and never from the code, so that a comparison of the two is a comparison with the paper.
+Made from these documents and never from the code, so that a comparison of the two is a comparison with the papers.
 
 The arithmetic given with a call decides what the output is.  Stored: a whole number of 1/65,536 units, to which rounded
 terms are added. Exact: a fraction, in units, to which the limited terms are added unrounded.  Everything else is the
@@ -71,7 +71,11 @@ Parameters = namedtuple("Parameters", [row.name for row in ROWS], defaults=[row.
 
 
 class Controller(NamedTuple):
-    """The state: "State items are all that lasts between calls", in the paper's order."""
+    """The state: "State items are all that lasts between calls", in the paper's order.
+
+    Document 02, request 2: "the remembered reading, like all that later requests keep in the controller, is a state
+    item of both".
+    """
     SW: int
     parameters: Parameters
     request: str            # "M", "A" or "R"
@@ -92,19 +96,22 @@ class Controller(NamedTuple):
     previous_PV: object     # None once forgotten
     PV_before_previous: object
     previous_SP: object
+    clock: object           # the last accepted scan's milliseconds, None while there is none
 
 
 def started(SW, parameters, request, memory_fault, user_bits, measured_power, output):
     """"A fresh start and an accepted restart leave pins 80h, no buttons, open count 0, PV = 1L, SP = SL, ER = PV - SP,
     MP 0, battery good, no alarms".
 
-    Of the one "no earlier PV or SP remembered", of the other "All earlier PV and SP are forgotten".
+    Of the one "no earlier PV or SP remembered", of the other "All earlier PV and SP are forgotten".  Neither leaves a
+    reading; document 02, request 2: "Until a scan is accepted after a fresh start or a restart, any reading is taken".
     """
     PV, SP = parameters.channel_1L, parameters.SL
     return Controller(SW=SW, parameters=parameters, request=request, memory_fault=memory_fault, user_bits=user_bits,
                       measured_power=measured_power,
                       open_count=0, output=output, pins=0x80, buttons=0, PV=PV, SP=SP, ER=PV - SP, MP=0,
-                      battery_low=False, low_alarm=False, high_alarm=False, previous_PV=None, PV_before_previous=None, previous_SP=None)
+                      battery_low=False, low_alarm=False, high_alarm=False, previous_PV=None, PV_before_previous=None, previous_SP=None,
+                      clock=None)
 
 
 class Input(NamedTuple):
@@ -114,3 +121,4 @@ class Input(NamedTuple):
     sample_3: int
     buttons: int
     sensors: int
+    milliseconds: int       # "Every scan now carries the host's milliseconds, 64 bits"

@@ -1,4 +1,4 @@
-"""A program outside the library has no controller and no sheet but those that their calls give.
+"""A program outside the library has no controller and no sheet but those that their calls give, and a clock of 64 bits.
 
 Usage: python3 -B -m tests.outsider.outsider
 
@@ -18,14 +18,25 @@ import tempfile
 from tests import ROOT
 from tests.gate import tally
 
-# A controller and a sheet are made; whatever else the program is given, it can put nothing of it into them.
+# A controller and a sheet are made; whatever else the program is given, it can put nothing of it into them. The two
+# functions on milliseconds are accepted only if a scan and the controller have them in just 64 bits.
 PROGRAM = """use controller::Controller;
 use controller::Core;
 use parameters::Parameters;
 use sheet::Sheet;
 use sheet::SheetValues;
+use signals::Input;
+use signals::clock::ClockReading;
 
-pub fn forged(mut core: Core, mut parameters: Parameters, output: i64, values: SheetValues) -> Controller {
+pub fn milliseconds_of(input: Input) -> u64 {
+    input.milliseconds
+}
+
+pub fn reading_at(milliseconds: u64) -> ClockReading {
+    ClockReading::At(milliseconds)
+}
+
+pub fn forged(mut core: Core, mut parameters: Parameters, output: i64, values: SheetValues, reading: ClockReading) -> Controller {
     let mut controller = Controller::fresh(0);
     let mut sheet = Sheet::empty();
     LINE
@@ -39,6 +50,7 @@ LINES = (
     ("controller = Controller { core, output };", "private-field"),
     ("let Controller { core, output } = controller;", "private-field"),
     ("core.parameters = parameters;", "private-field"),
+    ("core.clock = reading;", "private-field"),
     ("parameters.values[1] = output;", "private-field"),
     ("parameters = Parameters { values: [output; 24] };", "private-field"),
     ("sheet.values = values;", "private-field"),
@@ -61,7 +73,7 @@ def repository(folder):
             (folder / part / path.name).symlink_to(path)
     shutil.copytree(ROOT / "target" / "stamp", folder / "target" / "stamp")
     listed = (ROOT / "crates.txt").read_text(encoding="utf-8")
-    (folder / "crates.txt").write_text(f"{listed}outsider: parameters controller sheet\n", encoding="utf-8")
+    (folder / "crates.txt").write_text(f"{listed}outsider: signals parameters controller sheet\n", encoding="utf-8")
     (folder / "crates" / "outsider" / "src").mkdir(parents=True)
 
 

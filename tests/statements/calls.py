@@ -2,10 +2,10 @@
 
 Usage: python3 -B -m tests.statements.calls [--write]
 
-The rules and the claims about them were written by the same people; a misreading of document 01 that stands in both is
-contradicted by a model made apart.  The calls were chosen among drawn ones so that as many wrong changes of the model's
-rules as possible change one of them.  crates/worked/specs/ModelCalls.antt states of each that the rules give the
-model's whole next state, answer and bytes.  Without --write the test fails if that file isn't what the model gives.
+The rules and the claims about them were written by the same people; a misreading of the documents that stands in both
+is contradicted by a model made apart.  The calls were chosen among drawn ones so that as many wrong changes of the
+model's rules as possible change one of them.  crates/worked/specs/ModelCalls.antt states of each that the rules give
+the model's whole next state, answer and bytes.  Without --write the test fails if that file isn't what the model gives.
 The last line printed is 'N passed, M failed', one count for each statement.
 """
 
@@ -16,6 +16,7 @@ import sys
 from tests import ROOT
 from tests.gate import tally
 from tests.lists import parameters as parameter_lists
+from tests.lists.host_clock import MOST, HostClock
 from tests.lists.image_source import WIDE, ImageSource, values_in, with_values
 from tests.model import loop
 from tests.model.state import OPEN_CAUSE, Stored
@@ -33,13 +34,19 @@ KEPT = {
         508: "Ratio, first open scan: PV is 1L; RS lowered by 12; RB; output kept; earlier PV and SP forgotten",
         700: "Manual, open: Raise without SP moves the output 12 units; S2.6 ON, SL stays",
         1233: "the memory fault: Forced Manual, request Manual; Raise and Lower together; S2.6 ON, SL limited to LS",
-        2370: "85th open scan in Fall-back, S2.5 ON: Forced Manual, the output goes to LO",
+        2370: "85th open scan in Fall-back, behind a gap, S2.5 ON: Forced Manual, the output goes to LO",
         2660: "Remote: SP is channel 2 by 1L, 1H, and trim; SL becomes SP; derivative in seconds; high alarm by ER",
         2688: "Auto, S1.1 OFF: c1 has the present SP; SP is SL and trim; A pressed",
-        4953: "Hold: output kept beyond HO; A pressed; SP with Lower moves SL by 1",
+        4953: "Hold, behind a gap: only this scan is remembered; output kept beyond HO; A pressed; SP with Lower moves SL by 1",
         6564: "Fall-back, S2.4 ON: integral in seconds; no trim with S2.1 ON; low alarm by ER",
         9969: "Ratio, S2.3 OFF: 100 q / s + RB below LS, SP limited to it; SP held alone; low alarm by ER",
         16105: "Ratio, IC 1: root of sample 1; RS limited to LR; the output limited to HO",
+    },
+    "clock": {
+        0: "43 ms, Auto, S1.1 ON: earlier PV and SP are forgotten first, so only the integral counts; this scan is remembered",
+        1: "the same at 42 ms: three terms, two scans remembered",
+        2: "the same at 29 ms: 16",
+        3: "30 ms before the end of 64 bits, then 6: it lies before, 16",
     },
     "write": {
         55: "HR limits RS anew, in Hold",
@@ -65,6 +72,9 @@ KEPT = {
     "save": {0: "in Hold under the memory fault; bytes past the 137 stay"},
 }
 
+GAPS = {2370: 5_000_000, 4953: 43}  # scans of which another interval is stated than the one drawn
+IN_AUTO = 11597  # a scan in which forgetting PV alone, SP alone or the PV before alone each gives another output
+
 
 # The calls drawn, as the state before and the call ------------------------------------
 
@@ -73,17 +83,29 @@ def scans():
 
     Refused scans aren't among them.
     """
-    generator = random.Random(SEED)
+    generator, clock, number = random.Random(SEED), HostClock(random.Random(SEED)), itertools.count()
     for calls in parameter_lists.all_calls(generator):
         controller = None  # each list begins with a fresh start
-        for call in calls:
+        for call in clock.timed(calls):
             if call[0] == "scan" and controller.parameters.IC and call[2] <= 10000:
                 call = (*call[:2], 9900 + call[2] % 100, *call[3:])  # the definition counts a root down from 10000
             after, answer = loop.make(controller, call, Stored)
             if call[0] == "scan":
                 befores = (controller, controller._replace(memory_fault=True)) if generator.random() < 0.01 else (controller,)
-                yield from ((before, call) for before in befores if answer[0] == "scan")
+                yield from (with_gap(before, call, GAPS.get(next(number))) for before in befores if answer[0] == "scan")
             controller = after
+
+
+def with_gap(before, call, milliseconds):
+    """The scan, so many milliseconds after the one before it, if another interval is given."""
+    return before, (*call[:-1], before.clock + milliseconds) if milliseconds else call
+
+
+def clock_scans():
+    """One scan in Auto at the edges of what is ordinary, and at the end of 64 bits."""
+    before, call = next(itertools.islice(scans(), IN_AUTO, None))
+    yield from (with_gap(before, call, milliseconds) for milliseconds in (43, 42, 29))
+    yield before._replace(clock=MOST - 29), (*call[:-1], 6)
 
 
 def drawn_state(generator):
@@ -98,7 +120,8 @@ def drawn_state(generator):
         measured_power=generator.random() < 0.5, open_count=opens, pins=generator.choice((0x00, 0x20, 0x80, 0xA0, 0xA5, 0xC0, 0xE0)),
         buttons=generator.getrandbits(8) & 0xCF, output=generator.randint(0, 9999 * 65536), PV=pv, SP=sp, ER=pv - sp,
         MP=generator.randint(-9999, 9999), battery_low=generator.random() < 0.5, low_alarm=generator.random() < 0.5,
-        high_alarm=generator.random() < 0.5, previous_PV=pv, previous_SP=sp, PV_before_previous=generator.choice((None, sp)))
+        high_alarm=generator.random() < 0.5, previous_PV=pv, previous_SP=sp, PV_before_previous=generator.choice((None, sp)),
+        clock=36 * (10_000 + pv))
 
 
 def drawn_writes():
@@ -156,7 +179,7 @@ def saves():
 
 def statements():
     """Each statement that is kept, with what it shows."""
-    drawn = {"scan": scans, "write": drawn_writes, "write under the fault": writes_under_the_fault, "read": reads,
+    drawn = {"scan": scans, "clock": clock_scans, "write": drawn_writes, "write under the fault": writes_under_the_fault, "read": reads,
              "restart": restarts, "save": saves}
     for kind, kept in KEPT.items():
         for number, call in enumerate(itertools.islice(drawn[kind](), max(kept) + 1)):

@@ -17,6 +17,8 @@ use lib.IntN.{ℤ, pos, negℤ}
 use lib.ListN.{replicate}
 use Rattle.signals.specs.Refusals.{refusedBy}
 use Rattle.signals.specs.declared.Input.{Input}
+use Rattle.signals.specs.declared.clock.ClockReading.{ClockReading}
+use Rattle.signals.specs.declared.clock.ClockReading.the-variants.{None, At}
 use Rattle.fields.specs.Fields.{saveTests, savedIn}
 use Rattle.modes.specs.declared.Mode.the-variants.{Hold, Track, Forced, Manual, Auto, Remote, Ratio, Fallback}
 use Rattle.modes.specs.declared.Request.{Request}
@@ -36,9 +38,10 @@ abbrev pub readings : ℤ → ℤ → ℤ → ℤ → Readings
 readings pv sp er mp = record { pv = pv; sp = sp; er = er; mp = mp }
 
 -- SW, parameters, request, memory fault, user bits 1 and 2, MD bit 4, open count, pins, readings, buttons, battery low,
--- low alarm, high alarm, history, output
-abbrev pub state : ℕ → List ℤ → Request → Bool → Bool → Bool → Bool → ℕ → ℕ → Readings → ℕ → Bool → Bool → Bool → History → ℤ → Controller
-state sw numbers requested fault user1 user2 power opencount pins latest buttons battery low high history output =
+-- low alarm, high alarm, history, clock, output
+abbrev pub state :
+    ℕ → List ℤ → Request → Bool → Bool → Bool → Bool → ℕ → ℕ → Readings → ℕ → Bool → Bool → Bool → History → ClockReading → ℤ → Controller
+state sw numbers requested fault user1 user2 power opencount pins latest buttons battery low high history clock output =
     record {
       core = record {
         sw = sw;
@@ -48,13 +51,22 @@ state sw numbers requested fault user1 user2 power opencount pins latest buttons
         readings = latest;
         indications = record { buttons = buttons; batterylow = battery; lowalarm = low; highalarm = high };
         history = history;
+        clock = clock;
       };
       output = output;
     }
 
-abbrev pub input : ℕ → ℕ → ℕ → ℕ → ℕ → ℕ → Input
-input pins sample1 sample2 sample3 buttons sensors =
-    record { pins = pins; sample1 = sample1; sample2 = sample2; sample3 = sample3; buttons = buttons; sensors = sensors }
+abbrev pub input : ℕ → ℕ → ℕ → ℕ → ℕ → ℕ → ℕ → Input
+input pins sample1 sample2 sample3 buttons sensors milliseconds =
+    record {
+      pins = pins;
+      sample1 = sample1;
+      sample2 = sample2;
+      sample3 = sample3;
+      buttons = buttons;
+      sensors = sensors;
+      milliseconds = milliseconds;
+    }
 
 -- a scan, a write, a restart of the state before it leaves the state after it, and this answer
 abbrev pub Scans : Controller → Input → Controller → Reply → Type 0
@@ -97,6 +109,10 @@ def history_text(controller):
     return " ".join(["One" if known[2] is None else "Two", *(argument(value) for value in known if value is not None)])
 
 
+def clock_text(controller):
+    return "None" if controller.clock is None else f"(At {controller.clock})"
+
+
 def state_text(controller):
     request = {"M": "request.Manual", "A": "request.Auto", "R": "request.Remote"}[controller.request]
     flags = flags_text(controller.memory_fault, controller.user_bits & 1, controller.user_bits & 2, controller.measured_power)
@@ -104,7 +120,7 @@ def state_text(controller):
     alarms = flags_text(controller.battery_low, controller.low_alarm, controller.high_alarm)
     return (f"(state {controller.SW} {list_text(map(number_text, controller.parameters))} {request} {flags} {controller.open_count} "
             f"{controller.pins} (readings {readings}) {controller.buttons} {alarms} ({history_text(controller)}) "
-            f"{argument(controller.output)})")
+            f"{clock_text(controller)} {argument(controller.output)})")
 
 
 def answer_text(answer):

@@ -27,7 +27,7 @@ use Rattle.console.specs.Calls.{isFilled, stepOf, unchangedWith, perform
 use Rattle.console.specs.declared.call.Reply.the-variants.{Image, Refused, Error}
 use Rattle.console.specs.declared.call.Step.{Step}
 use Rattle.console.specs.declared.request.Call.{Call}
-use Rattle.console.specs.declared.request.Call.the-variants.{Fresh, Scan, Write, Read, Restart, Save}
+use Rattle.console.specs.declared.request.Call.the-variants.{Fresh, Scan, Write, Read, Restart, Save, Clock}
 
 -- every call leaves a controller that the next call may take
 pub valid-performed : (c : Controller) (call : Call) (bytes : List ℕ) → Valid c → Valid (performed c call bytes .controller)
@@ -40,6 +40,7 @@ valid-performed c (Restart count) bytes v =
     by-cases (λ (s : Step). Valid (s .controller)) (leb count (length bytes)) (stepOf (restart c (take count bytes)))
     (unchangedWith c Error) (λ e. valid-restart c (take count bytes) v) (λ e. v)
 valid-performed c (Save count) bytes v = v
+valid-performed c Clock bytes v = v
 
 -- ---- filled buffers
 

@@ -21,10 +21,11 @@ use Rattle.controller.specs.State.{freshController}
 use Rattle.controller.specs.Write.{write}
 use Rattle.controller.specs.declared.Controller.{Controller}
 use Rattle.console.specs.declared.call.Reply.{Reply}
+use Rattle.console.specs.declared.call.Reply.the-variants as reply
 use Rattle.console.specs.declared.call.Reply.the-variants.{Accepted, Value, Answer, Image, Refused, Error}
 use Rattle.console.specs.declared.call.Step.{Step}
 use Rattle.console.specs.declared.request.Call.{Call}
-use Rattle.console.specs.declared.request.Call.the-variants.{Fresh, Scan, Write, Read, Restart, Save}
+use Rattle.console.specs.declared.request.Call.the-variants.{Fresh, Scan, Write, Read, Restart, Save, Clock}
 
 -- the console's reply for each answer of the controller
 abbrev pub replyTo : answers.Reply → Reply
@@ -82,6 +83,7 @@ performed c (Write n v) bytes = stepOf (write c n v)
 performed c (Read n) bytes = unchangedWith c (replyTo (read c n))
 performed c (Restart count) bytes = if leb count (length bytes) then stepOf (restart c (take count bytes)) else unchangedWith c Error
 performed c (Save count) bytes = unchangedWith c (replyToSave count bytes)
+performed c Clock bytes = unchangedWith c (reply.Clock (c .core .clock))
 
 -- the buffer afterwards: only a save changes it
 unfoldable pub bufferAfter : Controller → Call → List ℕ → List ℕ
@@ -91,3 +93,4 @@ bufferAfter c (Scan input) bytes = bytes
 bufferAfter c (Write n v) bytes = bytes
 bufferAfter c (Read n) bytes = bytes
 bufferAfter c (Restart count) bytes = bytes
+bufferAfter c Clock bytes = bytes

@@ -1,25 +1,28 @@
 -- The command that a line asks for, and the bytes of a restart in the buffer.
 use mathlib.Core.Bool.{_&&_}
 use mathlib.Core.List.{List}
-use mathlib.Core.Option.{Option, none}
+use mathlib.Core.Option.{Option}
 use Prim.Native.Nat.{ℕ}
-use lib.Dec.{leb, ltb}
+use lib.Dec.{leb}
 use lib.IntN.{ℤ, pos, negℤ, natAbs}
 use lib.ListN.{length, take}
 use lib.Signed.{leZ}
 use Rattle.integers.specs.Choice.{if_then_else_}
 use Rattle.integers.specs.Sign.{isNegative}
-use Rattle.text.specs.Arguments.{part, argument, argumentsFrom, isCall, naturalIn}
+use Rattle.text.specs.Arguments.{part, argument, argumentsFrom, hasCount, isCall, naturalIn}
 use Rattle.text.specs.Hexadecimal.{bytesOf, countIn, bytesIn}
-use Rattle.text.specs.Words.{wordAt, sameBytes}
+use Rattle.text.specs.Numbers.{naturalOf}
+use Rattle.text.specs.Words.{wordAt, onlyWord, afterWords, sameBytes}
 use Rattle.text.specs.declared.arguments.Arguments.{Arguments}
 use Rattle.text.specs.declared.hexadecimal.Count.{Count}
 use Rattle.text.specs.declared.hexadecimal.Count.the-variants.{Bytes, Malformed}
+use Rattle.text.specs.declared.natural.ParsedNatural.{ParsedNatural}
+use Rattle.text.specs.declared.natural.ParsedNatural.the-variants as reading
 use Rattle.formatting.specs.Ascii.{ascii}
 use Rattle.sheet_lines.specs.Answers.{answerFrom}
 use Rattle.sheet_lines.specs.declared.answer.ParsedAnswer.{ParsedAnswer}
 use Rattle.sheet_lines.specs.declared.answer.ParsedAnswer.the-variants as parsed
-use Rattle.console.specs.declared.request.Call.the-variants.{Fresh, Scan, Write, Read, Restart, Save}
+use Rattle.console.specs.declared.request.Call.the-variants.{Fresh, Scan, Write, Read, Restart, Save, Clock}
 use Rattle.console.specs.declared.request.Command.{Command}
 use Rattle.console.specs.declared.request.Command.the-variants as command
 use Rattle.console.specs.declared.sheet_call.SheetCall.the-variants as sheetcall
@@ -55,24 +58,6 @@ freshCommand values =
     let sw = naturalIn (argument values 0) 0 65535 in
     if sw .ok then command.Call (Fresh (sw .value)) else command.Invalid
 
--- scan PINS S1 S2 S3 BUTTONS SENSORS
-unfoldable pub scanCommand : List ℤ → Command
-scanCommand values =
-    let pins = naturalIn (argument values 0) 0 255 in
-    let sample1 = naturalIn (argument values 1) 0 65535 in
-    let sample2 = naturalIn (argument values 2) 0 65535 in
-    let sample3 = naturalIn (argument values 3) 0 65535 in
-    let buttons = naturalIn (argument values 4) 0 255 in
-    let sensors = naturalIn (argument values 5) 0 255 in
-    if pins .ok && sample1 .ok && sample2 .ok && sample3 .ok && buttons .ok && sensors .ok then command.Call (Scan (record {
-      pins = pins .value;
-      sample1 = sample1 .value;
-      sample2 = sample2 .value;
-      sample3 = sample3 .value;
-      buttons = buttons .value;
-      sensors = sensors .value;
-    })) else command.Invalid
-
 -- write NUMBER VALUE: a value that 32 bits don't hold is no call
 unfoldable pub writeCommand : List ℤ → Command
 writeCommand values =
@@ -89,20 +74,50 @@ saveCommand values =
 -- a command whose arguments are numbers
 unfoldable pub numbersCommand : List ℕ → Arguments → Command
 numbersCommand word a =
-    if isCall word (ascii "scan") a 6 then scanCommand (a .values) else
     if isCall word (ascii "write") a 2 then writeCommand (a .values) else
     if isCall word (ascii "read") a 1 then command.Call (Read (parameterNumber (argument (a .values) 0))) else
     if isCall word (ascii "fresh") a 1 then freshCommand (a .values) else
-    if isCall word (ascii "save") a 1 then saveCommand (a .values) else sheetCommand word a
+    if isCall word (ascii "save") a 1 then saveCommand (a .values) else
+    if isCall word (ascii "clock") a 0 then command.Call Clock else sheetCommand word a
+
+-- ---- a scan
+
+-- six numbers, each within its range, and a reading of the clock
+unfoldable pub scanOf : List ℤ → ℕ → Command
+scanOf values milliseconds =
+    let pins = naturalIn (argument values 0) 0 255 in
+    let sample1 = naturalIn (argument values 1) 0 65535 in
+    let sample2 = naturalIn (argument values 2) 0 65535 in
+    let sample3 = naturalIn (argument values 3) 0 65535 in
+    let buttons = naturalIn (argument values 4) 0 255 in
+    let sensors = naturalIn (argument values 5) 0 255 in
+    if pins .ok && sample1 .ok && sample2 .ok && sample3 .ok && buttons .ok && sensors .ok then command.Call (Scan (record {
+      pins = pins .value;
+      sample1 = sample1 .value;
+      sample2 = sample2 .value;
+      sample3 = sample3 .value;
+      buttons = buttons .value;
+      sensors = sensors .value;
+      milliseconds = milliseconds;
+    })) else command.Invalid
+
+-- with a malformed reading, or another count of numbers, it is no scan
+unfoldable pub scanWith : Arguments → ParsedNatural → Command
+scanWith a (reading.Natural milliseconds) = if hasCount a 6 then scanOf (a .values) milliseconds else command.Invalid
+scanWith a reading.Malformed = command.Invalid
+
+-- scan PINS S1 S2 S3 BUTTONS SENSORS MS: six words that are numbers, and one behind them that is a number of 64 bits
+unfoldable pub scanCommand : List ℕ → ℕ → Command
+scanCommand line start =
+    let sixth = afterWords 6 line start in
+    let last = onlyWord line sixth in
+    scanWith (argumentsFrom (take sixth line) start) (naturalOf (part line (last .from) (last .to)))
 
 -- ---- a restart
 
 -- restart HEX: the bytes of the one word behind a place
 unfoldable pub restartImage : List ℕ → ℕ → Option (List ℕ)
-restartImage line start =
-    let word = wordAt line start in
-    let behind = wordAt line (word .to) in
-    if ltb (behind .from) (behind .to) then none else bytesOf (part line (word .from) (word .to))
+restartImage line start = let word = onlyWord line start in bytesOf (part line (word .from) (word .to))
 
 -- with that many bytes; a malformed word asks nothing
 abbrev pub restartOf : Count → Command
@@ -117,6 +132,7 @@ commandOf call size =
     let w = wordAt call 0 in
     let word = part call (w .from) (w .to) in
     if sameBytes word (ascii "restart") then restartOf (countIn (restartImage call (w .to)) size) else
+    if sameBytes word (ascii "scan") then scanCommand call (w .to) else
     if sameBytes word (ascii "sheet-feed") then feedCommand call (w .to) else
     numbersCommand word (argumentsFrom call (w .to))
 

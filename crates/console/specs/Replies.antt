@@ -4,6 +4,8 @@ use mathlib.Core.List.{List, _++_}
 use Prim.Native.Nat.{ℕ}
 use lib.IntN.{ℤ, pos}
 use lib.ListN.{take}
+use Rattle.signals.specs.declared.clock.ClockReading.{ClockReading}
+use Rattle.signals.specs.declared.clock.ClockReading.the-variants.{None, At}
 use Rattle.modes.specs.declared.Mode.the-variants.{Auto}
 use Rattle.answers.specs.declared.ScanValues.{ScanValues}
 use Rattle.sheet.specs.declared.Sheet.{Sheet}
@@ -12,7 +14,7 @@ use Rattle.formatting.specs.Ascii.{ascii}
 use Rattle.sheet_lines.specs.ModeWords.{modeWord}
 use Rattle.sheet_lines.specs.SheetText.{sheetText}
 use Rattle.console.specs.declared.call.Reply.{Reply}
-use Rattle.console.specs.declared.call.Reply.the-variants.{Accepted, Value, Answer, Image, WholeSheet, Full, Refused, Error}
+use Rattle.console.specs.declared.call.Reply.the-variants.{Accepted, Value, Answer, Clock, Image, WholeSheet, Full, Refused, Error}
 
 -- a blank and a number
 unfoldable pub spaced : ℕ → List ℕ
@@ -30,6 +32,11 @@ answerText v = wordsText v ++ ascii " " ++ modeWord (v .mode) ++ ascii " " ++ de
 unfoldable pub valueText : ℤ → List ℕ
 valueText v = ascii "value " ++ decimal v
 
+-- a reading of the clock, if there is one
+unfoldable pub clockText : ClockReading → List ℕ
+clockText None = ascii "clock none"
+clockText (At milliseconds) = ascii "clock" ++ spaced milliseconds
+
 -- an image: the first 137 bytes of the buffer that was saved into
 unfoldable pub imageText : List ℕ → List ℕ
 imageText saved = ascii "image " ++ hexadecimal (take 137 saved)
@@ -42,6 +49,7 @@ unfoldable pub replyText : Reply → List ℕ → Sheet → List ℕ
 replyText Accepted saved sheet = ascii "ok"
 replyText (Value v) saved sheet = valueText v
 replyText (Answer v) saved sheet = answerText v
+replyText (Clock reading) saved sheet = clockText reading
 replyText Image saved sheet = imageText saved
 replyText WholeSheet saved sheet = sheetText (sheet .values)
 replyText Full saved sheet = ascii "full"

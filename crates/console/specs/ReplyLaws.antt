@@ -10,6 +10,8 @@ use lib.IntN.{ℤ, pos, negsuc, natAbs}
 use lib.Signed.{mag}
 use lib.ListN.{length, take, length-append, length-take}
 use Rattle.integers.specs.Choice.{by-cases}
+use Rattle.signals.specs.declared.clock.ClockReading.{ClockReading}
+use Rattle.signals.specs.declared.clock.ClockReading.the-variants.{None, At}
 use Rattle.answers.specs.declared.ScanValues.{ScanValues}
 use Rattle.sheet.specs.declared.Sheet.{Sheet}
 use Rattle.text.specs.Digits.{digits-few, decimal-few, hexadecimal-length}
@@ -17,9 +19,9 @@ use Rattle.formatting.specs.Buffer.{buffer, appendAll}
 use Rattle.formatting.specs.Laws.{replaced, append-room}
 use Rattle.sheet_lines.specs.ModeLaws.{word-length}
 use Rattle.sheet_lines.specs.SheetText.{sheetText}
-use Rattle.console.specs.Replies.{spaced, wordsText, answerText, valueText, imageText, refusedText, replyText, replyLine}
+use Rattle.console.specs.Replies.{spaced, wordsText, answerText, valueText, clockText, imageText, refusedText, replyText, replyLine}
 use Rattle.console.specs.declared.call.Reply.{Reply}
-use Rattle.console.specs.declared.call.Reply.the-variants.{Accepted, Value, Answer, Image, WholeSheet, Full, Refused, Error}
+use Rattle.console.specs.declared.call.Reply.the-variants.{Accepted, Value, Answer, Clock, Image, WholeSheet, Full, Refused, Error}
 
 spaced-length : (n : ℕ) → n < 65536 → length (spaced n) ≤ 6
 unfolding spaced
@@ -39,10 +41,16 @@ pub record AnswerRange (v : ScanValues) : Type 0 where
   pub words : WordsRange v
   pub pv : natAbs (v .pv) ≤ 2147483648
 
+-- a reading that its type holds
+abbrev pub ReadingRange : ClockReading → Type 0
+ReadingRange None = Unit {0}
+ReadingRange (At milliseconds) = milliseconds < 18446744073709551616
+
 -- the numbers of a reply; of a sheet it is known how long its text is
 abbrev pub InRange : Reply → Sheet → Type 0
 InRange (Answer v) sheet = AnswerRange v
 InRange (Value v) sheet = natAbs v ≤ 2147483648
+InRange (Clock reading) sheet = ReadingRange reading
 InRange (Refused n) sheet = n < 256
 InRange WholeSheet sheet = length (sheetText (sheet .values)) ≤ 308
 InRange Accepted sheet = Unit {0}
@@ -59,6 +67,12 @@ words-length v h =
     let d = spaced-length (v .electrical) (h .electrical) in
     simp length-append (omega arith)
 
+clock-length : (reading : ClockReading) → ReadingRange reading → length (clockText reading) ≤ 26
+unfolding clockText spaced
+clock-length None h = omega arith
+clock-length (At milliseconds) h =
+    let d = digits-few milliseconds 20 (omega arith) (omega arith) in simp length-append (omega arith)
+
 text-length : (reply : Reply) (saved : List ℕ) (sheet : Sheet) → InRange reply sheet → length (replyText reply saved sheet) ≤ 308
 unfolding replyText answerText valueText imageText refusedText
 text-length (Answer v) saved sheet h =
@@ -67,6 +81,7 @@ text-length (Answer v) saved sheet h =
     let p = decimal-few (v .pv) 10 (omega arith) (omega arith) in
     simp length-append (omega arith)
 text-length (Value v) saved sheet h = let d = decimal-few v 10 (omega arith) (omega arith) in simp length-append (omega arith)
+text-length (Clock reading) saved sheet h = let d = clock-length reading h in omega arith
 text-length (Refused n) saved sheet h = let d = spaced-length n (omega arith) in simp length-append (omega arith)
 text-length WholeSheet saved sheet h = h
 text-length Accepted saved sheet h = omega arith

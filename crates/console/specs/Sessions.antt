@@ -12,7 +12,7 @@ use Rattle.controller.specs.State.{freshController}
 use Rattle.controller.specs.Valid as controller
 use Rattle.console.specs.Calls.{performed, bufferAfter}
 use Rattle.console.specs.declared.call.Reply.{Reply}
-use Rattle.console.specs.declared.call.Reply.the-variants.{Accepted, Value, Answer, Image, WholeSheet, Full, Refused, Error}
+use Rattle.console.specs.declared.call.Reply.the-variants.{Accepted, Value, Answer, Clock, Image, WholeSheet, Full, Refused, Error}
 use Rattle.console.specs.declared.call.Step.{Step}
 use Rattle.console.specs.declared.request.Command.{Command}
 use Rattle.console.specs.declared.request.Command.the-variants as command
@@ -43,6 +43,7 @@ abbrev pub lastAfter : LastAnswer → Reply → LastAnswer
 lastAfter last (Answer v) = lastanswer.Answer v
 lastAfter last Accepted = last
 lastAfter last (Value v) = last
+lastAfter last (Clock reading) = last
 lastAfter last Image = last
 lastAfter last WholeSheet = last
 lastAfter last Full = last

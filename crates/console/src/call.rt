@@ -13,12 +13,15 @@ use controller::Controller;
 use controller::ReadAnswer;
 use signals::Input;
 use signals::Verdict;
+use signals::clock::ClockReading;
 
 pub enum Reply {
     Accepted,
     Value(i32),
     // of an accepted scan
     Answer(ScanValues),
+    // the last accepted reading of the clock
+    Clock(ClockReading),
     // the image that was saved in the buffer beside
     Image,
     // the sheet beside
@@ -122,5 +125,9 @@ pub fn perform(controller: Controller, call: Call, buffer: &mut [u8]) -> Step
             let reply = crate::image::save(controller, count, buffer);
             Step { controller, reply }
         }
+        Call::Clock => Step {
+            controller,
+            reply: Reply::Clock(controller.last_reading()),
+        },
     }
 }

@@ -1,11 +1,12 @@
 // Reads commands on standard input, one to a line, and answers each with one line, until the end of the input. The
 // calls of the controller:
 //     fresh SW                               ok
-//     scan PINS S1 S2 S3 BUTTONS SENSORS     scan MD DS OP ELECTRICAL MODE PV, or refused N
+//     scan PINS S1 S2 S3 BUTTONS SENSORS MS  scan MD DS OP ELECTRICAL MODE PV, or refused N
 //     write NUMBER VALUE                     ok, or refused N
 //     read NUMBER                            value V, or refused N
 //     restart HEX, or - for no bytes         ok, or refused N
 //     save LENGTH                            image HEX, or refused N
+//     clock                                  clock MS, the last accepted reading, or clock none
 // and those of the drying sheet:
 //     sheet-new                              ok
 //     sheet-last                             ok, or full: enters the answer of the last accepted scan

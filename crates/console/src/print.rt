@@ -1,12 +1,13 @@
 // The line that answers a command, appended to the output.
 ghost use mathlib.Core.Path.{_≡_};
 ghost use Rattle.formatting.specs.Buffer.{buffer, appendAll};
-ghost use Rattle.console.specs.ReplyLaws.{WordsRange, AnswerRange, InRange};
-ghost use Rattle.console.specs.Replies.{spaced, wordsText, answerText, refusedText, valueText, imageText};
+ghost use Rattle.console.specs.ReplyLaws.{WordsRange, AnswerRange, ReadingRange, InRange};
+ghost use Rattle.console.specs.Replies.{spaced, wordsText, answerText, refusedText, valueText, clockText, imageText};
 ghost use Rattle.console.specs.Replies.{replyText, replyLine};
 use crate::call::Reply;
 use answers::ScanValues;
 use sheet::Sheet;
+use signals::clock::ClockReading;
 
 // A blank and a number.
 fn append_spaced(out: &mut [u8], used: usize, number: u64) -> usize
@@ -55,6 +56,20 @@ fn append_value(out: &mut [u8], used: usize, v: i32) -> usize
     formatting::append_signed(out, name, integers::wide(v))
 }
 
+// A reading of the clock. The contract rules out a number where there is no reading.
+fn append_clock(out: &mut [u8], used: usize, reading: ClockReading) -> usize
+    ensures { λ r. ⌜ (buffer (now (out .exit)) r ≡ appendAll (buffer (now (out .entry)) used) (clockText reading))
+        × ReadingRange reading ⌝ }
+{
+    match reading {
+        ClockReading::None => formatting::append_bytes(out, used, b"clock none"),
+        ClockReading::At(milliseconds) => {
+            let name = formatting::append_bytes(out, used, b"clock");
+            append_spaced(out, name, milliseconds)
+        }
+    }
+}
+
 // The image that was saved: the first 137 bytes, or all where there are fewer. The contract rules out one byte more.
 fn append_image(out: &mut [u8], used: usize, saved: &[u8]) -> usize
     ensures { λ r. ⌜ buffer (now (out .exit)) r ≡ appendAll (buffer (now (out .entry)) used) (imageText (now (saved .entry))) ⌝ }
@@ -76,6 +91,7 @@ fn append_text(out: &mut [u8], used: usize, reply: Reply, saved: &[u8], sheet: S
         Reply::Accepted => formatting::append_bytes(out, used, b"ok"),
         Reply::Value(v) => append_value(out, used, v),
         Reply::Answer(values) => append_answer(out, used, values),
+        Reply::Clock(reading) => append_clock(out, used, reading),
         Reply::Image => append_image(out, used, saved),
         Reply::WholeSheet => sheet_lines::print::append_sheet(out, used, sheet),
         Reply::Full => formatting::append_bytes(out, used, b"full"),

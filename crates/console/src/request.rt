@@ -3,12 +3,14 @@ ghost use mathlib.Core.Path.{_≡_};
 ghost use Prim.Native.Nat.{_≤_};
 ghost use lib.ListN.{length};
 ghost use Rattle.text.specs.Hexadecimal.{countIn, bytesIn};
-ghost use Rattle.console.specs.Commands.{parameterNumber, freshCommand, scanCommand, writeCommand, saveCommand};
-ghost use Rattle.console.specs.Commands.{numbersCommand, restartImage, restartOf, commandIn, bytesAfter};
+ghost use Rattle.console.specs.Commands.{parameterNumber, freshCommand, writeCommand, saveCommand};
+ghost use Rattle.console.specs.Commands.{scanOf, scanWith, scanCommand, numbersCommand};
+ghost use Rattle.console.specs.Commands.{restartImage, restartOf, commandIn, bytesAfter};
 use crate::sheet_call::SheetCall;
 use signals::Input;
 use text::arguments::Arguments;
 use text::hexadecimal::Count;
+use text::natural::ParsedNatural;
 
 // A call of the controller.
 pub enum Call {
@@ -21,6 +23,7 @@ pub enum Call {
     Restart(usize),
     // into so many bytes
     Save(usize),
+    Clock,
 }
 
 pub enum Command {
@@ -41,9 +44,9 @@ fn fresh(values: [i64; 6]) -> Command
     Command::Invalid
 }
 
-// scan PINS S1 S2 S3 BUTTONS SENSORS
-fn scan(values: [i64; 6]) -> Command
-    ensures { λ r. ⌜ r ≡ scanCommand values ⌝ }
+// The scan of six numbers and a reading of the clock.
+fn scan_of(values: [i64; 6], milliseconds: u64) -> Command
+    ensures { λ r. ⌜ r ≡ scanOf values milliseconds ⌝ }
 {
     let pins = text::arguments::natural_in(values[0], 0, 255);
     let sample1 = text::arguments::natural_in(values[1], 0, 65535);
@@ -59,9 +62,41 @@ fn scan(values: [i64; 6]) -> Command
             sample3: sample3.value as u16,
             buttons: buttons.value as u8,
             sensors: sensors.value as u8,
+            milliseconds,
         }));
     }
     Command::Invalid
+}
+
+// The contract rules out a scan with another count of numbers, and one without a reading.
+fn scan_with(a: Arguments, reading: ParsedNatural) -> Command
+    ensures { λ r. ⌜ r ≡ scanWith a reading ⌝ }
+{
+    match reading {
+        ParsedNatural::Natural(milliseconds) => {
+            let values = a.values;
+            if text::arguments::has(a, 6) {
+                scan_of(values, milliseconds)
+            } else {
+                Command::Invalid
+            }
+        }
+        ParsedNatural::Malformed => Command::Invalid,
+    }
+}
+
+// scan PINS S1 S2 S3 BUTTONS SENSORS MS. The reading has up to 64 bits, more than the numbers of other calls, so it is
+// read apart from the six in front of it. The contract rules out a reading of another word, and a word behind it.
+fn scan(line: &[u8], start: usize) -> Command
+    requires { ⌜ start ≤ length (now line) ⌝ }
+    ensures { λ r. ⌜ r ≡ scanCommand (now (line .entry)) start ⌝ }
+{
+    let sixth = text::after_words(line, start, 6);
+    let numbers = text::arguments::parse(&line[0..sixth], start);
+    let w = text::only_word(line, sixth);
+    let from = w.from;
+    let to = w.to;
+    scan_with(numbers, text::natural::parse(&line[from..to]))
 }
 
 // The number of a parameter, as a line has it: one below zero is no parameter's, and 0 stands for it.
@@ -100,9 +135,6 @@ fn of_numbers(word: &[u8], a: Arguments) -> Command
     ensures { λ r. ⌜ r ≡ numbersCommand (now (word .entry)) a ⌝ }
 {
     let values = a.values;
-    if text::arguments::is_call(word, b"scan", a, 6) {
-        return scan(values);
-    }
     if text::arguments::is_call(word, b"write", a, 2) {
         return write(values);
     }
@@ -115,6 +147,9 @@ fn of_numbers(word: &[u8], a: Arguments) -> Command
     if text::arguments::is_call(word, b"save", a, 1) {
         return save(values);
     }
+    if text::arguments::is_call(word, b"clock", a, 0) {
+        return Command::Call(Call::Clock);
+    }
     crate::sheet_call::of_word(word, a)
 }
 
@@ -125,13 +160,9 @@ fn restart(line: &[u8], start: usize, bytes: &mut [u8]) -> Command
     ensures { λ r. ⌜ (r ≡ restartOf (countIn (restartImage (now (line .entry)) start) (length (now (bytes .entry)))))
         × (now (bytes .exit) ≡ bytesIn (restartImage (now (line .entry)) start) (now (bytes .entry))) ⌝ }
 {
-    let w = text::word(line, start);
+    let w = text::only_word(line, start);
     let from = w.from;
     let to = w.to;
-    let behind = text::word(line, to);
-    if behind.from < behind.to {
-        return Command::Invalid;
-    }
     let count = text::hexadecimal::parse(&line[from..to], bytes);
     match count {
         Count::Bytes(n) => Command::Call(Call::Restart(n)),
@@ -155,6 +186,9 @@ pub fn parse(line: &[u8], len: usize, bytes: &mut [u8]) -> Command
     let to = w.to;
     if text::same(&call[from..to], b"restart") {
         return restart(call, to, bytes);
+    }
+    if text::same(&call[from..to], b"scan") {
+        return scan(call, to);
     }
     if text::same(&call[from..to], b"sheet-feed") {
         return crate::sheet_call::feed(call, to);

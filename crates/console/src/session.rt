@@ -47,6 +47,7 @@ fn last_after(last: LastAnswer, reply: Reply) -> LastAnswer
         Reply::Answer(values) => LastAnswer::Answer(values),
         Reply::Accepted => last,
         Reply::Value(_) => last,
+        Reply::Clock(_) => last,
         Reply::Image => last,
         Reply::WholeSheet => last,
         Reply::Full => last,

@@ -1,11 +1,13 @@
--- Document 01, One scan, whole: the next state but for the output, the answer but for OP and electrical
--- output, and an instruction for the output. These stand once, for our controller and for the exact one.
+-- Document 01, One scan, whole, with document 02's clock: the next state but for the output, the answer but for OP and
+-- electrical output, and an instruction for the output. These stand once, for our controller and for the exact one.
 use mathlib.Core.Option.{Option, some, none}
 use Prim.Native.Nat.{ℕ}
 use lib.IntN.{ℤ}
+use Rattle.signals.specs.Clock.{isAfterGap}
 use Rattle.signals.specs.Refusals.{refusedBy, scanTests}
 use Rattle.signals.specs.Signals.{switchesOf, isOpen, batteryLow}
 use Rattle.signals.specs.declared.Input.{Input}
+use Rattle.signals.specs.declared.clock.ClockReading.the-variants.{At}
 use Rattle.modes.specs.Modes.{counted, conditionsAfter, modeOf, goesToMinimum}
 use Rattle.modes.specs.declared.Conditions.{Conditions}
 use Rattle.modes.specs.declared.Mode.{Mode}
@@ -14,10 +16,11 @@ use Rattle.words.specs.declared.Indications.{Indications}
 use Rattle.setpoints.specs.Computation.{computed, lowAlarm, highAlarm}
 use Rattle.setpoints.specs.declared.Readings.{Readings}
 use Rattle.setpoints.specs.declared.Computed.{Computed}
-use Rattle.outputs.specs.History.{historyAfter}
+use Rattle.outputs.specs.History.{historyBefore, historyAfter}
 use Rattle.outputs.specs.Instruction.{keep, unlimited, Instruction, storedArithmetic, executed}
 use Rattle.outputs.specs.Outputs.{instructionOf}
 use Rattle.outputs.specs.declared.Context.{Context}
+use Rattle.outputs.specs.declared.History.{History}
 use Rattle.controller.specs.Answers.{Reply, words, acceptance, number, Response, opOf, electricalOf}
 use Rattle.controller.specs.declared.Controller.{Controller}
 use Rattle.controller.specs.declared.Core.{Core}
@@ -25,6 +28,11 @@ use Rattle.controller.specs.declared.Core.{Core}
 -- "Mode and cause always follow the present state."
 unfoldable pub modeNow : Core → Mode
 modeNow c = modeOf (c .conditions) (switchesOf (c .sw) .ratio)
+
+-- ---- document 02, request 2: "After more than 42 ms the scan is taken, but earlier PV and SP are forgotten first.":
+-- what is remembered when this scan's steps begin
+unfoldable pub earlierScans : Core → Input → History
+earlierScans c i = historyBefore (c .history) (isAfterGap (c .clock) (i .milliseconds))
 
 -- ---- step 3: the mode of this scan, by what it leaves of the conditions; and of step 6 whether it
 -- goes to minimum, by those before it
@@ -52,9 +60,10 @@ indicationsAfter c x r =
       highalarm = highAlarm (c .parameters) r;
     }
 
--- ---- step 7, and all that the scan leaves but the output
-unfoldable pub coreAfter : Core → Conditions → Context → Computed → Core
-coreAfter c after x r =
+-- ---- step 7, and all that the scan leaves but the output. Document 02, request 2: "the controller remembers the last
+-- accepted one", the reading of this scan
+unfoldable pub coreAfter : Core → History → Conditions → Context → Computed → Core
+coreAfter c earlier after x r =
     record {
       sw = c .sw;
       parameters = r .parameters;
@@ -62,7 +71,8 @@ coreAfter c after x r =
       userbits = c .userbits;
       readings = r .readings;
       indications = indicationsAfter c x (r .readings);
-      history = historyAfter (c .history) (isOpen (x .input)) (r .readings);
+      history = historyAfter earlier (isOpen (x .input)) (r .readings);
+      clock = At (x .input .milliseconds);
     }
 
 -- ---- the whole
@@ -91,11 +101,12 @@ pub record Outcome : Type 0 where
 -- an accepted scan. `more` counts one more open scan
 unfoldable pub accepted : (ℕ → ℕ) → Core → Input → Outcome
 accepted more c i =
+    let earlier = earlierScans c i in
     let after = conditionsAfter more (c .conditions) i in
     let x = contextOf c after i in
     let r = computedIn c x in
-    let next = coreAfter c after x r in
-    record { next = next; answer = statusOf next; instruction = instructionOf (c .parameters) x (r .readings) (c .history) }
+    let next = coreAfter c earlier after x r in
+    record { next = next; answer = statusOf next; instruction = instructionOf (c .parameters) x (r .readings) earlier }
 
 -- "Answer: the number alone. Controller and buffers stay."
 unfoldable pub refused : Core → ℕ → Outcome
@@ -108,7 +119,7 @@ refusedOr (some n) c o = refused c n
 
 -- a scan, refused or accepted
 unfoldable pub scanCore : (ℕ → ℕ) → Core → Input → Outcome
-scanCore more c i = refusedOr (refusedBy (scanTests i)) c (accepted more c i)
+scanCore more c i = refusedOr (refusedBy (scanTests (c .clock) i)) c (accepted more c i)
 
 -- ---- our controller's: the instruction executed in whole 1/65,536 units, OP and electrical output of
 -- the stored output

@@ -2,6 +2,7 @@
 use mathlib.Core.Bool.{Bool, false}
 use Prim.Native.Nat.{ℕ}
 use lib.IntN.{pos, _-ℤ_}
+use Rattle.signals.specs.declared.clock.ClockReading.the-variants.{None}
 use Rattle.modes.specs.declared.Conditions.{Conditions}
 use Rattle.modes.specs.declared.Request.{Request}
 use Rattle.modes.specs.declared.Request.the-variants.{Manual}
@@ -27,7 +28,8 @@ abbrev pub startIndications : Indications
 startIndications = record { buttons = 0; batterylow = false; lowalarm = false; highalarm = false }
 
 -- a core of these settings, and of what such a start leaves. "no earlier PV or SP remembered"; "All
--- earlier PV and SP are forgotten."
+-- earlier PV and SP are forgotten."; document 02, request 2: "Until a scan is accepted after a fresh start or a
+-- restart, any reading is taken."
 abbrev pub startCore : ℕ → Parameters → Request → Bool → UserBits → Core
 startCore sw parameters request fault userbits =
     record {
@@ -38,6 +40,7 @@ startCore sw parameters request fault userbits =
       readings = startReadings parameters;
       indications = startIndications;
       history = Nothing;
+      clock = None;
     }
 
 -- ---- "start fresh (any 16-bit switch word SW)"

@@ -17,6 +17,7 @@ use Rattle.integers.specs.Parts.{integers}
 use Rattle.signals.specs.Refusals.{refusedBy, scanTests}
 use Rattle.signals.specs.Signals.{isOpen}
 use Rattle.signals.specs.declared.Input.{Input}
+use Rattle.signals.specs.declared.clock.ClockReading.{ClockReading}
 use Rattle.modes.specs.Modes.{counted, conditionsAfter}
 use Rattle.parameters.specs.Legal.{Legal}
 use Rattle.parameters.specs.LegalLaws.{defaults-legal}
@@ -27,9 +28,9 @@ use Rattle.setpoints.specs.ComputationLaws.{InReadingRange, SampleRange, comput
 use Rattle.setpoints.specs.ComputationLaws.{setpoint-reading, low-reading, power-reading, limited-setpoint}
 use Rattle.terms.specs.Fraction.{storedUnits}
 use Rattle.outputs.specs.Instruction.{executed, changed, limitedTo}
-use Rattle.outputs.specs.OutputLaws.{ReadingsRange, history-kept, output-stored}
+use Rattle.outputs.specs.OutputLaws.{ReadingsRange, earlier-kept, history-kept, output-stored}
 use Rattle.outputs.specs.declared.Context.{Context}
-use Rattle.controller.specs.Scan.{controllerAfter, contextOf, computedIn, coreAfter, Outcome}
+use Rattle.controller.specs.Scan.{controllerAfter, earlierScans, contextOf, computedIn, coreAfter, Outcome}
 use Rattle.controller.specs.Scan.{accepted, refused, refusedOr, scanCore, responseFrom, stepped, scan}
 use Rattle.controller.specs.State.{startReadings, freshParameters, freshCore, freshController}
 use Rattle.controller.specs.Valid.{Valid, Readable}
@@ -60,10 +61,10 @@ neither : (a b : Bool) → a || b ≡ false → (a ≡ false) × (b ≡ false)
 neither true b e = (e, let z : _≡_ {A = Bool} true false = e in cc)
 neither false b e = (refl, e)
 
-pub sampled : (i : Input) → refusedBy (scanTests i) ≡ none → SampleRange i
+pub sampled : (last : ClockReading) (i : Input) → refusedBy (scanTests last i) ≡ none → SampleRange i
 unfolding scanTests
-sampled i e =
-    let p = passed (scanTests i) e .0 in
+sampled last i e =
+    let p = passed (scanTests last i) e .0 in
     let a = neither (ltb 10000 (i .sample1) || ltb 10000 (i .sample2)) (ltb 10000 (i .sample3)) p in
     let b = neither (ltb 10000 (i .sample1)) (ltb 10000 (i .sample2)) (a .0) in
     record {
@@ -113,19 +114,20 @@ valid-fresh sw =
     }
 
 pub stepped-valid : (c : Controller) (i : Input) → Valid c → SampleRange i → Valid (stepped c i)
-unfolding stepped controllerAfter accepted coreAfter contextOf computedIn computed conditionsAfter
+unfolding stepped controllerAfter accepted earlierScans coreAfter contextOf computedIn computed conditionsAfter
 stepped-valid c i v s =
     let after = conditionsAfter counted (c .core .conditions) i in
     let x = contextOf (c .core) after i in
     let readings = computedIn (c .core) x .readings in
     let r = read (c .core) x (v .legal) s in
+    let earlier = earlierScans (c .core) i in
     record {
       legal = computed-legal (c .core .parameters) (x .switches) (c .core .userbits .measuredpower) (x .mode) i (v .legal);
-      kept = history-kept (c .core .history) (isOpen i) readings (v .kept) r;
+      kept = history-kept earlier (isOpen i) readings (earlier-kept (c .core .history) _ (v .kept)) r;
       readable =
           readable _ _ _ (r .pv-read) (r .sp-read) (power-reading (c .core .parameters) (v .legal) i s (c .core .userbits .measuredpower));
       manual = λ e. rw e refl;
-      stored = output-stored (c .core .parameters) (v .legal) x readings (c .core .history) (c .output) (v .stored);
+      stored = output-stored (c .core .parameters) (v .legal) x readings earlier (c .output) (v .stored);
     }
 
 -- the two ways a call can go
@@ -137,5 +139,5 @@ by-verdict P (some n) c o f g = g n
 pub valid-scan : (c : Controller) (i : Input) → Valid c → Valid (scan c i .next)
 unfolding scan scanCore responseFrom controllerAfter refused executed changed limitedTo stepped
 valid-scan c i v =
-    by-verdict (λ o. Valid (responseFrom c o .next)) (refusedBy (scanTests i)) (c .core) (accepted counted (c .core) i)
-    (λ e. stepped-valid c i v (sampled i e)) (λ n. v)
+    by-verdict (λ o. Valid (responseFrom c o .next)) (refusedBy (scanTests (c .core .clock) i)) (c .core) (accepted counted (c .core) i)
+    (λ e. stepped-valid c i v (sampled (c .core .clock) i e)) (λ n. v)

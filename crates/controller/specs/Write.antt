@@ -64,7 +64,7 @@ writeTests c n v =
 -- ---- what an accepted write leaves, but for the output
 
 -- a write changes no more than these three. Of PV, SP, ER, MP, buttons, battery and alarms "only scans
--- and restarts change any", and no sentence lets a write touch SW or the earlier PVs and SP
+-- and restarts change any", and no sentence lets a write touch SW, the earlier PVs and SP or the last reading
 unfoldable pub coreWith : Core → Parameters → Conditions → UserBits → Core
 coreWith c parameters conditions userbits =
     record {
@@ -75,6 +75,7 @@ coreWith c parameters conditions userbits =
       readings = c .readings;
       indications = c .indications;
       history = c .history;
+      clock = c .clock;
     }
 
 -- "Writing MD takes bits 13, 12, 11 as the request and bit 4"

@@ -129,7 +129,8 @@ module _ (c : Core) (n : ℕ) (v : ℤ) (legal : Legal (c .parameters)) (accepte
       elsewhere (c .parameters) legal n v (k .0) (omega arith) m (λ q. omega arith) (λ q. omega arith) ∙
       rw (ne-eqb m n (not-from n 15 16 e m h l)) refl))
 
--- ---- "of these only scans and restarts change any": what no write touches, SW and the earlier PVs and SP beside it
+-- ---- "of these only scans and restarts change any": what no write touches, SW, the earlier PVs and SP and
+-- the last reading beside it
 
 module _ (c : Core) (n : ℕ) (v : ℤ) where
   -- the three kinds of write
@@ -149,6 +150,10 @@ module _ (c : Core) (n : ℕ) (v : ℤ) where
   pub history-stays : coreWritten c n v .history ≡ c .history
   unfolding mdWritten dsWritten parameterWritten coreWith
   history-stays = by-kind (λ k. k .history ≡ c .history) refl refl refl
+
+  pub clock-stays : coreWritten c n v .clock ≡ c .clock
+  unfolding mdWritten dsWritten parameterWritten coreWith
+  clock-stays = by-kind (λ k. k .clock ≡ c .clock) refl refl refl
 
   pub open-count-stay : coreWritten c n v .conditions .opencount ≡ c .conditions .opencount
   unfolding mdWritten dsWritten parameterWritten coreWith conditionsWritten

@@ -15,6 +15,7 @@ use parameters::Parameters;
 use setpoints::Readings;
 use signals::Refusal;
 use signals::Verdict;
+use signals::clock::ClockReading;
 use words::Indications;
 use words::UserBits;
 
@@ -27,7 +28,8 @@ mod table;
 mod write;
 
 // All that lasts between calls but the output: SW; parameters 1 to 23; request, memory fault, open count
-// and pins; user bits and MD bit 4; PV, SP, ER and MP; buttons, battery and alarms; the earlier PVs and SP.
+// and pins; user bits and MD bit 4; PV, SP, ER and MP; buttons, battery and alarms; the earlier PVs and SP; the last
+// accepted reading of the host's clock.
 pub struct Core {
     sw: u16,
     parameters: Parameters,
@@ -36,6 +38,7 @@ pub struct Core {
     readings: Readings,
     indications: Indications,
     history: History,
+    clock: ClockReading,
 }
 
 // The output is a whole number of 1/65,536 units. "Each call takes the controller and hands back the next one": the
@@ -117,6 +120,7 @@ fn start_core(
             highalarm: false,
         },
         history: History::Nothing,
+        clock: ClockReading::None,
     }
 }
 
@@ -184,5 +188,15 @@ impl Controller {
         };
         let core = start_core(sw, parameters, Request::Manual, false, userbits);
         Controller { core, output: 0 }
+    }
+
+    // The reading of the last accepted scan, or none since a fresh start or a restart: a scan is refused before 30 ms
+    // have gone by since, and forgets earlier scans after more than 42. The contract rules out a reading that was
+    // refused.
+    pub fn last_reading(self) -> ClockReading
+        ensures { λ r. ⌜ r ≡ self .core .clock ⌝ }
+    {
+        let core = self.core;
+        core.clock
     }
 }

@@ -1,10 +1,11 @@
-// One scan: document 01's steps, each a function, and what it answers. Steps 2 and 3 come first, as the mode
-// decides the others; step 6 comes last, as it needs what step 5 gives.
+// One scan: document 01's steps, each a function, and what it answers. What a gap forgets is forgotten before them all.
+// Steps 2 and 3 come first, as the mode decides the others; step 6 comes last, as it needs what step 5 gives.
 ghost use mathlib.Core.Path.{_≡_};
 ghost use Rattle.parameters.specs.Legal.{Legal};
 ghost use Rattle.setpoints.specs.ComputationLaws.{SampleRange};
 ghost use Rattle.controller.specs.Answers.{replyOf, responseOf};
-ghost use Rattle.controller.specs.Scan.{contextOf, computedIn, indicationsAfter, coreAfter, statusOf, withOutput, stepped, scan};
+ghost use Rattle.controller.specs.Scan.{contextOf, computedIn, indicationsAfter, coreAfter};
+ghost use Rattle.controller.specs.Scan.{statusOf, withOutput, stepped, scan};
 ghost use Rattle.controller.specs.Valid.{Valid};
 use crate::Answer;
 use crate::Controller;
@@ -13,10 +14,12 @@ use crate::ScanResult;
 use answers::ScanValues;
 use modes::Conditions;
 use outputs::Context;
+use outputs::History;
 use setpoints::Computed;
 use setpoints::Readings;
 use signals::Input;
 use signals::Verdict;
+use signals::clock::ClockReading;
 use words::Indications;
 
 impl Core {
@@ -66,19 +69,18 @@ impl Core {
         }
     }
 
-    // The state that the scan leaves, but for the output.
-    fn after(self, conditions: Conditions, x: Context, r: Computed) -> Core
+    // The state that the scan leaves, but for the output. The contract rules out that the reading of before is kept.
+    fn after(self, earlier: History, conditions: Conditions, x: Context, r: Computed) -> Core
         requires { ⌜ Legal (self .parameters) ⌝ }
-        ensures { λ n. ⌜ n ≡ coreAfter self conditions x r ⌝ }
+        ensures { λ n. ⌜ n ≡ coreAfter self earlier conditions x r ⌝ }
     {
         let userbits = self.userbits;
-        let earlier = self.history;
         let readings = r.readings;
         let parameters = r.parameters;
         let input = x.input;
         let isopen = signals::is_open(input);
         let indications = self.indications_after(x, readings);
-        let history = outputs::history_after(earlier, isopen, readings);
+        let history = outputs::earlier::history_after(earlier, isopen, readings);
         Core {
             sw: self.sw,
             parameters,
@@ -87,6 +89,7 @@ impl Core {
             readings,
             indications,
             history,
+            clock: ClockReading::At(input.milliseconds),
         }
     }
 }
@@ -101,12 +104,15 @@ impl Controller {
         let earlier = self.output;
         let before = core.conditions;
         let p = core.parameters;
-        let history = core.history;
+        let remembered = core.history;
+        let last = core.clock;
+        let aftergap = signals::clock::is_after_gap(last, input.milliseconds);
+        let history = outputs::earlier::history_before(remembered, aftergap);
         let conditions = before.after(input);
         let x = core.context(conditions, input);
         let r = core.compute(x);
         let readings = r.readings;
-        let next = core.after(conditions, x, r);
+        let next = core.after(history, conditions, x, r);
         let output = outputs::output_after(p, x, readings, history, earlier);
         Controller { core: next, output }
     }
@@ -142,7 +148,9 @@ impl Controller {
         requires { ⌜ Valid self ⌝ }
         ensures { λ r. ⌜ responseOf r ≡ scan self input ⌝ }
     {
-        let verdict = signals::scan_verdict(input);
+        let core = self.core;
+        let last = core.clock;
+        let verdict = signals::scan_verdict(last, input);
         match verdict {
             Verdict::Refused(refusal) => ScanResult {
                 controller: self,

@@ -82,6 +82,7 @@ impl Core {
         let readings = self.readings;
         let indications = self.indications;
         let history = self.history;
+        let clock = self.clock;
         Core {
             sw: self.sw,
             parameters,
@@ -90,6 +91,7 @@ impl Core {
             readings,
             indications,
             history,
+            clock,
         }
     }
 

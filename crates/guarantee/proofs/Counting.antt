@@ -24,7 +24,7 @@ use Rattle.outputs.specs.Outputs.{adjusted, byHand, termsOf, byTerms, changeIn,
 use Rattle.outputs.specs.declared.History.{History}
 use Rattle.outputs.specs.declared.Context.{Context}
 use Rattle.controller.specs.Restart.{valuesIn, restartTests, restartAccepted, restartCore}
-use Rattle.controller.specs.Scan.{modeNow, contextOf, coreAfter, statusOf, accepted, refused, scanCore}
+use Rattle.controller.specs.Scan.{modeNow, earlierScans, contextOf, coreAfter, statusOf, accepted, refused, scanCore}
 use Rattle.controller.specs.ValidLaws.{by-verdict}
 use Rattle.controller.specs.Write.{writeTests, writeAccepted, writeCore}
 use Rattle.controller.specs.declared.Core.{Core}
@@ -120,15 +120,15 @@ module _ (c : Core) (i : Input) where
   unfolding countAfter setsOutright isAutomaticScan statusOf accepted instructionOf conditionsAfter contextOf
   accepted-counts n =
       let x = contextOf c (conditionsAfter oneMore (c .conditions) i) i in
-      rw (mode-next, minimum-is) (counts-in (x .mode) (c .parameters) x _ (c .history) n)
+      rw (mode-next, minimum-is) (counts-in (x .mode) (c .parameters) x _ (earlierScans c i) n)
 
 pub counts : (c : Core) (x : Call) (n : ℕ) → let o = outcomeOf oneMore c x in
     countAfter c (o .next) x (o .answer) n ≡ changeCount (o .instruction .change) n
 unfolding outcomeOf scanCore writeCore writeAccepted restartCore restartAccepted restartInstruction refused countAfter setsOutright
     isAutomaticScan next accepted
 counts c (scan i) n =
-    by-verdict (λ o. countAfter c (o .next) (scan i) (o .answer) n ≡ changeCount (o .instruction .change) n) (refusedBy (scanTests i)) c
-    (accepted oneMore c i)
+    by-verdict (λ o. countAfter c (o .next) (scan i) (o .answer) n ≡ changeCount (o .instruction .change) n)
+    (refusedBy (scanTests (c .clock) i)) c (accepted oneMore c i)
     (λ e. accepted-counts c i n) (λ k. refl)
 counts c (write number v) n =
     by-verdict (λ o. countAfter c (o .next) (write number v) (o .answer) n ≡ changeCount (o .instruction .change) n)

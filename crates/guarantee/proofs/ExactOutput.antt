@@ -1,5 +1,5 @@
 -- The exact controller's output, by its own text, is what the rules' instruction gives, executed in fractions.
-use mathlib.Core.Path.{_≡_, refl, sym}
+use mathlib.Core.Path.{_≡_, refl, sym, ap, _∙_}
 use mathlib.Core.Bool.{Bool, true, false, not, _&&_, _||_}
 use mathlib.Core.List.{List}
 use mathlib.Core.Option.{some}
@@ -36,11 +36,13 @@ use Rattle.controller.specs.ValidLaws.{by-verdict}
 use Rattle.controller.specs.Write.{writeTests, writeAccepted, writeCore}
 use Rattle.controller.specs.declared.Core.{Core}
 use Rattle.guarantee.specs.Bytes.{wordAt, sumRight}
+use Rattle.guarantee.specs.Clock.{recalledIn}
 use Rattle.guarantee.specs.Exact.{Call, scan, write, restart, oneMore, isAccepted, outcomeOf, outputAfter}
 use Rattle.guarantee.specs.ExactOutput.{previousPV, previousSP, earlierPV, c, band, proportional, integral, derivative, minimum}
 use Rattle.guarantee.specs.ExactOutput.{toMinimum, byHand, byTerms, inMode, scanOutput, writeOutput, restartOutput}
 use Rattle.guarantee.specs.Modes.{automaticMode, manualOrForced}
 use Rattle.guarantee.proofs.Brought.{op-at, sum-is}
+use Rattle.guarantee.proofs.Clock.{history-is}
 use Rattle.guarantee.proofs.Counting.{next, mode-next, minimum-is}
 use Rattle.guarantee.proofs.Modes.{mode-is-first}
 
@@ -61,10 +63,10 @@ past-before Nothing r = refl
 past-before (One pv sp) r = refl
 past-before (Two pv sp before) r = refl
 
-module _ (before now : Core) where
+module _ (h : History) (before now : Core) where
   pub proportional-is : (m : Mode) → let s = switchesOf (now .sw) in let r = now .readings in
-      proportional (isAutoOrFallback m && not (bit (now .sw) 7)) before now
-      ≡ proportionalTerm (tuningOf (before .parameters) s) (changeOfDifference s m r (recalled (before .history) r))
+      proportional (isAutoOrFallback m && not (bit (now .sw) 7)) h before now
+      ≡ proportionalTerm (tuningOf (before .parameters) s) (changeOfDifference s m r (recalled h r))
   unfolding proportional c band proportionalTerm tuningOf changeOfDifference earlierSetpoint controlDifference switchesOf
   proportional-is m = rw (past-pv, past-sp) refl
 
@@ -74,7 +76,7 @@ module _ (before now : Core) where
   integral-is = refl
 
   pub derivative-is : let s = switchesOf (now .sw) in let r = now .readings in
-      derivative before now ≡ derivativeTerm (tuningOf (before .parameters) s) (secondDifference r (recalled (before .history) r))
+      derivative h before now ≡ derivativeTerm (tuningOf (before .parameters) s) (secondDifference r (recalled h r))
   unfolding derivative band derivativeTerm tuningOf secondDifference switchesOf
   derivative-is = rw (past-pv, past-before) refl
 
@@ -115,14 +117,16 @@ module _ (before now : Core) (i : Input) (f : Fraction) (m : Mode) (t : Bool) wh
   hand-is e = rw e (hand-choice t (bit (i .buttons) 3) (bit (i .buttons) 6) (bit (i .buttons) 7) _ f)
 
   terms-are : byTerms (isAutoOrFallback m && not (bit (now .sw) 7)) before now i f
-      ≡ changed exactArithmetic (outputs.byTerms (before .parameters) (context now i m t) (now .readings) (before .history)) f
+      ≡ changed exactArithmetic (outputs.byTerms (before .parameters) (context now i m t) (now .readings) (recalledIn before i)) f
   unfolding byTerms outputs.byTerms termsOf limitedTerm
   terms-are =
-      rw (proportional-is before now m, integral-is before now, derivative-is before now) (term-choice (bit (i .sensors) 0) _ _ _ f)
+      let h = recalledIn before i in
+      rw (proportional-is h before now m, integral-is h before now, derivative-is h before now)
+      (term-choice (bit (i .sensors) 0) _ _ _ f)
 
 in-mode : (before now : Core) (i : Input) (f : Fraction) (m : Mode) (t : Bool) → toMinimum before now ≡ t →
     inMode (some m) before now i f
-    ≡ executed exactArithmetic (instructionOf (before .parameters) (context now i m t) (now .readings) (before .history)) f
+    ≡ executed exactArithmetic (instructionOf (before .parameters) (context now i m t) (now .readings) (recalledIn before i)) f
 unfolding executed instructionOf limitsIn limitedTo changed exactArithmetic
 in-mode before now i f Hold t e = refl
 in-mode before now i f Track t e = refl
@@ -138,7 +142,9 @@ scan-is : (k : Core) (i : Input) (f : Fraction) →
 unfolding scanOutput next accepted coreAfter contextOf
 scan-is k i f =
     let x = contextOf k (conditionsAfter oneMore (k .conditions) i) i in
-    rw (mode-next k i) (in-mode k (next k i) i f (x .mode) (x .tominimum) (minimum-is k i))
+    rw (mode-next k i)
+    (in-mode k (next k i) i f (x .mode) (x .tominimum) (minimum-is k i) ∙
+    ap (λ (h : History). executed exactArithmetic (instructionOf (k .parameters) x (next k i .readings) h) f) (sym (history-is k i)))
 
 -- ---- a write
 
@@ -214,7 +220,7 @@ unfolding outcomeOf scanCore writeCore writeAccepted restartCore restartAccepted
     limitedTo next
 outcome-is k (scan i) f =
     by-verdict (λ o. (if isAccepted (o .answer) then outputAfter k (o .next) (scan i) f else f)
-    ≡ executed exactArithmetic (o .instruction) f) (refusedBy (scanTests i)) k
+    ≡ executed exactArithmetic (o .instruction) f) (refusedBy (scanTests (k .clock) i)) k
     (accepted oneMore k i) (λ e. scan-is k i f) (λ n. refl)
 outcome-is k (write n v) f =
     by-verdict (λ o. (if isAccepted (o .answer) then outputAfter k (o .next) (write n v) f else f)

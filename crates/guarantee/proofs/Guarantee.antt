@@ -6,6 +6,7 @@ use Prim.Native.Nat.{ℕ}
 use lib.IntN.{ℤ}
 use denote.Ref.{now}
 use Rattle.signals.specs.declared.Input.{Input}
+use Rattle.signals.specs.declared.clock.ClockReading.{ClockReading}
 use Rattle.modes.specs.Modes.{counted}
 use Rattle.modes.specs.declared.Mode.{Mode}
 use Rattle.controller.specs.Answers.{Reply, Response, responseOf, replyOfVerdict, responseOfVerdict}
@@ -15,16 +16,19 @@ use Rattle.controller.specs.Scan.{controllerAfter, modeNow, Status, Outcome, wi
 use Rattle.controller.specs.Valid.{Valid}
 use Rattle.controller.specs.Write as writes
 use Rattle.controller.specs.declared.Controller.{Controller}
+use Rattle.controller.specs.declared.Core.{Core}
 use Rattle.controller.specs.declared.CallResult.{CallResult}
 use Rattle.controller.specs.declared.ScanResult.{ScanResult}
 use Rattle.guarantee.specs.Claim.{capped, SameReading, SameAnswer, SameAnswers, no-answer, and-answer}
+use Rattle.guarantee.specs.Count.{lastReading}
 use Rattle.guarantee.specs.Demand.{Demand3}
 use Rattle.guarantee.specs.Exact.{Call, scan, write, restart, Calls, _then_, outcomeOf, exactAfter, exact, exactAnswer}
 use Rattle.guarantee.specs.Linked.{ScanEnsures, WriteEnsures, RestartEnsures, Slice, Lifetime, Linked, started, scanned, wrote}
 use Rattle.guarantee.specs.Linked.{restarted, AlwaysReady}
 use Rattle.guarantee.specs.Modes.{modeIn, isHoldOrTrack}
 use Rattle.guarantee.proofs.Answers.{outcome-shows, same-answer, same-reading, same-save}
-use Rattle.guarantee.proofs.Capped.{cappedOutcome, capped-twice, now-capped}
+use Rattle.guarantee.proofs.Capped.{cappedOutcome, capped-twice, clock-capped, now-capped}
+use Rattle.guarantee.proofs.Clock.{reading-after, last-scan, apart}
 use Rattle.guarantee.proofs.Earlier.{earlier-after}
 use Rattle.guarantee.proofs.Faults.{fault-after}
 use Rattle.guarantee.proofs.Limits.{within-after}
@@ -103,10 +107,15 @@ guarantee word calls rs c l =
     let core-is : c .core ≡ capped (exact word calls .core) = ap (λ (k : Controller). k .core) e ∙ cores word calls in
     let first : modeIn (exact word calls .core) ≡ some (modeNow (c .core)) =
     mode-is-first (exact word calls .core) ∙ ap some (sym (ap modeNow core-is ∙ now-capped (exact word calls .core))) in
+    let clock-is : c .core .clock ≡ lastReading word calls =
+    ap (λ (k : Core). k .clock) core-is ∙ clock-capped (exact word calls .core) ∙ reading-after word calls in
     let here : Option Mode → Mode = λ o. the-mode o (modeNow (c .core)) in
     record {
       mode-first = first;
       open-scans-counted = open-count-after word calls;
+      reading-remembered = reading-after word calls;
+      last-reading = λ r h. h ∙ clock-is;
+      scans-apart = λ i j r v l h q. apart c j r v (i .milliseconds) h q (clock-is ∙ last-scan l);
       earlier-scans-remembered = earlier-after word calls;
       fault-stands = rw e (fault-after word calls);
       within-limits = λ mode q outside.
@@ -133,6 +142,7 @@ ready word calls rs c l =
       write-ready = λ n v. valid;
       restart-ready = λ life image. tt;
       read-ready = λ n. valid;
+      last-reading-ready = tt;
       save-ready = λ life buffer. valid;
       valid = valid;
     }

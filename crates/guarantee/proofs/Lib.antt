@@ -2,6 +2,7 @@ pub mod Answers
 pub mod Bound
 pub mod Brought
 pub mod Capped
+pub mod Clock
 pub mod Counting
 pub mod Earlier
 pub mod ExactOutput

@@ -13,7 +13,7 @@ use Rattle.controller.specs.Restart as restarts
 use Rattle.controller.specs.Restart.{valuesIn, restartTests, restartAccepted, restartCore}
 use Rattle.controller.specs.RestartLaws.{valid-restart}
 use Rattle.controller.specs.Scan as rules
-use Rattle.controller.specs.Scan.{controllerAfter, coreAfter, statusOf, Outcome, accepted, refused, scanCore, responseFrom}
+use Rattle.controller.specs.Scan.{controllerAfter, earlierScans, coreAfter, statusOf, Outcome, accepted, refused, scanCore, responseFrom}
 use Rattle.controller.specs.State.{freshController, freshCore}
 use Rattle.controller.specs.Valid.{Valid}
 use Rattle.controller.specs.ValidLaws.{by-verdict, valid-fresh, valid-scan}
@@ -61,7 +61,8 @@ valid-after word (xs then restart image) = valid-restart (ours word xs) image (v
 -- the switch word stays
 pub switch-word : (c : Core) (x : Call) → outcomeOf counted c x .next .sw ≡ c .sw
 unfolding outcomeOf scanCore writeCore writeAccepted restartCore restartAccepted refused accepted coreAfter
-switch-word c (scan i) = by-verdict (λ o. o .next .sw ≡ c .sw) (refusedBy (scanTests i)) c (accepted counted c i) (λ e. refl) (λ n. refl)
+switch-word c (scan i) =
+    by-verdict (λ o. o .next .sw ≡ c .sw) (refusedBy (scanTests (c .clock) i)) c (accepted counted c i) (λ e. refl) (λ n. refl)
 switch-word c (write n v) =
     by-verdict (λ o. o .next .sw ≡ c .sw) (refusedBy (writeTests c n v)) c (writeAccepted c n v) (λ e. sw-stays c n v) (λ m. refl)
 switch-word c (restart image) =
@@ -76,8 +77,8 @@ exact-legal word xs = subst (λ (k : Core). Legal (k .parameters)) (cores word x
 outcome-sound : (c : Core) (x : Call) → Legal (c .parameters) → Divides (outcomeOf oneMore c x .instruction .change)
 unfolding outcomeOf scanCore writeCore writeAccepted restartCore restartAccepted restartInstruction refused accepted
 outcome-sound c (scan i) legal =
-    by-verdict (λ o. Divides (o .instruction .change)) (refusedBy (scanTests i)) c (accepted oneMore c i)
-    (λ e. instruction-sound (c .parameters) _ _ (c .history) legal) (λ n. keeps)
+    by-verdict (λ o. Divides (o .instruction .change)) (refusedBy (scanTests (c .clock) i)) c (accepted oneMore c i)
+    (λ e. instruction-sound (c .parameters) _ _ (earlierScans c i) legal) (λ n. keeps)
 outcome-sound c (write n v) legal =
     by-verdict (λ o. Divides (o .instruction .change)) (refusedBy (writeTests c n v)) c (writeAccepted c n v) (λ e. keeps) (λ m. keeps)
 outcome-sound c (restart image) legal =
@@ -99,8 +100,8 @@ open-counts : (c : Core) (x : Call) → let o = outcomeOf oneMore c x in
 unfolding outcomeOf scanCore writeCore writeAccepted restartCore restartAccepted refused accepted coreAfter conditionsAfter openCountAfter
     statusOf openAfter
 open-counts c (scan i) =
-    by-verdict (λ o. o .next .conditions .opencount ≡ openAfter (scan i) (o .answer) (c .conditions .opencount)) (refusedBy (scanTests i)) c
-    (accepted oneMore c i)
+    by-verdict (λ o. o .next .conditions .opencount ≡ openAfter (scan i) (o .answer) (c .conditions .opencount))
+    (refusedBy (scanTests (c .clock) i)) c (accepted oneMore c i)
     (λ e. refl) (λ n. refl)
 open-counts c (write n v) =
     by-verdict (λ o. o .next .conditions .opencount ≡ openAfter (write n v) (o .answer) (c .conditions .opencount))

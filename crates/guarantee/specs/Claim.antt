@@ -50,6 +50,7 @@ capped c =
       readings = c .readings;
       indications = c .indications;
       history = c .history;
+      clock = c .clock;
     }
 
 -- "OP and electrical output, which are those of our own stored output": OP is its floor in units;

@@ -4,20 +4,25 @@ use mathlib.Core.Path.{_≡_}
 use mathlib.Core.Bool.{false}
 use mathlib.Core.List.{List}
 use mathlib.Core.Option.{some}
-use Prim.Native.Nat.{ℕ, _*_}
+use Prim.Native.Nat.{ℕ, _+_, _*_, _≤_}
 use denote.Ref.{now}
+use Rattle.signals.specs.declared.Input.{Input}
 use Rattle.signals.specs.declared.Verdict.{Verdict}
+use Rattle.signals.specs.declared.clock.ClockReading.{ClockReading}
 use Rattle.modes.specs.declared.Mode.{Mode}
+use Rattle.answers.specs.declared.ScanValues.{ScanValues}
 use Rattle.terms.specs.Near.{Near}
 use Rattle.controller.specs.Answers.{Response, replyOfVerdict, replyOfRead}
 use Rattle.controller.specs.Scan.{modeNow}
+use Rattle.controller.specs.declared.Answer.the-variants.{Accepted}
 use Rattle.controller.specs.declared.Controller.{Controller}
 use Rattle.controller.specs.declared.ReadAnswer.{ReadAnswer}
+use Rattle.controller.specs.declared.ScanResult.{ScanResult}
 use Rattle.guarantee.specs.Claim.{WithinLimits, capped, SameAnswers, SameReading, SameSave}
-use Rattle.guarantee.specs.Count.{openScans, earlier, automaticScans}
+use Rattle.guarantee.specs.Count.{openScans, lastReading, LastScan, earlier, automaticScans}
 use Rattle.guarantee.specs.Exact.{Calls, exact}
 use Rattle.guarantee.specs.Fault.{faultStands}
-use Rattle.guarantee.specs.Linked.{ReadEnsures, SaveEnsures, Slice, Lifetime}
+use Rattle.guarantee.specs.Linked.{ScanEnsures, ReadEnsures, LastReadingEnsures, SaveEnsures, Slice, Lifetime}
 use Rattle.guarantee.specs.Modes.{modeIn, isHoldOrTrack}
 
 pub record Demand3 (word : ℕ) (calls : Calls) (rs : List Response) (c : Controller) : Type 0 where
@@ -26,7 +31,16 @@ pub record Demand3 (word : ℕ) (calls : Calls) (rs : List Response) (c : Contro
   pub mode-first : modeIn (exact word calls .core) ≡ some (modeNow (c .core))
   -- and the count of open scans behind Forced Manual is the one that the accepted calls of the list give
   pub open-scans-counted : exact word calls .core .conditions .opencount ≡ openScans word calls
-  -- the earlier PVs and SP are those of the accepted scans of the list
+  -- the remembered reading is the last accepted scan's since the start or the last accepted restart, told by the list,
+  -- and so is the one that a host is given
+  pub reading-remembered : exact word calls .core .clock ≡ lastReading word calls
+  pub last-reading : (r : ClockReading) → LastReadingEnsures c r → r ≡ lastReading word calls
+  -- an accepted scan never comes less than 30 ms after the accepted scan before it where no accepted restart came
+  -- between: the one that is made now, and so, list by list, every one
+  pub scans-apart : (i j : Input) (r : ScanResult) (v : ScanValues) → LastScan word i calls → ScanEnsures c j r →
+      r .answer ≡ Accepted v → i .milliseconds + 30 ≤ j .milliseconds
+  -- the earlier PVs and SP are those of the accepted scans of the list, but for those that an open scan, a gap or an
+  -- accepted restart forgot
   pub earlier-scans-remembered : exact word calls .core .history ≡ earlier word calls
   -- the memory fault stands exactly when document 01 says so
   pub fault-stands : c .core .conditions .fault ≡ faultStands word calls

@@ -1,7 +1,7 @@
 -- Document 01: the exact controller's output, "a fraction of two whole numbers", after an accepted call, written out
--- again from step 6, Terms, and the sentences on writes of HO and LO and on restarts. Shared with the rules are the
--- types of the state, the bits of a word, the value of a parameter, and the arithmetic of fractions: a sum, so many
--- whole units, a limiting.
+-- again from step 6, Terms, and the sentences on writes of HO and LO and on restarts, with the clock of document 02:
+-- "The exact controller gets the same clock". Shared with the rules are the types of the state, the bits of a word, the
+-- value of a parameter, and the arithmetic of fractions: a sum, so many whole units, a limiting.
 use mathlib.Core.Bool.{Bool, false, not, _&&_, _||_}
 use mathlib.Core.List.{List}
 use mathlib.Core.Option.{Option, some}
@@ -20,9 +20,10 @@ use Rattle.outputs.specs.declared.History.{History}
 use Rattle.outputs.specs.declared.History.the-variants.{Nothing, One, Two}
 use Rattle.controller.specs.declared.Core.{Core}
 use Rattle.guarantee.specs.Bytes.{wordAt, sumRight}
+use Rattle.guarantee.specs.Clock.{recalledIn}
 use Rattle.guarantee.specs.Modes.{modeIn, automaticMode, manualOrForced}
 
--- ---- Terms, of a scan that was made in the state `before` and left the state `now`
+-- ---- Terms, of a scan that was made in the state `before` and left the state `now`; h is what it recalls
 
 -- the previous PV and SP, and the PV before it; "A forgotten value counts as the nearest later one."
 abbrev pub previousPV : History → ℤ → ℤ
@@ -50,12 +51,12 @@ band p = natAbs (value p 17) * natAbs (value p 1 -ℤ value p 2)
 
 -- "Proportional: 10,000,000 × (c - c1) / (XP × W)."; "c1 is c with the previous PV and SP, but with the present SP
 -- in Auto and Fall-back if S1.1 is OFF": `present` says that it is the present SP
-unfoldable pub proportional : Bool → Core → Core → Fraction
-proportional present before now =
+unfoldable pub proportional : Bool → History → Core → Core → Fraction
+proportional present h before now =
     let pv = now .readings .pv in
     let sp = now .readings .sp in
-    let sp1 = if present then sp else previousSP (before .history) sp in
-    let c1 = c (now .sw) sp1 (previousPV (before .history) pv) in
+    let sp1 = if present then sp else previousSP h sp in
+    let c1 = c (now .sw) sp1 (previousPV h pv) in
     record { numerator = pos 10000000 *ℤ (c (now .sw) sp pv -ℤ c1); denominator = band (before .parameters) }
 
 -- "Integral: 10,000,000 × c × 9 / (XP × W × 25 × TI), with S2.8 ON 3 and 500 for 9 and 25; 0 if TI is 0.": SW bit 8;
@@ -72,10 +73,10 @@ integral before now =
 
 -- "Derivative: -10,000,000 × D × 25 × TD / (9 × XP × W), with S2.8 ON 500 and 3 for 25 and 9; plus sign with S2.4
 -- ON."; "D is PV - 2 × previous PV + the one before"; TD is parameter 19
-unfoldable pub derivative : Core → Core → Fraction
-derivative before now =
+unfoldable pub derivative : History → Core → Core → Fraction
+derivative h before now =
     let pv = now .readings .pv in
-    let d = (pv -ℤ pos 2 *ℤ previousPV (before .history) pv) +ℤ earlierPV (before .history) pv in
+    let d = (pv -ℤ pos 2 *ℤ previousPV h pv) +ℤ earlierPV h pv in
     let minutes = bit (now .sw) 8 in
     let product = pos 10000000 *ℤ d *ℤ pos (if minutes then 500 else 25) *ℤ pos (natAbs (value (before .parameters) 19)) in
     record {
@@ -112,9 +113,10 @@ byHand before now i output =
 -- "its limited terms are added unrounded"
 unfoldable pub byTerms : Bool → Core → Core → Input → Fraction → Fraction
 byTerms present before now i output =
+    let h = recalledIn before i in
     if bit (i .sensors) 0 then output else
-    plus (plus (plus output (within10000 (proportional present before now))) (within10000 (integral before now)))
-    (within10000 (derivative before now))
+    plus (plus (plus output (within10000 (proportional present h before now))) (within10000 (integral before now)))
+    (within10000 (derivative h before now))
 
 -- "limited to LO..HO"
 abbrev pub betweenLimits : Parameters → Fraction → Fraction

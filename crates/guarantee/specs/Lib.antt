@@ -1,5 +1,6 @@
 pub mod Bytes
 pub mod Claim
+pub mod Clock
 pub mod Count
 pub mod Demand
 pub mod Exact

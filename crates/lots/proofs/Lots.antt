@@ -4,6 +4,7 @@ use mathlib.Core.Bool.{not}
 use mathlib.Core.List.{List, []}
 use Prim.Native.Nat.{ℕ}
 use Rattle.signals.specs.declared.Input.{Input}
+use Rattle.signals.specs.declared.clock.ClockReading.{ClockReading}
 use Rattle.answers.specs.declared.ScanValues.{ScanValues}
 use Rattle.sheet_guarantee.specs.Meaning.{Answers}
 use Rattle.sheet_guarantee.proofs.Claim.{always}
@@ -13,6 +14,7 @@ use Rattle.controller.specs.declared.Answer.the-variants.{Accepted, Refused}
 use Rattle.controller.specs.declared.Controller.{Controller}
 use Rattle.controller.specs.declared.Core.{Core}
 use Rattle.guarantee.specs.Claim.{capped}
+use Rattle.guarantee.specs.Count.{lastReading}
 use Rattle.guarantee.specs.Exact.{Calls, _then_, scan, exact}
 use Rattle.guarantee.specs.Linked as calls
 use Rattle.guarantee.specs.Linked.{Linked}
@@ -42,6 +44,10 @@ chain-of (restarted life image r a e) =
 
 -- ---- one accepted scan
 
+clock-same : (c : Controller) (exactly : Core) → capped (c .core) ≡ capped exactly → c .core .clock ≡ exactly .clock
+unfolding capped
+clock-same c exactly same = ap (λ (k : Core). k .clock) same
+
 abbrev valuesOr : ScanValues → Answer → ScanValues
 valuesOr v (Accepted w) = w
 valuesOr v (Refused refusal) = v
@@ -65,7 +71,7 @@ right c exactly v same mode a =
 
 -- of an answer: it was refused, or it is right
 by-answer : {word : ℕ} {xs : Calls} {ys : Answers} (i : Input) (answer : Answer) → AllRight word xs ys →
-    refusalIn (replyOf answer) ≡ scanRefusal i →
+    refusalIn (replyOf answer) ≡ scanRefusal (lastReading word xs) i →
     ((v : ScanValues) → answer ≡ Accepted v → Right (exact word (xs then scan i) .core) v) →
     AllRight word (xs then scan i) (withAnswer ys answer)
 by-answer i (Accepted v) l e f = accepted-scan l (sym e) (f v refl)
@@ -76,9 +82,11 @@ all-right {word} (started r e) = no-call
 all-right {word} (scanned {xs} {c} {ys} i r a e) =
     let k = chain-of a in
     let refusal = scan-refusals c i r e in
+    let before = guarantee word xs _ c (k .chain) in
+    let clock-is = clock-same c (exact word xs .core) (before .same-state) ∙ before .reading-remembered in
     let d = guarantee word (xs then scan i) _ (r .controller) (calls.scanned i r (k .chain) e) in
     let mode = d .mode-first ∙ sym (mode-is-first (r .controller .core)) in
-    by-answer i (r .answer) (all-right a) refusal (λ v q.
+    by-answer i (r .answer) (all-right a) (refusal ∙ ap (λ (last : ClockReading). scanRefusal last i) clock-is) (λ v q.
     let passes = sym refusal ∙ ap (λ (b : Answer). refusalIn (replyOf b)) q in
     let answered = scan-effects c i r (ready word xs _ c (k .chain) .valid) e passes .1 in
     right (r .controller) (exact word (xs then scan i) .core) v (d .same-state) mode (subst (ScanAnswer (r .controller)) q answered))

@@ -23,6 +23,7 @@ use Rattle.controller.specs.declared.CallResult.{CallResult}
 use Rattle.controller.specs.declared.Controller.{Controller}
 use Rattle.controller.specs.declared.Core.{Core}
 use Rattle.controller.specs.declared.ScanResult.{ScanResult}
+use Rattle.guarantee.specs.Count.{lastReading}
 use Rattle.guarantee.specs.Exact.{Calls, none, _then_, scan, write, restart, exact}
 use Rattle.guarantee.specs.Linked.{FreshEnsures, ScanEnsures, WriteEnsures, RestartEnsures, Slice, Lifetime}
 use Rattle.guarantee.specs.Modes.{modeIn}
@@ -56,9 +57,10 @@ pub record Right (now : Core) (v : ScanValues) : Type 0 where
 -- one answer for each accepted scan, in their order, and for no other call
 pub data AllRight (word : ℕ) : Calls → Answers → Type 0 where
   no-call : AllRight word none answers.none
-  accepted-scan : {xs : Calls} {ys : Answers} {i : Input} {v : ScanValues} → AllRight word xs ys → scanRefusal i ≡ option.none →
+  accepted-scan : {xs : Calls} {ys : Answers} {i : Input} {v : ScanValues} → AllRight word xs ys →
+      scanRefusal (lastReading word xs) i ≡ option.none →
       Right (exact word (xs then scan i) .core) v → AllRight word (xs then scan i) (answers._then_ ys v)
-  refused-scan : {xs : Calls} {ys : Answers} {i : Input} {n : ℕ} → AllRight word xs ys → scanRefusal i ≡ some n →
+  refused-scan : {xs : Calls} {ys : Answers} {i : Input} {n : ℕ} → AllRight word xs ys → scanRefusal (lastReading word xs) i ≡ some n →
       AllRight word (xs then scan i) ys
   a-write : {xs : Calls} {ys : Answers} {n : ℕ} {v : ℤ} → AllRight word xs ys → AllRight word (xs then write n v) ys
   a-restart : {xs : Calls} {ys : Answers} {image : List ℕ} → AllRight word xs ys → AllRight word (xs then restart image) ys

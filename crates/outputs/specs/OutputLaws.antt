@@ -27,7 +27,7 @@ use Rattle.terms.specs.Fraction.{Fraction, Positive, storedUnits, limitedStored
 use Rattle.terms.specs.TermLaws.{term-size}
 use Rattle.terms.specs.Terms.{storedTerm, TuningRange}
 use Rattle.outputs.specs.ControlDifference.{controlDifference, earlierSetpoint, changeOfDifference, secondDifference, tuningOf}
-use Rattle.outputs.specs.History.{remembered, historyAfter, recalled}
+use Rattle.outputs.specs.History.{historyBefore, remembered, historyAfter, recalled}
 use Rattle.outputs.specs.Instruction.{unlimited, between, storedArithmetic, changed, limitedTo, executed}
 use Rattle.outputs.specs.Outputs.{changeIn, limitsIn, minimumOf, instructionOf, restartedTo, restartInstruction}
 use Rattle.outputs.specs.declared.History.{History}
@@ -62,6 +62,10 @@ pub recalled-read : (h : History) (r : Readings) → HistoryRange h → Readings
 recalled-read Nothing r k n = record { pv-read = n .pv-read; sp-read = n .sp-read; before-read = n .pv-read }
 recalled-read (One pv sp) r k n = record { pv-read = k .0; sp-read = k .1; before-read = k .0 }
 recalled-read (Two pv sp before) r k n = record { pv-read = k .0; sp-read = k .1; before-read = k .2 }
+
+pub earlier-kept : (h : History) (aftergap : Bool) → HistoryRange h → HistoryRange (historyBefore h aftergap)
+unfolding historyBefore
+earlier-kept h aftergap k = by-cases HistoryRange aftergap Nothing h (λ e. tt) (λ e. k)
 
 remembered-kept : (h : History) (r : Readings) → HistoryRange h → ReadingsRange r → HistoryRange (remembered h r)
 remembered-kept Nothing r k n = (n .pv-read, n .sp-read)

@@ -1,5 +1,5 @@
-// Step 6 of a scan: the output in each mode, the terms and what they are made of, the limits; and what
-// is remembered of earlier scans.
+// Step 6 of a scan: the output in each mode, the terms and what they are made of, the limits. What is remembered of
+// earlier scans is in a file of its own.
 ghost use mathlib.Core.Path.{_≡_};
 ghost use Prim.Native.Nat.{_≤_, min};
 ghost use lib.IntN.{natAbs, pos};
@@ -8,7 +8,6 @@ ghost use Rattle.terms.specs.Fraction.{storedUnits, limitedStored};
 ghost use Rattle.parameters.specs.Legal.{Legal};
 ghost use Rattle.parameters.specs.Table.{HO, LO};
 ghost use Rattle.outputs.specs.ControlDifference.{controlDifference, earlierSetpoint, changeOfDifference, secondDifference, tuningOf};
-ghost use Rattle.outputs.specs.History.{remembered, historyAfter, recalled};
 ghost use Rattle.outputs.specs.Instruction.{storedArithmetic, changed, limitedTo, executed};
 ghost use Rattle.outputs.specs.OutputLaws.{ReadingsRange, HistoryRange, PastRange, OutputRange};
 ghost use Rattle.outputs.specs.Outputs.{minimumOf, adjusted, byHand, termsOf, byTerms};
@@ -22,6 +21,7 @@ use signals::Switches;
 use terms::Tuning;
 
 mod amounts;
+pub mod earlier;
 pub mod restarted;
 
 // What is remembered of earlier scans: nothing; the PV and SP of the last one; these and the PV of the one before it.
@@ -45,49 +45,6 @@ pub struct Context {
     pub mode: Mode,
     pub tominimum: bool,
     pub input: Input,
-}
-
-fn remembered(h: History, r: Readings) -> History
-    ensures { λ n. ⌜ n ≡ remembered h r ⌝ }
-{
-    match h {
-        History::Nothing => History::One { pv: r.pv, sp: r.sp },
-        History::One { pv, sp } => History::Two {
-            pv: r.pv,
-            sp: r.sp,
-            before: pv,
-        },
-        History::Two { pv, sp, before } => History::Two {
-            pv: r.pv,
-            sp: r.sp,
-            before: pv,
-        },
-    }
-}
-
-// The contract rules out an open scan that is remembered and one that forgets only a part.
-pub fn history_after(h: History, isopen: bool, r: Readings) -> History
-    ensures { λ n. ⌜ n ≡ historyAfter h isopen r ⌝ }
-{
-    if isopen {
-        History::Nothing
-    } else {
-        remembered(h, r)
-    }
-}
-
-fn recalled(h: History, r: Readings) -> Past
-    ensures { λ n. ⌜ n ≡ recalled h r ⌝ }
-{
-    match h {
-        History::Nothing => Past {
-            pv: r.pv,
-            sp: r.sp,
-            before: r.pv,
-        },
-        History::One { pv, sp } => Past { pv, sp, before: pv },
-        History::Two { pv, sp, before } => Past { pv, sp, before },
-    }
 }
 
 // c, the control difference, or c1 of earlier values.
@@ -153,7 +110,7 @@ fn with_terms(p: Parameters, x: Context, r: Readings, h: History, output: i64) -
     let s = x.switches;
     let mode = x.mode;
     let t = tuning_of(p, s);
-    let past = recalled(h, r);
+    let past = earlier::recalled(h, r);
     let change = change_of_difference(s, mode, r, past);
     let c = control_difference(s.inverseoutput, r.sp, r.pv);
     let d = second_difference(r, past);

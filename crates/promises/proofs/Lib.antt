@@ -1,3 +1,4 @@
+pub mod Clock
 pub mod Images
 pub mod Limits
 pub mod Places

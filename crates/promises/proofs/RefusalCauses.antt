@@ -17,6 +17,7 @@ use Rattle.signals.specs.Bits.{bit}
 use Rattle.signals.specs.Refusals.{refusedBy, scanTests}
 use Rattle.signals.specs.Signals.{switchesOf, pinsOf}
 use Rattle.signals.specs.declared.Input.{Input}
+use Rattle.signals.specs.declared.clock.ClockReading.{ClockReading}
 use Rattle.modes.specs.Modes.{counted, setsSetpoint}
 use Rattle.modes.specs.declared.Mode.{Mode}
 use Rattle.modes.specs.declared.Mode.the-variants.{Hold, Track, Forced, Manual, Auto, Remote, Ratio, Fallback}
@@ -37,6 +38,7 @@ use Rattle.controller.specs.declared.Core.{Core}
 use Rattle.guarantee.specs.Modes.{automaticMode}
 use Rattle.guarantee.proofs.Faults.{kept-or-cleared}
 use Rattle.guarantee.proofs.Modes.{mode-is-first}
+use Rattle.guarantee.proofs.Clock.{soon-is}
 use Rattle.promises.specs.Refusals.{refusalIn}
 use Rattle.promises.specs.RefusalCauses.{scanRefusal, ScanRefusals, replaced, setpointRefused, requestBits, wordRefusal, writeRefusal}
 use Rattle.promises.specs.RefusalCauses.{WriteRefusals, ReadRefusals, RefusalNumbers}
@@ -46,13 +48,20 @@ use Rattle.promises.proofs.Refusals.{refusal-is}
 
 -- ---- scans
 
-pub scan-tests : (i : Input) → refusedBy (scanTests i) ≡ scanRefusal i
+pub scan-tests : (last : ClockReading) (i : Input) → refusedBy (scanTests last i) ≡ scanRefusal last i
 unfolding scanTests refusedBy scanRefusal
-scan-tests i = refl
+scan-tests last i = rw (soon-is last (i .milliseconds)) refl
 
-scan-refusal : (d : Controller) (i : Input) → refusalIn (rules.scan d i .answer) ≡ scanRefusal i
+scan-refusal : (d : Controller) (i : Input) → refusalIn (rules.scan d i .answer) ≡ scanRefusal (d .core .clock) i
 unfolding rules.scan scanCore responseFrom accepted statusOf
-scan-refusal d i = refusal-is d (refusedBy (scanTests i)) (accepted counted (d .core) i) refl ∙ scan-tests i
+scan-refusal d i =
+    refusal-is d (refusedBy (scanTests (d .core .clock) i)) (accepted counted (d .core) i) refl ∙ scan-tests (d .core .clock) i
+
+-- what an accepted scan returns
+pub accepted-scan : (d : Controller) (i : Input) → refusedBy (scanTests (d .core .clock) i) ≡ none →
+    rules.scan d i ≡ responseFrom d (accepted counted (d .core) i)
+unfolding rules.scan scanCore
+accepted-scan d i e = rw e refl
 
 pub scan-refusals : ScanRefusals
 scan-refusals d i r e = ap (λ (h : Response). refusalIn (h .answer)) e ∙ scan-refusal d i

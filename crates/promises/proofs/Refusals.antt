@@ -77,7 +77,8 @@ pub lowest-number-wins : LowestNumberWins
 unfolding restart restartCore restartAccepted rules.scan scanCore rules.accepted statusOf write writeCore writeAccepted responseFrom
 lowest-number-wins =
     record {
-      scans = λ c i r e. wins c (scanTests i) (rules.accepted counted (c .core) i) _ (scan-ascends i) refl e;
+      scans = λ c i r e. let last = c .core .clock in
+          wins c (scanTests last i) (rules.accepted counted (c .core) i) _ (scan-ascends last i) refl e;
       writes = λ c n v r e. wins c (writeTests (c .core) n v) (writeAccepted (c .core) n v) _ (write-ascends (c .core) n v) refl e;
       restarts =
           λ life c image r e. wins c (restartTests (now image))
@@ -109,5 +110,6 @@ refused-stays = (
       (sym (ap (λ (h : Response). h .answer) e) ∙ a),
   λ d i r n e a.
       ap (λ (h : Response). h .next) e ∙
-      stays d (refusedBy (scanTests i)) (rules.accepted counted (d .core) i) refl n (sym (ap (λ (h : Response). h .answer) e) ∙ a),
+      stays d (refusedBy (scanTests (d .core .clock) i)) (rules.accepted counted (d .core) i) refl n
+      (sym (ap (λ (h : Response). h .answer) e) ∙ a),
 )

@@ -87,6 +87,7 @@ start-state sw p q fault userbits output =
       er = refl;
       mp = refl;
       history = refl;
+      clock = refl;
     }
 
 defaults-are : (k : ℕ) → 1 ≤ k → k ≤ 23 → value freshParameters k ≡ default k

@@ -46,7 +46,7 @@ use Rattle.controller.specs.declared.Controller.{Controller}
 use Rattle.guarantee.specs.Claim.{OwnOutput}
 use Rattle.guarantee.proofs.Answers.{own-output}
 use Rattle.promises.specs.Scans.{ScanAnswer, ScanEffects}
-use Rattle.promises.proofs.RefusalCauses.{scan-tests}
+use Rattle.promises.proofs.RefusalCauses.{scan-tests, accepted-scan}
 use Rattle.promises.proofs.Setpoints.{scaled-is, root-found, nearest-away, by-hand, setpoint-in, local-one, stays-local}
 use Rattle.promises.proofs.Setpoints.{track-is, ratio-is, same-mode}
 use Rattle.promises.proofs.Words.{shows-md, shows-ds}
@@ -248,6 +248,7 @@ module _ (c : Core) (i : Input) (legal : Legal (c .parameters)) (sampled : Sampl
         battery = refl;
         buttons = refl;
         pins = refl;
+        clock = refl;
         others = others;
         fault = refl;
         userbits = refl;
@@ -286,13 +287,9 @@ effects d i valid range =
       ),
     )
 
-pub accepted-scan : (d : Controller) (i : Input) → refusedBy (scanTests i) ≡ none →
-    rules.scan d i ≡ responseFrom d (accepted counted (d .core) i)
-unfolding rules.scan scanCore
-accepted-scan d i e = rw e refl
-
 pub scan-effects : ScanEffects
 scan-effects d i r valid e in-range =
-    let passes : refusedBy (scanTests i) ≡ none = scan-tests i ∙ in-range in
-    let all = subst (Effects d i) (sym (e ∙ accepted-scan d i passes)) (effects d i valid (sampled i passes)) in
+    let last = d .core .clock in
+    let passes : refusedBy (scanTests last i) ≡ none = scan-tests last i ∙ in-range in
+    let all = subst (Effects d i) (sym (e ∙ accepted-scan d i passes)) (effects d i valid (sampled last i passes)) in
     (all .0, answered (r .controller) (r .answer) (all .1))

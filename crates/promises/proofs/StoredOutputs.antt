@@ -24,18 +24,20 @@ use Rattle.outputs.specs.Outputs as outputs
 use Rattle.outputs.specs.Outputs.{minimumOf, adjusted, termsOf, limitsIn, instructionOf}
 use Rattle.outputs.specs.OutputLaws.{tuning-range}
 use Rattle.outputs.specs.declared.Context.{Context}
+use Rattle.outputs.specs.declared.History.{History}
 use Rattle.controller.specs.Answers.{Response}
 use Rattle.controller.specs.Scan.{modeNow, contextOf, coreAfter, accepted, controllerAfter, responseFrom}
 use Rattle.controller.specs.declared.Controller.{Controller}
 use Rattle.controller.specs.declared.Core.{Core}
 use Rattle.guarantee.specs.ExactOutput.{minimum}
+use Rattle.guarantee.specs.Clock.{recalledIn}
 use Rattle.guarantee.specs.Modes.{modeIn}
+use Rattle.guarantee.proofs.Clock.{history-is}
 use Rattle.guarantee.proofs.Counting.{automatic-is}
 use Rattle.guarantee.proofs.ExactOutput.{proportional-is, integral-is, derivative-is}
 use Rattle.guarantee.proofs.Modes.{mode-is-first}
 use Rattle.promises.specs.StoredOutputs.{goesToMinimum, storedByHand, StoredTerms, StoredOutput, StoredOutputs, storedBetweenLimits}
-use Rattle.promises.proofs.RefusalCauses.{scan-tests}
-use Rattle.promises.proofs.Scans.{accepted-scan}
+use Rattle.promises.proofs.RefusalCauses.{scan-tests, accepted-scan}
 
 hand-choice : (t sp raise lower : Bool) (u x : ℤ) →
     (if t then u *ℤ pos 65536 else
@@ -59,7 +61,7 @@ context now i m t = record { switches = switchesOf (now .sw); mode = m; tominimu
 
 abbrev after-in : Core → Core → Input → ℤ → Mode → Bool → ℤ
 after-in before now i x m t =
-    executed storedArithmetic (instructionOf (before .parameters) (context now i m t) (now .readings) (before .history)) x
+    executed storedArithmetic (instructionOf (before .parameters) (context now i m t) (now .readings) (recalledIn before i)) x
 
 module _ (before now : Core) (i : Input) (x : ℤ) (m : Mode) (t : Bool) where
   hand-is : goesToMinimum before now i ≡ t →
@@ -70,23 +72,24 @@ module _ (before now : Core) (i : Input) (x : ℤ) (m : Mode) (t : Bool) where
   terms-are : (present : Bool) → Legal (before .parameters) → isAutoOrFallback m && not (bit (now .sw) 7) ≡ present →
       StoredTerms present before now i x
       (storedBetweenLimits (before .parameters)
-      (changed storedArithmetic (outputs.byTerms (before .parameters) (context now i m t) (now .readings) (before .history)) x))
+      (changed storedArithmetic (outputs.byTerms (before .parameters) (context now i m t) (now .readings) (recalledIn before i)) x))
   unfolding outputs.byTerms termsOf changed storedArithmetic limitedTerm
   terms-are present legal q =
       let s = switchesOf (now .sw) in
       let r = now .readings in
+      let h = recalledIn before i in
       let tuned = tuning-range (before .parameters) s legal in
-      let p = proportionalTerm (tuningOf (before .parameters) s) (changeOfDifference s m r (recalled (before .history) r)) in
+      let p = proportionalTerm (tuningOf (before .parameters) s) (changeOfDifference s m r (recalled h r)) in
       let g = integralTerm (tuningOf (before .parameters) s) (controlDifference (s .inverseoutput) (r .sp) (r .pv)) in
-      let d = derivativeTerm (tuningOf (before .parameters) s) (secondDifference r (recalled (before .history) r)) in
+      let d = derivativeTerm (tuningOf (before .parameters) s) (secondDifference r (recalled h r)) in
       record {
         kept = λ e. rw e refl;
         p = storedTerm p;
-        p-near = rw (sym q, proportional-is before now m) (term-near p (proportional-positive _ tuned _));
+        p-near = rw (sym q, proportional-is h before now m) (term-near p (proportional-positive _ tuned _));
         t = storedTerm g;
-        t-near = rw (integral-is before now) (term-near g (integral-positive _ tuned _));
+        t-near = rw (integral-is h before now) (term-near g (integral-positive _ tuned _));
         d = storedTerm d;
-        d-near = rw (derivative-is before now) (term-near d (derivative-positive _ tuned _));
+        d-near = rw (derivative-is h before now) (term-near d (derivative-positive _ tuned _));
         added = λ e. rw e refl;
       }
 
@@ -119,7 +122,10 @@ module _ (k : Core) (i : Input) where
   unfolding next accepted coreAfter contextOf
   scan-stored x legal =
       let y = contextOf k (conditionsAfter counted (k .conditions) i) i in
-      rw mode-next (stored-in k next i x (y .mode) (y .tominimum) legal minimum-is)
+      rw mode-next
+      (subst (λ (h : History). StoredOutput (some (y .mode)) k next i x
+      (executed storedArithmetic (instructionOf (k .parameters) y (next .readings) h) x)) (sym (history-is k i))
+      (stored-in k next i x (y .mode) (y .tominimum) legal minimum-is))
 
 abbrev Stored : Controller → Input → Response → Type 0
 Stored d i h = StoredOutput (modeIn (h .next .core)) (d .core) (h .next .core) i (d .output) (h .next .output)
@@ -130,5 +136,5 @@ stored d i legal = scan-stored (d .core) i (d .output) legal
 
 pub stored-outputs : StoredOutputs
 stored-outputs d i r valid e in-range =
-    let passes : refusedBy (scanTests i) ≡ none = scan-tests i ∙ in-range in
+    let passes : refusedBy (scanTests (d .core .clock) i) ≡ none = scan-tests (d .core .clock) i ∙ in-range in
     subst (Stored d i) (sym (e ∙ accepted-scan d i passes)) (stored d i (valid .legal))

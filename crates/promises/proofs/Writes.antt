@@ -10,11 +10,14 @@ use lib.Signed.{leZ}
 use borrow.Author.Tests.{eqb-true, eqb-false, ne-eqb, le-leb, ltb-false}
 use Rattle.integers.specs.Choice.{if_then_else_}
 use Rattle.integers.specs.Limit.{limited}
+use Rattle.modes.specs.declared.Conditions.{Conditions}
 use Rattle.words.specs.Written.{conditionsWritten, powerWritten, userBitsWritten}
+use Rattle.words.specs.declared.UserBits.{UserBits}
 use Rattle.parameters.specs.Legal.{Legal}
 use Rattle.parameters.specs.Table.{value, isFrom}
 use Rattle.parameters.specs.Written.{written}
 use Rattle.parameters.specs.WrittenLaws.{valueAfter, written-values}
+use Rattle.parameters.specs.declared.Parameters.{Parameters}
 use Rattle.signals.specs.Refusals.{refusedBy}
 use Rattle.modes.specs.Modes.{isLimiting}
 use Rattle.terms.specs.Fraction.{storedUnits, limitedStored}
@@ -31,9 +34,17 @@ use Rattle.guarantee.proofs.Faults.{kept-or-cleared}
 use Rattle.guarantee.proofs.Modes.{mode-is-first}
 use Rattle.promises.specs.RefusalCauses.{writeRefusal}
 use Rattle.promises.specs.Table.{least, most}
-use Rattle.promises.specs.Writes.{WriteEffect, expectedOutput, WriteEffects}
+use Rattle.promises.specs.Writes.{Untouched, WriteEffect, expectedOutput, WriteEffects}
 use Rattle.promises.proofs.Refusals.{not-both}
 use Rattle.promises.proofs.RefusalCauses.{word-most, word-same, write-tests}
+
+-- ---- what no write touches
+
+untouched : (c : Core) (p : Parameters) (k : Conditions) (u : UserBits) → k .opencount ≡ c .conditions .opencount →
+    k .pins ≡ c .conditions .pins → Untouched c (coreWith c p k u)
+unfolding coreWith
+untouched c p k u opencount pins =
+    record { sw = refl; opencount = opencount; pins = pins; readings = refl; indications = refl; history = refl; clock = refl }
 
 -- ---- MD and DS
 
@@ -47,12 +58,7 @@ md-effect c v h =
       measured-power = rw (word-same v h) refl;
       user1 = refl;
       user2 = refl;
-      sw = refl;
-      opencount = refl;
-      pins = refl;
-      readings = refl;
-      indications = refl;
-      history = refl;
+      untouched = untouched c _ _ _ refl refl;
     }
 
 ds-effect : (c : Core) (v : ℤ) → natAbs v ≤ 65535 → WriteEffect c (coreWritten c 25 v) 25 v
@@ -65,12 +71,7 @@ ds-effect c v h =
       measured-power = refl;
       user1 = rw (word-same v h) refl;
       user2 = rw (word-same v h) refl;
-      sw = refl;
-      opencount = refl;
-      pins = refl;
-      readings = refl;
-      indications = refl;
-      history = refl;
+      untouched = untouched c _ _ _ refl refl;
     }
 
 -- ---- parameters 1 to 23
@@ -107,12 +108,7 @@ module _ (c : Core) (n : ℕ) (v : ℤ) (legal : Legal (c .parameters)) (first :
         measured-power = rw (ne-eqb n 24 (λ q. omega arith)) refl;
         user1 = rw (ne-eqb n 25 (λ q. omega arith)) refl;
         user2 = rw (ne-eqb n 25 (λ q. omega arith)) refl;
-        sw = refl;
-        opencount = refl;
-        pins = refl;
-        readings = refl;
-        indications = refl;
-        history = refl;
+        untouched = untouched c _ _ _ refl refl;
       }
 
 -- ---- over the contract

@@ -1,5 +1,5 @@
 -- Document 01, "By whose hand a call is declined": which scans, writes and reads are refused, and with which number,
--- told by the input's numbers and bits, the parameter's number, the value and the state, in the paper's order and
+-- told by the input's numbers and bits, the parameter's number, the value and the state, in the papers' order and
 -- apart from the rules' lists of tests. Restarts.antt tells it of restarts, and `SameSave` (guarantee) of saves.
 -- Shared are the types of the state, the bits of a word and the value of a parameter.
 use mathlib.Core.Path.{_≡_}
@@ -14,6 +14,7 @@ use Rattle.signals.specs.Bits.{bit}
 use Rattle.signals.specs.declared.Input.{Input}
 use Rattle.signals.specs.declared.Refusal.{Refusal}
 use Rattle.signals.specs.declared.Verdict.the-variants as verdict
+use Rattle.signals.specs.declared.clock.ClockReading.{ClockReading}
 use Rattle.signals.proofs.Refusal.number.Reads as number-reads
 use Rattle.parameters.specs.Table.{value}
 use Rattle.controller.specs.Answers.{number, replyOf, replyOfVerdict, replyOfRead}
@@ -24,22 +25,27 @@ use Rattle.controller.specs.declared.Core.{Core}
 use Rattle.controller.specs.declared.ReadAnswer.{ReadAnswer}
 use Rattle.controller.specs.declared.ReadAnswer.the-variants as read
 use Rattle.controller.specs.declared.ScanResult.{ScanResult}
+use Rattle.guarantee.specs.Clock.{tooSoon}
 use Rattle.guarantee.specs.Linked.{ScanEnsures, WriteEnsures, ReadEnsures, RestartEnsures, Slice, Lifetime}
 use Rattle.guarantee.specs.Modes.{modeIn, automaticMode}
 use Rattle.promises.specs.Refusals.{refusalIn}
 use Rattle.promises.specs.Table.{least, most, inOrder}
 use Rattle.promises.specs.Words.{remoteOrRatio}
 
--- "Plant: 1 a sample above 10000; 2 button bits 5 or 4 set; 3 sensor bits above 1 set.": a byte above 3
-unfoldable pub scanRefusal : Input → Option ℕ
-scanRefusal i =
+-- "Plant: 1 a sample above 10000; 2 button bits 5 or 4 set; 3 sensor bits above 1 set.": a byte above 3. Document 02,
+-- request 2: "16 when the reading is less than 30 ms after the last accepted one or lies before it, tested after 3."
+unfoldable pub scanRefusal : ClockReading → Input → Option ℕ
+scanRefusal last i =
     if ltb 10000 (i .sample1) || ltb 10000 (i .sample2) || ltb 10000 (i .sample3) then some 1 else
     if bit (i .buttons) 5 || bit (i .buttons) 4 then some 2 else
-    if ltb 3 (i .sensors) then some 3 else none
+    if ltb 3 (i .sensors) then some 3 else
+    if tooSoon last (i .milliseconds) then some 16 else none
 
 -- of any controller, reached by calls or not
 abbrev pub ScanRefusals : Type 0
-ScanRefusals = (d : Controller) (i : Input) (r : ScanResult) → ScanEnsures d i r → refusalIn (replyOf (r .answer)) ≡ scanRefusal i
+ScanRefusals =
+    (d : Controller) (i : Input) (r : ScanResult) → ScanEnsures d i r →
+    refusalIn (replyOf (r .answer)) ≡ scanRefusal (d .core .clock) i
 
 -- ---- writes, in the state c
 

@@ -35,7 +35,7 @@ pub data Lowest (tests : List (Bool × ℕ)) : Option ℕ → Type 0 where
 -- of every scan, write, restart and save, whatever the controller and the arguments
 pub record LowestNumberWins : Type 0 where
   pub scans : (c : Controller) (i : Input) (r : ScanResult) → ScanEnsures c i r →
-      Lowest (scanTests i) (refusalIn (replyOf (r .answer)))
+      Lowest (scanTests (c .core .clock) i) (refusalIn (replyOf (r .answer)))
   pub writes : (c : Controller) (n : ℕ) (v : ℤ) (r : CallResult) → WriteEnsures c n v r →
       Lowest (writeTests (c .core) n v) (refusalIn (replyOfVerdict (r .verdict)))
   pub restarts : (life : Lifetime) (c : Controller) (image : Slice) (r : CallResult) → RestartEnsures life c image r →

@@ -14,6 +14,7 @@ use Rattle.integers.specs.Choice.{if_then_else_}
 use Rattle.integers.specs.Limit.{limited}
 use Rattle.signals.specs.Bits.{bit}
 use Rattle.signals.specs.declared.Verdict.{Verdict}
+use Rattle.signals.specs.declared.clock.ClockReading.the-variants.{None}
 use Rattle.modes.specs.declared.Request.{Request}
 use Rattle.modes.specs.declared.Request.the-variants.{Manual, Auto, Remote}
 use Rattle.parameters.specs.Legal.{Legal}
@@ -86,7 +87,8 @@ RestartAnswers =
 
 -- "A fresh start and an accepted restart leave pins 80h, no buttons, open count 0, PV = 1L, SP = SL, ER = PV - SP, MP
 -- 0, battery good, no alarms"; a fresh one "no earlier PV or SP remembered", and by a restart "All earlier PV and SP
--- are forgotten."
+-- are forgotten."; document 02, request 2: "Until a scan is accepted after a fresh start or a restart, any reading is
+-- taken."
 pub record StartState (n : Controller) : Type 0 where
   pub pins : n .core .conditions .pins ≡ 0x80
   pub opencount : n .core .conditions .opencount ≡ 0
@@ -99,6 +101,7 @@ pub record StartState (n : Controller) : Type 0 where
   pub er : n .core .readings .er ≡ n .core .readings .pv -ℤ n .core .readings .sp
   pub mp : n .core .readings .mp ≡ pos 0
   pub history : n .core .history ≡ Nothing
+  pub clock : n .core .clock ≡ None
 
 -- "start fresh (any 16-bit switch word SW)": "A fresh controller has the defaults in the table. .. requests Manual
 -- with output 0, user bits and MD bit 4 zero, no memory fault"

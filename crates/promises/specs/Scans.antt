@@ -13,6 +13,7 @@ use Rattle.integers.specs.Choice.{if_then_else_}
 use Rattle.integers.specs.Limit.{limited}
 use Rattle.signals.specs.Bits.{bit}
 use Rattle.signals.specs.declared.Input.{Input}
+use Rattle.signals.specs.declared.clock.ClockReading.the-variants.{At}
 use Rattle.modes.specs.declared.Mode.the-variants.{Manual, Auto, Remote, Ratio}
 use Rattle.modes.specs.declared.Request.the-variants as request
 use Rattle.parameters.specs.Table.{value}
@@ -141,6 +142,8 @@ pub record ScanEffect (before now : Core) (i : Input) : Type 0 where
   pub battery : now .indications .batterylow ≡ bit (i .sensors) 1
   pub buttons : now .indications .buttons ≡ i .buttons
   pub pins : now .conditions .pins ≡ i .pins
+  -- document 02, request 2: "the controller remembers the last accepted one", the reading of this scan
+  pub clock : now .clock ≡ At (i .milliseconds)
   -- no sentence lets a scan touch the rest
   pub others : (n : ℕ) → (n ≡ 20 → ⊥) → (n ≡ 21 → ⊥) → value (now .parameters) n ≡ value (before .parameters) n
   pub fault : now .conditions .fault ≡ before .conditions .fault
@@ -162,5 +165,5 @@ pub record ScanAnswer (c : Controller) (answer : Answer) : Type 0 where
 -- of every scan that no cause refuses, at every valid controller: each that calls lead to is (`ready`)
 abbrev pub ScanEffects : Type 0
 ScanEffects =
-    (d : Controller) (i : Input) (r : ScanResult) → Valid d → ScanEnsures d i r → scanRefusal i ≡ none →
+    (d : Controller) (i : Input) (r : ScanResult) → Valid d → ScanEnsures d i r → scanRefusal (d .core .clock) i ≡ none →
     ScanEffect (d .core) (r .controller .core) i × ScanAnswer (r .controller) (r .answer)

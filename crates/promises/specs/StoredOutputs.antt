@@ -21,6 +21,7 @@ use Rattle.controller.specs.Valid.{Valid}
 use Rattle.controller.specs.declared.Controller.{Controller}
 use Rattle.controller.specs.declared.Core.{Core}
 use Rattle.controller.specs.declared.ScanResult.{ScanResult}
+use Rattle.guarantee.specs.Clock.{recalledIn}
 use Rattle.guarantee.specs.ExactOutput.{proportional, integral, derivative, within10000, minimum}
 use Rattle.guarantee.specs.Linked.{ScanEnsures}
 use Rattle.guarantee.specs.Modes.{modeIn, automaticMode}
@@ -50,11 +51,11 @@ storedByHand before now i output =
 pub record StoredTerms (present : Bool) (before now : Core) (i : Input) (output after : ℤ) : Type 0 where
   pub kept : bit (i .sensors) 0 ≡ true → after ≡ storedBetweenLimits (before .parameters) output
   pub p : ℤ
-  pub p-near : Near p (within10000 (proportional present before now)) 1
+  pub p-near : Near p (within10000 (proportional present (recalledIn before i) before now)) 1
   pub t : ℤ
   pub t-near : Near t (within10000 (integral before now)) 1
   pub d : ℤ
-  pub d-near : Near d (within10000 (derivative before now)) 1
+  pub d-near : Near d (within10000 (derivative (recalledIn before i) before now)) 1
   pub added : bit (i .sensors) 0 ≡ false → after ≡ storedBetweenLimits (before .parameters) (output +ℤ p +ℤ t +ℤ d)
 
 -- "Hold: kept. Track: the lesser of sample 3 and 9999. Manual and Forced: .."; "Outside Hold and Track the output is
@@ -73,5 +74,5 @@ StoredOutput (some Fallback) before now i output after = StoredTerms (not (bit (
 -- of every scan that no cause refuses, at every valid controller: each that calls lead to is (`ready`)
 abbrev pub StoredOutputs : Type 0
 StoredOutputs =
-    (d : Controller) (i : Input) (r : ScanResult) → Valid d → ScanEnsures d i r → scanRefusal i ≡ none →
+    (d : Controller) (i : Input) (r : ScanResult) → Valid d → ScanEnsures d i r → scanRefusal (d .core .clock) i ≡ none →
     StoredOutput (modeIn (r .controller .core)) (d .core) (r .controller .core) i (d .output) (r .controller .output)

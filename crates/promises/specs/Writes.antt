@@ -19,6 +19,17 @@ use Rattle.guarantee.specs.Linked.{WriteEnsures}
 use Rattle.guarantee.specs.Modes.{modeIn, automaticMode, manualOrForced}
 use Rattle.promises.specs.RefusalCauses.{writeRefusal}
 
+-- "of these only scans and restarts change any"; no sentence lets a write touch SW, the earlier PVs and SP or the last
+-- reading
+pub record Untouched (before now : Core) : Type 0 where
+  pub sw : now .sw ≡ before .sw
+  pub opencount : now .conditions .opencount ≡ before .conditions .opencount
+  pub pins : now .conditions .pins ≡ before .conditions .pins
+  pub readings : now .readings ≡ before .readings
+  pub indications : now .indications ≡ before .indications
+  pub history : now .history ≡ before .history
+  pub clock : now .clock ≡ before .clock
+
 -- of a write of v to the number n, made in the state `before`, which left the state `now`
 pub record WriteEffect (before now : Core) (n : ℕ) (v : ℤ) : Type 0 where
   -- the parameter named and no other, but "An accepted write of HS or LS limits SL anew, HR or LR limits RS": SL is
@@ -41,13 +52,7 @@ pub record WriteEffect (before now : Core) (n : ℕ) (v : ℤ) : Type 0 where
   -- "DS takes bits 7 and 6.": "7, 6 user bits 2, 1"; DS is number 25
   pub user1 : now .userbits .user1 ≡ (if eqb n 25 then bit (natAbs v) 6 else before .userbits .user1)
   pub user2 : now .userbits .user2 ≡ (if eqb n 25 then bit (natAbs v) 7 else before .userbits .user2)
-  -- "of these only scans and restarts change any"; no sentence lets a write touch SW or the earlier PVs and SP
-  pub sw : now .sw ≡ before .sw
-  pub opencount : now .conditions .opencount ≡ before .conditions .opencount
-  pub pins : now .conditions .pins ≡ before .conditions .pins
-  pub readings : now .readings ≡ before .readings
-  pub indications : now .indications ≡ before .indications
-  pub history : now .history ≡ before .history
+  pub untouched : Untouched before now
 
 -- "and HO or LO limits the output unless the mode is Hold or Track": numbers 15 and 16; a unit is 65,536 of the
 -- stored output

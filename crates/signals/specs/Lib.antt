@@ -1,4 +1,5 @@
 pub mod Bits
+pub mod Clock
 pub mod RefusalLaws
 pub mod Refusals
 pub mod Signals

@@ -8,6 +8,7 @@ use Prim.Native.Nat.{ℕ, _≤_, _<_}
 use native.Mathlib.Omega.{arith}
 use Rattle.signals.specs.Refusals.{refusedBy, scanTests}
 use Rattle.signals.specs.declared.Input.{Input}
+use Rattle.signals.specs.declared.clock.ClockReading.{ClockReading}
 
 -- every number of the list lies above this one
 abbrev pub Above : ℕ → List (Bool × ℕ) → Type 0
@@ -44,6 +45,7 @@ lowest-wins (t ∷ ts) a n e m (later h) = go (t .0) refl (λ d. lowest-wins ts 
     go false q f = f (rw q at e)
 
 -- the tests of a scan are listed so
-pub scan-ascends : (i : Input) → Ascending (scanTests i)
+pub scan-ascends : (last : ClockReading) (i : Input) → Ascending (scanTests last i)
 unfolding scanTests
-scan-ascends i = ((omega arith, (omega arith, tt)), ((omega arith, tt), (tt, tt)))
+scan-ascends last i =
+    ((omega arith, (omega arith, (omega arith, tt))), ((omega arith, (omega arith, tt)), ((omega arith, tt), (tt, tt))))

@@ -4,8 +4,10 @@ ghost use Prim.Native.Nat.{_<_};
 ghost use Rattle.signals.specs.Bits.{bit};
 ghost use Rattle.signals.specs.Refusals.{numberOf, numberIn, refusedBy, scanTests};
 ghost use Rattle.signals.specs.Signals.{switchesOf, pinsOf, buttonsOf, adjustmentOf, isOpen, batteryLow};
+use crate::clock::ClockReading;
 
 mod bits;
+pub mod clock;
 
 // The upper end of a channel's range.
 const GREATEST_SAMPLE: u16 = 10000;
@@ -13,7 +15,8 @@ const GREATEST_SAMPLE: u16 = 10000;
 // A sensor byte with both its bits set.
 const GREATEST_SENSORS: u8 = 3;
 
-// The pin byte, the samples of channels 1 to 3, the button byte and the sensor byte of one scan.
+// The pin byte, the samples of channels 1 to 3, the button byte, the sensor byte and the host's milliseconds of one
+// scan.
 pub struct Input {
     pub pins: u8,
     pub sample1: u16,
@@ -21,6 +24,7 @@ pub struct Input {
     pub sample3: u16,
     pub buttons: u8,
     pub sensors: u8,
+    pub milliseconds: u64,
 }
 
 // The used switches, true for ON: S2.1, S2.2, S2.3, S2.4, S2.5, S2.6, S2.8, S1.1.
@@ -60,7 +64,7 @@ pub enum Adjustment {
 }
 
 // Why a call is refused: 1 to 3 the plant's, 4 to 11 the writer's, of which 4 is a reader's too, 12 to 14 a restart's,
-// 15 a save's.
+// 15 a save's, 16 the plant's again.
 pub enum Refusal {
     // 1: a sample above 10000
     Sample,
@@ -92,6 +96,8 @@ pub enum Refusal {
     ImageValue,
     // 15: fewer than 137 bytes to save into
     ShortBuffer,
+    // 16: a reading less than 30 ms after the last accepted one, or before it
+    Clock,
 }
 
 // What a call that answers no value comes to: accepted, or why not.
@@ -205,14 +211,16 @@ impl Refusal {
             Refusal::ImageField => 13,
             Refusal::ImageValue => 14,
             Refusal::ShortBuffer => 15,
+            Refusal::Clock => 16,
         }
     }
 }
 
-// Whether a scan's input is acceptable, or the lowest refusal that applies. The contract rules out a refusal for a
-// cause that is not listed, one that is forgotten, and a higher number where a lower one applies.
-pub fn scan_verdict(input: Input) -> Verdict
-    ensures { λ r. ⌜ numberIn r ≡ refusedBy (scanTests input) ⌝ }
+// Whether a scan's input is acceptable after the last accepted reading, or the first refusal that applies: 16 comes
+// after 3. The contract rules out a refusal for a cause that is not listed, one that is forgotten, and a later one
+// where an earlier one applies.
+pub fn scan_verdict(last: ClockReading, input: Input) -> Verdict
+    ensures { λ r. ⌜ numberIn r ≡ refusedBy (scanTests last input) ⌝ }
 {
     let sample = (GREATEST_SAMPLE < input.sample1)
         | (GREATEST_SAMPLE < input.sample2)
@@ -220,6 +228,7 @@ pub fn scan_verdict(input: Input) -> Verdict
     let buttons = bit(input.buttons as u16, bits::RESERVED)
         | bit(input.buttons as u16, bits::MEASURED_POWER);
     let sensors = GREATEST_SENSORS < input.sensors;
+    let early = clock::is_too_early(last, input.milliseconds);
     if sample {
         return Verdict::Refused(Refusal::Sample);
     }
@@ -228,6 +237,9 @@ pub fn scan_verdict(input: Input) -> Verdict
     }
     if sensors {
         return Verdict::Refused(Refusal::SensorBits);
+    }
+    if early {
+        return Verdict::Refused(Refusal::Clock);
     }
     Verdict::Accepted
 }

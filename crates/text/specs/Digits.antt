@@ -2,18 +2,20 @@
 use mathlib.Core.Path.{_≡_, refl, ap, _∙_}
 use mathlib.Core.Bool.{Bool, true, false, cond}
 use mathlib.Core.List.{List, [], _∷_, _++_, append-assoc, append-nil}
+use mathlib.Core.Option.{Option, some, none}
 use Prim.Native.Nat.{ℕ, zero, suc, _+_, _-_, _*_, _/_, _%_, _^_, _≤_, _<_}
-use native.Mathlib.Nat.{mul-assoc, mul-comm, pow-zero, pow-suc, mul-le-mul-right, div-lt-iff-lt-mul}
+use native.Mathlib.Nat.{pow-suc, div-lt-iff-lt-mul}
 use native.Mathlib.Omega.{arith}
-use lib.Dec.{eqb, leb, ltb}
+use lib.Dec.{eqb, ltb}
 use lib.IntN.{ℤ, pos, negsuc, natAbs}
 use lib.ListN.{length, drop, getD, length-append, length-drop, List·getD-append}
 use borrow.Author.Tests.{ltb-true, ltb-false, lt-ltb, le-ltb, le-leb, ne-eqb}
 use Rattle.integers.specs.Choice.{by-cases}
 use Rattle.integers.specs.Sign.{fromSign, isNegative}
-use Rattle.text.specs.Numbers.{isDigit, readOn, digitsOf, numberOf, digit-range}
-use Rattle.text.specs.declared.ParsedNumber.{ParsedNumber}
-use Rattle.text.specs.declared.ParsedNumber.the-variants.{Number, Malformed}
+use Rattle.text.specs.Numbers.{isDigit, readOn, digitsOf, naturalOf, withSign, numberOf}
+use Rattle.text.specs.NumberLaws.{digits-sized, fits}
+use Rattle.text.specs.declared.ParsedNumber.the-variants.{Number}
+use Rattle.text.specs.declared.natural.ParsedNatural.the-variants.{Natural}
 
 -- the decimal digits of n, where `more` divisions by ten are enough to reach its first
 unfoldable pub digitsWithin : ℕ → ℕ → List ℕ
@@ -95,84 +97,68 @@ module _ (n : ℕ) where
 
   pub digits-few : (k : ℕ) → 0 < k → n < 10 ^ k → length (digits n) ≤ k
   unfolding digits
-  digits-few zero some h = absurd (omega arith)
-  digits-few (suc k) some h = few-within n n (omega arith) k h
+  digits-few zero any h = absurd (omega arith)
+  digits-few (suc k) any h = few-within n n (omega arith) k h
 
 -- an integer has a minus besides at the most
 pub decimal-few : (z : ℤ) (k : ℕ) → 0 < k → natAbs z < 10 ^ k → length (decimal z) ≤ suc k
 unfolding decimal
-decimal-few z k some h =
-    let d = digits-few (natAbs z) k some h in
+decimal-few z k any h =
+    let d = digits-few (natAbs z) k any h in
     by-cases (λ (ds : List ℕ). length ds ≤ suc k) (isNegative z) _ _ (λ e. omega arith) (λ e. omega arith)
 
 -- ---- read back
 
 -- one digit behind others
-read-digit : (minus : Bool) (v d : ℕ) (ds : List ℕ) → d < 10 → readOn minus v ((48 + d) ∷ ds) ≡ readOn minus (v * 10 + d) ds
+read-digit : (v d : ℕ) (ds : List ℕ) → d < 10 → readOn v ((48 + d) ∷ ds) ≡ readOn (v * 10 + d) ds
 unfolding readOn isDigit
-read-digit minus v d ds h =
-    simp (le-ltb (48 + d) 48 (omega arith), le-leb (48 + d) 57 (omega arith)) (ap (λ (x : ℕ). readOn minus (v * 10 + x) ds) (omega arith))
+read-digit v d ds h =
+    simp (le-ltb (48 + d) 48 (omega arith), le-leb (48 + d) 57 (omega arith)) (ap (λ (x : ℕ). readOn (v * 10 + x) ds) (omega arith))
 
 -- what stands behind the digits of n is read on from n
-read-within : (minus : Bool) (more n : ℕ) → n ≤ more → (ds : List ℕ) → readOn minus 0 (digitsWithin more n ++ ds) ≡ readOn minus n ds
-read-within minus =
-    by-digits (λ more n. (ds : List ℕ) → readOn minus 0 (digitsWithin more n ++ ds) ≡ readOn minus n ds)
-    (λ more n h ds. rw (within-last more n h) (read-digit minus 0 n ds h ∙ ap (λ (x : ℕ). readOn minus x ds) (omega arith)))
+read-within : (more n : ℕ) → n ≤ more → (ds : List ℕ) → readOn 0 (digitsWithin more n ++ ds) ≡ readOn n ds
+read-within =
+    by-digits (λ more n. (ds : List ℕ) → readOn 0 (digitsWithin more n ++ ds) ≡ readOn n ds)
+    (λ more n h ds. rw (within-last more n h) (read-digit 0 n ds h ∙ ap (λ (x : ℕ). readOn x ds) (omega arith)))
     (λ more n h r ds.
     rw (within-more more n h, append-assoc)
-    (r ((48 + n % 10) ∷ ds) ∙ read-digit minus (n / 10) (n % 10) ds (omega arith) ∙ ap (λ (x : ℕ). readOn minus x ds) (omega arith)))
+    (r ((48 + n % 10) ∷ ds) ∙ read-digit (n / 10) (n % 10) ds (omega arith) ∙ ap (λ (x : ℕ). readOn x ds) (omega arith)))
 
--- digits of a natural number, with the sign that stood before them
-digits-read : (minus : Bool) (n : ℕ) → n < 10 ^ 18 → digitsOf minus (digits n) ≡ Number (fromSign minus n)
+-- digits of a natural number that has no more than the most which are read
+digits-read : (most n : ℕ) → 0 < most → n < 10 ^ most → digitsOf most (digits n) ≡ some n
 unfolding digitsOf digits readOn
-digits-read minus n h =
-    let r = rw append-nil at (read-within minus n n (omega arith) []) in
-    simp (lt-ltb 0 (length (digits n)) (digits-first n .some), le-leb (length (digits n)) 18 (digits-few n 18 (omega arith) h)) r
+digits-read most n any h =
+    let r = rw append-nil at (read-within n n (omega arith) []) in
+    simp (lt-ltb 0 (length (digits n)) (digits-first n .some), le-leb (length (digits n)) most (digits-few n most any h)) r
+
+-- every natural number of 64 bits is read as it is written
+pub natural-read : (n : ℕ) → n < 2 ^ 64 → naturalOf (digits n) ≡ Natural n
+unfolding naturalOf
+natural-read n h = rw (digits-read 20 n (omega arith) (omega arith)) (fits n h)
 
 -- every number that a line can have is read as it is written
 pub decimal-read : (z : ℤ) → natAbs z < 10 ^ 18 → numberOf (decimal z) ≡ Number z
-unfolding numberOf decimal
+unfolding numberOf withSign decimal
 decimal-read (pos n) h =
     let first = digits-first n .first in
-    simp (le-ltb n 0 (omega arith), ne-eqb (getD (digits n) 0 0) 45 (λ e. omega arith)) (digits-read false n h)
-decimal-read (negsuc n) h = digits-read true (suc n) h
+    simp (le-ltb n 0 (omega arith), ne-eqb (getD (digits n) 0 0) 45 (λ e. omega arith), digits-read 18 n (omega arith) h)
+decimal-read (negsuc n) h = rw (digits-read 18 (suc n) (omega arith) h)
 
 -- ---- nothing shorter reads so
 
--- a choice that gave a number took its first arm
-number-of : (t : Bool) (x : ParsedNumber) (z : ℤ) → cond t x Malformed ≡ Number z → (t ≡ true) × (x ≡ Number z)
-number-of true x z e = (refl, e)
-number-of false x z e = let w : _≡_ {A = ℕ} 0 1 = cc in absurd (omega arith)
-
--- what digits read as: a number with their sign, below the power of ten of their count
-pub record Sized (minus : Bool) (most : ℕ) (z : ℤ) : Type 0 where
-  pub value : ℕ
-  pub signed : z ≡ fromSign minus value
-  pub below : value < most
-
-read-sized : (minus : Bool) (v : ℕ) (ds : List ℕ) (z : ℤ) → readOn minus v ds ≡ Number z → Sized minus ((v + 1) * 10 ^ length ds) z
-unfolding readOn
-read-sized minus v [] z e = record { value = v; signed = (cc); below = rw pow-zero (omega arith) }
-read-sized minus v (d ∷ ds) z e =
-    let t = number-of (isDigit d) _ z e in
-    let r = read-sized minus (v * 10 + (d - 48)) ds z (t .1) in
-    let g = digit-range d (t .0) in
-    let m : (v * 10 + (d - 48) + 1) * 10 ^ length ds ≤ (v + 1) * 10 * 10 ^ length ds = mul-le-mul-right (10 ^ length ds) (omega arith) in
-    record {
-      value = r .value;
-      signed = r .signed;
-      below = rw (pow-suc, mul-comm (10 ^ length ds) 10, ← mul-assoc) (omega (arith, m, r .below));
-    }
+-- digits with a sign that are a number have the value that was signed
+signed-of : (minus : Bool) (r : Option ℕ) (z : ℤ) → withSign minus r ≡ Number z → (n : ℕ) × (r ≡ some n) × (z ≡ fromSign minus n)
+unfolding withSign
+signed-of minus (some n) z e = (n, refl, (cc))
+signed-of minus none z e = let w : _≡_ {A = ℕ} 0 1 = cc in absurd (omega arith)
 
 -- no digits that read as a number are fewer than those written of it
-digits-shortest : (minus : Bool) (z : ℤ) (ds : List ℕ) → digitsOf minus ds ≡ Number z
+digits-shortest : (minus : Bool) (z : ℤ) (ds : List ℕ) → withSign minus (digitsOf 18 ds) ≡ Number z
     → (n : ℕ) × (z ≡ fromSign minus n) × (length (digits n) ≤ length ds)
-unfolding digitsOf
 digits-shortest minus z ds e =
-    let p = number-of (ltb 0 (length ds)) _ z e in
-    let q = number-of (leb (length ds) 18) _ z (p .1) in
-    let r = read-sized minus 0 ds z (q .1) in
-    (r .value, r .signed, digits-few (r .value) (length ds) (ltb-true 0 (length ds) (p .0)) (omega (arith, r .below)))
+    let r = signed-of minus (digitsOf 18 ds) z e in
+    let sized = digits-sized 18 ds (r .0) (r .1) in
+    (r .0, r .2, digits-few (r .0) (length ds) (sized .some-digit) (sized .below))
 
 -- the minus is one byte more
 decimal-length : (minus : Bool) (n : ℕ) → length (decimal (fromSign minus n)) ≤ cond minus (suc (length (digits n))) (length (digits n))
@@ -186,7 +172,7 @@ pub decimal-shortest : (z : ℤ) (s : List ℕ) → numberOf s ≡ Number z → 
 unfolding numberOf
 decimal-shortest z s = go (eqb (getD s 0 0) 45) refl
   where
-    go : (t : Bool) → eqb (getD s 0 0) 45 ≡ t → cond t (digitsOf true (drop 1 s)) (digitsOf false s) ≡ Number z
+    go : (t : Bool) → eqb (getD s 0 0) 45 ≡ t → cond t (withSign true (digitsOf 18 (drop 1 s))) (withSign false (digitsOf 18 s)) ≡ Number z
         → length (decimal z) ≤ length s
     go true f e =
         let r = digits-shortest true z (drop 1 s) e in

@@ -1,5 +1,6 @@
 pub mod Words
 pub mod Numbers
+pub mod NumberLaws
 pub mod Digits
 pub mod Hexadecimal
 pub mod HexadecimalLaws

@@ -1,10 +1,9 @@
--- A decimal number in a line: an optional minus and one to eighteen digits.
+-- Decimal numbers in a line: a natural number, and one that may have a minus.
 use mathlib.Core.Path.{_≡_, refl}
 use mathlib.Core.Bool.{Bool, true, false, cond, false≢true}
 use mathlib.Core.List.{List, [], _∷_}
+use mathlib.Core.Option.{Option, some, none}
 use Prim.Native.Nat.{ℕ, suc, _+_, _-_, _*_, _^_, _≤_, _<_}
-use native.Mathlib.Nat.{pow-suc, pow-le-pow-right}
-use native.Mathlib.Numerals.{add-one}
 use native.Mathlib.Omega.{arith}
 use lib.Dec.{eqb, leb, ltb}
 use lib.ListN.{length, drop, getD, length-drop}
@@ -13,20 +12,38 @@ use borrow.Author.Tests.{ltb-false, leb-true}
 use Rattle.integers.specs.Sign.{fromSign}
 use Rattle.text.specs.declared.ParsedNumber.{ParsedNumber}
 use Rattle.text.specs.declared.ParsedNumber.the-variants.{Number, Malformed}
+use Rattle.text.specs.declared.natural.ParsedNatural.{ParsedNatural}
+use Rattle.text.specs.declared.natural.ParsedNatural.the-variants as natural
 
 unfoldable pub isDigit : ℕ → Bool
 isDigit b = cond (ltb b 48) false (leb b 57)
 
--- the value of digits that follow those of v
-unfoldable pub readOn : Bool → ℕ → List ℕ → ParsedNumber
-readOn minus v [] = Number (fromSign minus v)
-readOn minus v (b ∷ bs) = cond (isDigit b) (readOn minus (v * 10 + (b - 48)) bs) Malformed
+-- the value of digits that follow those of v; none where another byte is among them
+unfoldable pub readOn : ℕ → List ℕ → Option ℕ
+readOn v [] = some v
+readOn v (b ∷ bs) = cond (isDigit b) (readOn (v * 10 + (b - 48)) bs) none
 
-unfoldable pub digitsOf : Bool → List ℕ → ParsedNumber
-digitsOf minus ds = cond (ltb 0 (length ds)) (cond (leb (length ds) 18) (readOn minus 0 ds) Malformed) Malformed
+-- the value of one digit or more, at most so many
+unfoldable pub digitsOf : ℕ → List ℕ → Option ℕ
+digitsOf most ds = cond (ltb 0 (length ds)) (cond (leb (length ds) most) (readOn 0 ds) none) none
+
+-- ---- a natural number of 64 bits: one to twenty digits, and no sign
+
+unfoldable pub within64 : Option ℕ → ParsedNatural
+within64 (some v) = cond (ltb v (2 ^ 64)) (natural.Natural v) natural.Malformed
+within64 none = natural.Malformed
+
+unfoldable pub naturalOf : List ℕ → ParsedNatural
+naturalOf s = within64 (digitsOf 20 s)
+
+-- ---- a number: an optional minus and one to eighteen digits
+
+unfoldable pub withSign : Bool → Option ℕ → ParsedNumber
+withSign minus (some v) = Number (fromSign minus v)
+withSign minus none = Malformed
 
 unfoldable pub numberOf : List ℕ → ParsedNumber
-numberOf s = cond (eqb (getD s 0 0) 45) (digitsOf true (drop 1 s)) (digitsOf false s)
+numberOf s = cond (eqb (getD s 0 0) 45) (withSign true (digitsOf 18 (drop 1 s))) (withSign false (digitsOf 18 s))
 
 -- ---- laws
 
@@ -44,27 +61,18 @@ no-bytes (x ∷ xs) h = absurd (omega arith)
 
 -- what is empty is no number
 pub none-read : (s : List ℕ) → length s ≡ 0 → Malformed ≡ numberOf s
-unfolding numberOf digitsOf
+unfolding numberOf withSign digitsOf
 none-read s h = rw (no-bytes s h)
 
-module _ (minus : Bool) (v : ℕ) (s : List ℕ) (i : ℕ) where
-  pub read-more : i < length s → isDigit (getD s i 0) ≡ true → readOn minus v (drop i s) ≡ readOn minus (v * 10 + (getD s i 0 - 48))
-      (drop (suc i) s)
+module _ (v : ℕ) (s : List ℕ) (i : ℕ) where
+  pub read-more : i < length s → isDigit (getD s i 0) ≡ true → readOn v (drop i s) ≡ readOn (v * 10 + (getD s i 0 - 48)) (drop (suc i) s)
   unfolding readOn
   read-more inside e = rw (drop-cons s i 0) (simp e)
 
-  pub read-fails : i < length s → isDigit (getD s i 0) ≡ false → readOn minus v (drop i s) ≡ Malformed
+  pub read-fails : i < length s → isDigit (getD s i 0) ≡ false → readOn v (drop i s) ≡ none
   unfolding readOn
   read-fails inside e = rw (drop-cons s i 0) (simp e)
 
-  pub read-ends : length s ≤ i → readOn minus v (drop i s) ≡ Number (fromSign minus v)
+  pub read-ends : length s ≤ i → readOn v (drop i s) ≡ some v
   unfolding readOn
   read-ends past = rw (no-bytes (drop i s) (omega (arith, length-drop i s)))
-
--- one digit more
-pub digits-more : (value i d : ℕ) → value < 10 ^ i → d ≤ 9 → value * 10 + d < 10 ^ (i + 1)
-digits-more value i d h k = rw (add-one, pow-suc) (omega arith)
-
--- eighteen digits at the most fit
-pub digits-fit : (value i : ℕ) → value < 10 ^ i → i ≤ 18 → value < 1000000000000000000
-digits-fit value i h k = omega (arith, pow-le-pow-right {n = 10} (omega arith) k)

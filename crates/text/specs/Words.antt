@@ -2,9 +2,9 @@
 use mathlib.Core.Path.{_≡_, refl, ap}
 use mathlib.Core.Bool.{Bool, true, false, not, cond}
 use mathlib.Core.List.{List, [], _∷_}
-use Prim.Native.Nat.{ℕ, suc, _+_, _≤_, _<_}
+use Prim.Native.Nat.{ℕ, zero, suc, _+_, _-_, _≤_, _<_}
 use native.Mathlib.Omega.{arith}
-use lib.Dec.{eqb}
+use lib.Dec.{eqb, ltb}
 use lib.ListN.{length, drop, getD, length-drop, drop-of-length-le}
 use lib.Seq.{drop-cons}
 use borrow.Author.Tests.{eq-eqb, ne-eqb, eqb-true}
@@ -25,6 +25,18 @@ unfoldable pub wordAt : List ℕ → ℕ → Span
 wordAt line at =
     let from = at + leading true (drop at line) in
     record { from = from; to = from + leading false (drop from line) }
+
+-- that word if no other follows it, else an empty one
+unfoldable pub onlyWord : List ℕ → ℕ → Span
+onlyWord line at =
+    let word = wordAt line at in
+    let behind = wordAt line (word .to) in
+    cond (ltb (behind .from) (behind .to)) (record { from = at; to = at }) word
+
+-- the place behind so many words, or behind all where there are fewer
+unfoldable pub afterWords : ℕ → List ℕ → ℕ → ℕ
+afterWords zero line at = at
+afterWords (suc count) line at = afterWords count line (wordAt line at .to)
 
 -- whether two words are the same
 unfoldable pub sameBytes : List ℕ → List ℕ → Bool
@@ -53,6 +65,12 @@ module _ (blank : Bool) (s : List ℕ) (i : ℕ) (inside : i < length s) where
 
 pub leading-none : (blank : Bool) (s : List ℕ) (i : ℕ) → length s ≤ i → i + leading blank (drop i s) ≡ i
 leading-none blank s i h = omega (arith, leading-most blank (drop i s), length-drop i s)
+
+-- one word more
+pub words-more : (line : List ℕ) (count at : ℕ) → 0 < count → afterWords count line at ≡ afterWords (count - 1) line (wordAt line at .to)
+unfolding afterWords
+words-more line zero at h = absurd (omega arith)
+words-more line (suc count) at h = let rest : suc count - 1 ≡ count = omega arith in rw rest
 
 -- words of different length are different
 pub same-unequal : (a b : List ℕ) → (length a ≡ length b → ⊥) → sameBytes a b ≡ false

@@ -3,11 +3,13 @@ ghost use mathlib.Core.Path.{_≡_};
 ghost use mathlib.Core.Bool.{true};
 ghost use Prim.Native.Nat.{_+_, _-_, _≤_, max};
 ghost use lib.ListN.{length, drop};
-ghost use Rattle.text.specs.Words.{fitsBlank, leading, wordAt, sameBytes};
-ghost use Rattle.text.specs.Numbers.{isDigit, digitsOf, numberOf};
+ghost use Rattle.text.specs.Words.{fitsBlank, leading, wordAt, onlyWord, afterWords, sameBytes};
+ghost use Rattle.text.specs.Numbers.{isDigit, digitsOf, withSign, numberOf};
+use natural::ParsedNatural;
 
 pub mod arguments;
 pub mod hexadecimal;
+pub mod natural;
 
 // The bytes of a line from `from` up to `to`.
 pub struct Span {
@@ -51,6 +53,35 @@ pub fn word(line: &[u8], at: usize) -> Span
     Span { from, to }
 }
 
+// The only word at or behind a place; an empty one where there is none, or a second one. The contract rules out the
+// first of two words.
+pub fn only_word(line: &[u8], at: usize) -> Span
+    ensures { λ r. ⌜ r ≡ onlyWord (now (line .entry)) at ⌝ }
+    ensures { λ r. ⌜ (at ≤ r .from) × (r .from ≤ r .to) × (r .to ≤ max at (length (now (line .entry)))) ⌝ }
+{
+    let w = word(line, at);
+    let behind = word(line, w.to);
+    if behind.from < behind.to {
+        return Span { from: at, to: at };
+    }
+    w
+}
+
+// The place behind so many words, or behind all where there are fewer. The contract rules out a word too many.
+pub fn after_words(line: &[u8], start: usize, count: usize) -> usize
+    ensures { λ r. ⌜ (r ≡ afterWords count (now (line .entry)) start)
+        × (start ≤ r) × (r ≤ max start (length (now (line .entry)))) ⌝ }
+{
+    let mut at = start;
+    let mut left = count;
+    while 0 < left {
+        let w = word(line, at);
+        at = w.to;
+        left -= 1;
+    }
+    at
+}
+
 // Whether two words are the same. The contract rules out a word that is taken for a longer one.
 pub fn same(a: &[u8], b: &[u8]) -> bool
     ensures { λ r. ⌜ r ≡ sameBytes (now (a .entry)) (now (b .entry)) ⌝ }
@@ -82,25 +113,16 @@ fn digit(b: u8) -> u64
 }
 
 fn digits(minus: bool, s: &[u8]) -> ParsedNumber
-    ensures { λ r. ⌜ r ≡ digitsOf minus (now (s .entry)) ⌝ }
+    ensures { λ r. ⌜ r ≡ withSign minus (digitsOf 18 (now (s .entry))) ⌝ }
 {
-    if s.len() == 0 {
-        return ParsedNumber::Malformed;
-    }
     if 18 < s.len() {
         return ParsedNumber::Malformed;
     }
-    let mut value: u64 = 0;
-    let mut i = 0;
-    while i < s.len() {
-        let b = s[i];
-        if !is_digit(b) {
-            return ParsedNumber::Malformed;
-        }
-        value = value * 10 + digit(b);
-        i += 1;
+    let reading = natural::parse(s);
+    match reading {
+        ParsedNatural::Natural(value) => ParsedNumber::Number(integers::signed(minus, value)),
+        ParsedNatural::Malformed => ParsedNumber::Malformed,
     }
-    ParsedNumber::Number(integers::signed(minus, value))
 }
 
 // A decimal number: an optional minus and one to eighteen digits. The contract rules out a wrong value and taking what

@@ -41,7 +41,7 @@ use Rattle.worked.specs.ModelCalls.{modelCalls}
 use Rattle.worked.proofs.Worked.{_and_}
 
 pub model-calls-hold : AllHold modelCalls
-unfolding modelCalls s.scan s.scanCore s.accepted s.responseFrom s.controllerAfter s.contextOf s.computedIn
+unfolding modelCalls s.scan s.scanCore s.accepted s.earlierScans h.historyBefore s.responseFrom s.controllerAfter s.contextOf s.computedIn
     s.indicationsAfter s.coreAfter s.statusOf s.modeNow s.refused a.opOf a.electricalOf refusedBy scanTests buttonsOf
     pinsOf switchesOf adjustmentOf m.counted m.openCountAfter m.conditionsAfter m.modeOf m.goesToMinimum byteOf mdHigh
     mdLow MD dsLow DS value withValue e.computed e.lowAlarm e.highAlarm p.firstSample p.processVariable p.thirdChannel
@@ -61,8 +61,8 @@ unfolding modelCalls s.scan s.scanCore s.accepted s.responseFrom s.controllerAft
     t.valueAt t.userBitsNumber t.userBitsIn t.parameterIn t.parametersIn t.settingsIn t.isSumRight t.areOthersLegal
     t.legalUserBits listed asWord fromWord
 model-calls-hold =
-    refl and refl and refl and refl and refl and refl and
-    refl and refl and refl and refl and refl and refl and
+    refl and refl and refl and refl and refl and refl and refl and refl and
+    refl and refl and refl and refl and refl and refl and refl and refl and
     refl and refl and refl and refl and refl and refl and refl and refl and refl and
     refl and
     refl and refl and refl and refl and refl and

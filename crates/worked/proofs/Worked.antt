@@ -27,6 +27,7 @@ use Rattle.setpoints.specs.Setpoints as p
 use Rattle.terms.specs.Fraction.{whole, plus, atLeast, atMost, limited, stored, storedUnits, limitedStored}
 use Rattle.terms.specs.Terms.{proportionalTerm, integralTerm, derivativeTerm, limitedTerm, storedTerm}
 use Rattle.outputs.specs.ControlDifference as d
+use Rattle.outputs.specs.History as h
 use Rattle.outputs.specs.Instruction as o
 use Rattle.outputs.specs.Outputs as u
 use Rattle.controller.specs.Answers as a
@@ -40,23 +41,24 @@ use Rattle.controller.specs.State.{freshController}
 use Rattle.controller.specs.Write as w
 use Rattle.controller.specs.Write.{write}
 use Rattle.controller.specs.declared.Controller.{Controller}
-use Rattle.worked.specs.Figures.{AllHold, firstScan, figures, furtherFigures}
+use Rattle.worked.specs.Figures.{AllHold, figures, furtherFigures, onceScanned, scanFigures}
 
 infixr 5 _and_
 pub _and_ : {A B : Type 0} → A → B → A × B
 a and b = (a, b)
 
-scan-figure : scan (freshController 0) firstScan .answer ≡ words 0x1002 0x913F 0 0 Auto (pos 500)
-unfolding s.scan s.scanCore s.accepted s.responseFrom s.controllerAfter s.contextOf s.computedIn s.indicationsAfter
-    s.coreAfter s.statusOf s.modeNow State.freshController State.freshCore State.startReadings a.opOf a.electricalOf
-    refusedBy scanTests buttonsOf pinsOf switchesOf adjustmentOf m.counted m.openCountAfter m.conditionsAfter m.modeOf
-    m.goesToMinimum byteOf mdHigh mdLow MD dsLow DS value withValue r.computed r.lowAlarm r.highAlarm p.firstSample
-    p.processVariable p.thirdChannel p.movedByHand p.ratioAfter p.setpointMoved p.setpointAfter p.trimOf
-    p.localSetpoint p.setpointIn p.setpointOf p.measuredPower scaled halfUp Limit.limited Limit.atLeast Limit.atMost
-    d.controlDifference d.earlierSetpoint d.changeOfDifference d.secondDifference d.tuningOf o.storedArithmetic o.changed
-    o.limitedTo o.executed u.termsOf u.byTerms u.limitsIn u.instructionOf proportionalTerm integralTerm derivativeTerm
-    limitedTerm storedTerm whole atLeast atMost limited stored storedUnits limitedStored nearestEven halfEven
-scan-figure = refl
+pub scan-figures-hold : AllHold scanFigures
+unfolding scanFigures onceScanned s.refused h.historyAfter s.scan s.scanCore s.accepted s.earlierScans h.historyBefore s.responseFrom
+    s.controllerAfter s.contextOf s.computedIn s.indicationsAfter s.coreAfter s.statusOf s.modeNow State.freshController
+    State.freshCore State.startReadings a.opOf a.electricalOf refusedBy scanTests buttonsOf pinsOf switchesOf
+    adjustmentOf m.counted m.openCountAfter m.conditionsAfter m.modeOf m.goesToMinimum byteOf mdHigh mdLow MD dsLow DS
+    value withValue r.computed r.lowAlarm r.highAlarm p.firstSample p.processVariable p.thirdChannel p.movedByHand
+    p.ratioAfter p.setpointMoved p.setpointAfter p.trimOf p.localSetpoint p.setpointIn p.setpointOf p.measuredPower
+    scaled halfUp Limit.limited Limit.atLeast Limit.atMost d.controlDifference d.earlierSetpoint d.changeOfDifference
+    d.secondDifference d.tuningOf o.storedArithmetic o.changed o.limitedTo o.executed u.termsOf u.byTerms u.limitsIn
+    u.instructionOf proportionalTerm integralTerm derivativeTerm limitedTerm storedTerm whole atLeast atMost limited
+    stored storedUnits limitedStored nearestEven halfEven
+scan-figures-hold = refl and refl and refl and refl and refl and refl and tt
 
 -- each word is refused with 9 whatever else the state is
 write-figures : (c : Controller) → (write c 24 (pos 0x0000) ≡ record { next = c; answer = number 9 }) ×
@@ -93,4 +95,4 @@ worked =
 pub further-figures-hold : AllHold furtherFigures
 unfolding furtherFigures o.changed o.exactArithmetic plus proportionalTerm integralTerm derivativeTerm limitedTerm
     storedTerm whole atLeast atMost limited stored storedUnits nearestEven halfEven
-further-figures-hold = refl and refl and (lit< tt, lit< tt, refl) and scan-figure and tt
+further-figures-hold = refl and refl and (lit< tt, lit< tt, refl) and tt

@@ -1,5 +1,5 @@
 -- Document 01, "Worked by hand (all to be proved)": one list of statements about the rules, in the paper's order.
--- Further figures, which are ours, stand in a list of their own behind it. proofs/Worked.antt proves both.
+-- Further figures, which are ours, stand in two lists of their own behind it. proofs/Worked.antt proves them all.
 use mathlib.Core.Path.{_≡_}
 use mathlib.Core.Bool.{true, false}
 use mathlib.Core.List.{List, [], _∷_}
@@ -7,6 +7,7 @@ use Prim.Native.Nat.{ℕ, zero, suc}
 use lib.IntN.{ℤ, pos, negℤ, _*ℤ_}
 use lib.ListN.{drop}
 use Rattle.signals.specs.declared.Input.{Input}
+use Rattle.signals.specs.declared.clock.ClockReading.the-variants.{At}
 use Rattle.modes.specs.Modes.{isCause, counted, openCountAfter}
 use Rattle.modes.specs.declared.Conditions.{Conditions}
 use Rattle.modes.specs.declared.Mode.the-variants.{Auto}
@@ -18,6 +19,7 @@ use Rattle.terms.specs.Fraction.{Fraction, Positive, whole}
 use Rattle.terms.specs.Terms.{proportionalTerm, integralTerm, derivativeTerm, limitedTerm, storedTerm}
 use Rattle.terms.specs.declared.Tuning.{Tuning}
 use Rattle.outputs.specs.Instruction.{Change, addTerms, exactArithmetic, changed}
+use Rattle.outputs.specs.declared.History.the-variants.{One, Two}
 use Rattle.controller.specs.Answers.{words, number}
 use Rattle.controller.specs.Save.{savedImage}
 use Rattle.controller.specs.Scan.{scan}
@@ -84,9 +86,6 @@ figures =
 abbrev pub termsFrom : Tuning → ℕ → ℕ → ℕ → Change
 termsFrom t change c d = addTerms (proportionalTerm t (pos change)) (integralTerm t (pos c)) (derivativeTerm t (pos d))
 
-abbrev pub firstScan : Input
-firstScan = record { pins = 0x91; sample1 = 5000; sample2 = 0; sample3 = 0; buttons = 2; sensors = 0 }
-
 -- Ours, beside the paper's figures
 unfoldable pub furtherFigures : List (Type 0)
 furtherFigures =
@@ -95,6 +94,30 @@ furtherFigures =
     ∷ (storedTerm (derivativeTerm (example 0 10) (pos 100)) ≡ negℤ (pos 655360000))
     -- the exact controller's output with the term of 0.36 units and two of 0: "its limited terms are added unrounded"
     ∷ Equal (changed exactArithmetic (termsFrom (example 10 0) 0 1 0) (whole (pos 0))) (record { numerator = pos 36; denominator = 100 })
-    -- a whole scan: started fresh with SW 0, pins 91h, half of channel 1's range, A pressed
-    ∷ (scan (freshController 0) firstScan .answer ≡ words 0x1002 0x913F 0 0 Auto (pos 500))
+    ∷ []
+
+abbrev pub firstScan : Input
+firstScan = record { pins = 0x91; sample1 = 5000; sample2 = 0; sample3 = 0; buttons = 2; sensors = 0; milliseconds = 1000 }
+
+-- the controller that it leaves, and a scan at another reading of the clock
+unfoldable pub onceScanned : Controller
+onceScanned = scan (freshController 0) firstScan .next
+
+abbrev pub nextScan : ℕ → Input
+nextScan milliseconds =
+    record { pins = 0x91; sample1 = 5100; sample2 = 0; sample3 = 0; buttons = 0; sensors = 0; milliseconds = milliseconds }
+
+-- whole scans, which are ours too
+unfoldable pub scanFigures : List (Type 0)
+scanFigures =
+    -- started fresh with SW 0, pins 91h, half of channel 1's range, A pressed
+    (scan (freshController 0) firstScan .answer ≡ words 0x1002 0x913F 0 0 Auto (pos 500))
+    -- document 02, request 2: 29 ms after it a scan is refused with 16 and nothing moves; 30 and 42 ms after it one is
+    -- ordinary, and two PVs are remembered; 43 ms after it the earlier one is forgotten
+    ∷ (scan onceScanned (nextScan 1029) ≡ record { next = onceScanned; answer = number 16 })
+    ∷ (scan onceScanned (nextScan 1030) .next .core .history ≡ Two (pos 510) (pos 0) (pos 500))
+    ∷ (scan onceScanned (nextScan 1042) .next .core .history ≡ Two (pos 510) (pos 0) (pos 500))
+    ∷ (scan onceScanned (nextScan 1043) .next .core .history ≡ One (pos 510) (pos 0))
+    -- and its reading is the last
+    ∷ (scan onceScanned (nextScan 1043) .next .core .clock ≡ At 1043)
     ∷ []

@@ -1,122 +1,63 @@
--- `text::digits` meets its contract. Every byte passed is a digit, so what is left, read on from their value, is what
--- the whole reads.
-use mathlib.Core.Path.{_≡_, sym, ap, _∙_}
-use mathlib.Core.Bool.{true}
-use Prim.Native.Nat.{_-_, _^_, _≤_, _<_}
-use native.Mathlib.Numerals.{add-one}
+-- `text::digits` meets its contract.
+use mathlib.Core.Path.{sym, ap, _∙_}
 use native.Mathlib.Omega.{arith}
-use lib.ListN.{length, drop, getD}
+use lib.ListN.{length}
 use mir.Syntax.{w64}
 use borrow.Author.Needs.{needs}
-use borrow.Author.Tests.{not-true, not-false, lt-ltb, le-leb, lt-leb}
+use borrow.Author.Tests.{lt-ltb, lt-leb}
 use Rattle.integers.specs.Machine.{back}
+use Rattle.text.specs.Numbers.{digitsOf, withSign}
+use Rattle.text.specs.NumberLaws.{few-read, few-none}
 use Rattle.text.specs.declared.ParsedNumber.the-variants.{Number}
-use Rattle.text.specs.Numbers.{isDigit, readOn, digitsOf, digit-range, read-more, read-fails, read-ends, digits-more, digits-fit}
 use Rattle.text.proofs.digits.Statement.{statement}
 use Rattle.text.proofs.digits.Tie as tie
 
-abbrev Inv-loop : tie.InvT-loop
-Inv-loop minus s value₀ i₀ value i = (i ≤ length s) × (value < 10 ^ i) × (digitsOf minus s ≡ readOn minus value (drop i s))
+returns : tie.Need-returns
+unfolding withSign digitsOf
+returns c =
+    let s = c .before .before .args .s .now in
+    simp (lt-ltb 0 (length s) (search needs), lt-leb (length s) 18 (c .if1 .taken))
 
-abbrev μ-loop : tie.MeasureT-loop
-μ-loop minus s value₀ i₀ value i = length s - i
+parse-requires : tie.Need-parse-requires
+parse-requires c κs = search needs
 
-returns : tie.Need-returns Inv-loop μ-loop
-unfolding digitsOf
-returns c = simp (c .if1 .taken)
+enum-known-reading : tie.Need-enum-known-reading
+enum-known-reading c = search needs
 
-returns-2 : tie.Need-returns-2 Inv-loop μ-loop
-unfolding digitsOf
-returns-2 c =
-    let s = c .before .before .before .args .s .now in
-    simp (lt-ltb 0 (length s) (search needs), lt-leb (length s) 18 (c .if2 .taken))
-
-loop-holds : tie.Need-loop-holds Inv-loop μ-loop
-unfolding digitsOf
-loop-holds c =
-    let s = c .before .before .before .args .s .now in
-    (search needs, search needs, simp (lt-ltb 0 (length s) (search needs), le-leb (length s) 18 (search needs)))
-
-shared-slice-read-b : tie.Need-shared-slice-read-b Inv-loop μ-loop
-shared-slice-read-b c = search needs
-
-is-digit-requires : tie.Need-is-digit-requires Inv-loop μ-loop
-is-digit-requires c κs = search needs
-
-returns-3 : tie.Need-returns-3 Inv-loop μ-loop
-returns-3 c =
-    let l = c .before .before .before .before in
-    let s = l .before .before .before .before in
-    sym (l .loop .inv .2 ∙ read-fails (s .args .minus) (l .loop .value) (s .args .s .now) (l .loop .i) (search needs)
-    (sym (c .before .is-digit .ensures) ∙ not-true _ (c .if3 .taken)))
-
-mul-value : tie.Need-mul-value Inv-loop μ-loop
-mul-value c =
-    let l = c .before .before .before .before in
-    omega (arith, digits-fit (l .loop .value) (l .loop .i) (l .loop .inv .1) (search needs))
-
-digit-requires : tie.Need-digit-requires Inv-loop μ-loop
-digit-requires c κs = sym (c .before .is-digit .ensures) ∙ not-false _ (c .if3 .left)
-
-module _ (c : tie.After-digit Inv-loop μ-loop) where
-  is-one : isDigit (getD (c .before .before .before .before .before .before .before .before .before .args .s .now)
-      (c .before .before .before .before .before .loop .i) 0) ≡ true
-  is-one = sym (c .before .before .is-digit .ensures) ∙ not-false _ (c .before .if3 .left)
-
-  digit-most : c .digit .result ≤ 9
-  digit-most = omega (arith, c .digit .ensures, digit-range _ is-one)
-
-add-value : tie.Need-add-value Inv-loop μ-loop
-add-value c =
-    let l = c .before .before .before .before .before in
-    omega (arith, digit-most c, digits-fit (l .loop .value) (l .loop .i) (l .loop .inv .1) (search needs))
-
-add-i : tie.Need-add-i Inv-loop μ-loop
-add-i c = search needs
-
-loop-less : tie.Need-loop-less Inv-loop μ-loop
-loop-less c = search needs
-
-loop-again : tie.Need-loop-again Inv-loop μ-loop
-loop-again c =
-    let l = c .before .before .before .before .before in
-    let s = l .before .before .before .before in (
-      search needs,
-      digits-more (l .loop .value) (l .loop .i) (c .digit .result) (l .loop .inv .1) (digit-most c),
-      l .loop .inv .2 ∙
-          rw (add-one, c .digit .ensures)
-          (read-more (s .args .minus) (l .loop .value) (s .args .s .now) (l .loop .i) (search needs) (is-one c)),
-    )
-
-signed-requires : tie.Need-signed-requires Inv-loop μ-loop
+signed-requires : tie.Need-signed-requires
 signed-requires c κs =
-    let l = c .before in
-    omega (arith, digits-fit (l .loop .value) (l .loop .i) (l .loop .inv .1) (search needs))
+    let p = c .before .before .before in
+    let s = p .before .before .before .args .s .now in
+    let r = few-read s (search needs) (c .before .reading .given .0 .0) (sym (p .parse .ensures) ∙ c .before .reading .given .1) in
+    omega (arith, r .1)
 
-returns-4 : tie.Need-returns-4 Inv-loop μ-loop
-returns-4 c =
-    let l = c .before .before in
-    let s = l .before .before .before .before in
-    ap Number (back w64 _ (c .signed .ok) ∙ c .signed .ensures) ∙
-    sym (l .loop .inv .2 ∙ read-ends (s .args .minus) (l .loop .value) (s .args .s .now) (l .loop .i) (search needs))
+enum-told : tie.Need-enum-told
+enum-told c = search needs
+
+returns-2 : tie.Need-returns-2
+unfolding withSign
+returns-2 c =
+    let e = c .before .before in
+    let p = e .before .before in
+    let s = p .before .before .before .args .s .now in
+    let r = few-read s (search needs) (e .reading .given .0 .0) (sym (p .parse .ensures) ∙ e .reading .given .1) in
+    rw (r .0) (ap Number (back w64 _ (c .signed .ok) ∙ c .signed .ensures))
+
+returns-3 : tie.Need-returns-3
+unfolding withSign
+returns-3 c =
+    let p = c .before .before in
+    let s = p .before .before .before .args .s .now in
+    rw (few-none s (search needs) (sym (p .parse .ensures) ∙ c .enum-told .given .1))
 
 pub digits-spec : {M : Type 1} → statement M
 digits-spec =
     tie.close
     (tie.spec
-    Inv-loop
-    μ-loop
     returns
-    returns-2
-    loop-holds
-    shared-slice-read-b
-    is-digit-requires
-    returns-3
-    mul-value
-    digit-requires
-    add-value
-    add-i
-    loop-less
-    loop-again
+    parse-requires
+    enum-known-reading
     signed-requires
-    returns-4)
+    enum-told
+    returns-2
+    returns-3)

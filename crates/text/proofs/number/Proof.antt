@@ -1,13 +1,14 @@
 -- `text::number` meets its contract.
 use mathlib.Core.Path.{ap, _∙_}
 use mathlib.Core.Bool.{true}
-use Prim.Native.Nat.{_-_}
+use mathlib.Core.List.{List}
+use Prim.Native.Nat.{ℕ, _-_}
 use native.Mathlib.Omega.{arith}
 use lib.ListN.{length, drop, length-drop}
 use lib.Seq.{take-all}
 use borrow.Author.Needs.{needs}
 use borrow.Author.Tests.{eq-eqb, ne-eqb}
-use Rattle.text.specs.Numbers.{numberOf, digitsOf, none-read}
+use Rattle.text.specs.Numbers.{digitsOf, withSign, numberOf, none-read}
 use Rattle.text.proofs.number.Statement.{statement}
 use Rattle.text.proofs.number.Tie as tie
 
@@ -33,8 +34,9 @@ returns-2 : tie.Need-returns-2
 unfolding numberOf
 returns-2 c =
     let s = c .before .before .before .before .before .before .args .s .now in
+    let whole = take-all (length s - 1) (drop 1 s) (omega (arith, length-drop 1 s)) in
     simp (eq-eqb _ _ (c .before .before .if2 .taken))
-    (c .digits .ensures ∙ ap (digitsOf true) (take-all (length s - 1) (drop 1 s) (omega (arith, length-drop 1 s))))
+    (c .digits .ensures ∙ ap (λ (ds : List ℕ). withSign true (digitsOf 18 ds)) whole)
 
 digits-requires-2 : tie.Need-digits-requires-2
 digits-requires-2 c κs = search needs

@@ -1,55 +1,61 @@
 -- `console::call::perform` meets its contract.
 use mathlib.Core.Path.{_≡_, refl, ap, _∙_}
 use mir.Syntax.{w32}
-use borrow.Author.Needs.{needs}
 use Rattle.integers.specs.Machine.{back}
+use Rattle.signals.specs.declared.clock.ClockReading.{ClockReading}
 use Rattle.controller.specs.Valid.{Valid}
 use Rattle.controller.specs.declared.Controller.{Controller}
 use Rattle.console.specs.CallLaws.{valid-performed}
 use Rattle.console.specs.Calls.{replyTo, unchangedWith, performed, bufferAfter}
-use Rattle.console.specs.declared.call.Reply.the-variants.{Accepted}
+use Rattle.console.specs.declared.call.Reply.the-variants.{Accepted, Clock}
 use Rattle.console.specs.declared.call.Step.{Step}
 use Rattle.console.proofs.call.perform.Statement.{statement}
 use Rattle.console.proofs.call.perform.Tie as tie
 
 enum-known-call : tie.Need-enum-known-call
-enum-known-call c = search needs
+enum-known-call c = c .match .keys1
 
 fresh-requires : tie.Need-fresh-requires
-fresh-requires c κs = search needs
+fresh-requires c κs = tt
 
 enum-known-call-2 : tie.Need-enum-known-call-2
-enum-known-call-2 c = search needs
+enum-known-call-2 c = c .match .keys2
 
 scan-requires : tie.Need-scan-requires
-scan-requires c κs = search needs
+scan-requires c κs = c .before .before .before .before .pre
 
 enum-known-call-3 : tie.Need-enum-known-call-3
-enum-known-call-3 c = search needs
+enum-known-call-3 c = c .match .keys3
 
 write-requires : tie.Need-write-requires
-write-requires c κs = search needs
+write-requires c κs = c .before .before .before .before .pre
 
 enum-known-call-4 : tie.Need-enum-known-call-4
-enum-known-call-4 c = search needs
+enum-known-call-4 c = c .match .keys4
 
 read-requires : tie.Need-read-requires
-read-requires c κs = search needs
+read-requires c κs = c .before .before .before .before .pre
 
 reply-to-read-requires : tie.Need-reply-to-read-requires
-reply-to-read-requires c κs = search needs
+reply-to-read-requires c κs = tt
 
 enum-known-call-5 : tie.Need-enum-known-call-5
-enum-known-call-5 c = search needs
+enum-known-call-5 c = c .match .keys5
 
 restart-requires : tie.Need-restart-requires
-restart-requires c κs = search needs
+restart-requires c κs = tt
 
 enum-known-call-6 : tie.Need-enum-known-call-6
-enum-known-call-6 c = search needs
+enum-known-call-6 c = c .match .keys6
 
 save-requires : tie.Need-save-requires
-save-requires c κs = search needs
+save-requires c κs = c .before .before .before .before .before .pre
+
+enum-told : tie.Need-enum-told
+enum-told c = c .match .keys7
+
+last-reading-requires : tie.Need-last-reading-requires
+last-reading-requires c κs = tt
 
 -- that a step is what the call gives
 abbrev IsStep : tie.Start → Step → Type 0
@@ -96,7 +102,7 @@ returns-4 c =
     (r, rw e refl, valid s _ r)
 
 same-length : tie.Need-same-length
-same-length c = search needs
+same-length c = refl
 
 returns-5 : tie.Need-returns-5
 unfolding performed bufferAfter
@@ -108,7 +114,7 @@ returns-5 c =
     (r, rw e refl, valid s _ r)
 
 same-length-2 : tie.Need-same-length-2
-same-length-2 c = search needs
+same-length-2 c = c .before .before .save .kept .1 .1 .0
 
 returns-6 : tie.Need-returns-6
 unfolding performed bufferAfter
@@ -118,6 +124,15 @@ returns-6 c =
     let r : IsStep s (unchangedWith (s .args .controller) (c .before .before .save .result)) =
     rw e (ap (unchangedWith (s .args .controller)) (c .before .before .save .ensures .0)) in
     (r, rw e (c .before .before .save .ensures .1), valid s _ r)
+
+returns-7 : tie.Need-returns-7
+unfolding performed bufferAfter
+returns-7 c =
+    let s = c .before .before .before .before in
+    let e = c .before .enum-told .given .1 in
+    let r : IsStep s (unchangedWith (s .args .controller) (Clock (c .last-reading .result))) =
+    rw e (ap (λ (reading : ClockReading). unchangedWith (s .args .controller) (Clock reading)) (c .last-reading .ensures)) in
+    (r, rw e refl, valid s _ r)
 
 pub perform-spec : {M : Type 1} → statement M
 perform-spec =
@@ -136,6 +151,8 @@ perform-spec =
     restart-requires
     enum-known-call-6
     save-requires
+    enum-told
+    last-reading-requires
     returns
     returns-2
     returns-3
@@ -143,4 +160,5 @@ perform-spec =
     same-length
     returns-5
     same-length-2
-    returns-6)
+    returns-6
+    returns-7)

@@ -72,8 +72,8 @@ slice-aggregate-same-2 c = refl
 same-requires-2 : tie.Need-same-requires-2
 same-requires-2 c κs = tt
 
-feed-requires : tie.Need-feed-requires
-feed-requires c κs = omega arith
+scan-requires : tie.Need-scan-requires
+scan-requires c κs = omega arith
 
 returns-3 : tie.Need-returns-3
 unfolding commandIn bytesAfter commandOf commandBytes
@@ -86,7 +86,42 @@ returns-3 c =
     let isnot = sym (rw sub-zero at (s .same .ensures)) ∙ i .if2 .left in
     let is = sym (rw sub-zero at (t .before .same2 .ensures)) ∙ t .if3 .taken in
     let h = lt-leb _ _ (w .before .before .if1 .left) in (
-      rw (h, ← one, isnot, is) (rw sub-zero at (c .feed .ensures)),
+      rw (h, ← one, isnot, is) (rw sub-zero at (c .scan .ensures)),
+      rw (h, ← one, isnot) refl,
+    )
+
+sub-same-3 : tie.Need-sub-same-3
+sub-same-3 c = omega arith
+
+part-same-start-3 : tie.Need-part-same-start-3
+part-same-start-3 c = omega arith
+
+part-same-end-3 : tie.Need-part-same-end-3
+part-same-end-3 c = omega arith
+
+slice-aggregate-same-3 : tie.Need-slice-aggregate-same-3
+slice-aggregate-same-3 c = refl
+
+same-requires-3 : tie.Need-same-requires-3
+same-requires-3 c κs = tt
+
+feed-requires : tie.Need-feed-requires
+feed-requires c κs = omega arith
+
+returns-4 : tie.Need-returns-4
+unfolding commandIn bytesAfter commandOf commandBytes
+returns-4 c =
+    let u = c .before in
+    let t = u .before .before .before .before in
+    let i = t .before .before .before .before in
+    let s = i .before in
+    let w = s .before .before .before in
+    let one = rw sub-zero at (w .word .ensures .0) in
+    let isnot = sym (rw sub-zero at (s .same .ensures)) ∙ i .if2 .left in
+    let other = sym (rw sub-zero at (t .before .same2 .ensures)) ∙ t .if3 .left in
+    let is = sym (rw sub-zero at (u .before .same3 .ensures)) ∙ u .if4 .taken in
+    let h = lt-leb _ _ (w .before .before .if1 .left) in (
+      rw (h, ← one, isnot, other, is) (rw sub-zero at (c .feed .ensures)),
       rw (h, ← one, isnot) refl,
     )
 
@@ -105,18 +140,20 @@ parse-requires c κs = tt
 of-numbers-requires : tie.Need-of-numbers-requires
 of-numbers-requires c κs = tt
 
-returns-4 : tie.Need-returns-4
+returns-5 : tie.Need-returns-5
 unfolding commandIn bytesAfter commandOf commandBytes
-returns-4 c =
-    let t = c .before .before .before in
+returns-5 c =
+    let u = c .before .before .before in
+    let t = u .before .before .before .before in
     let i = t .before .before .before .before in
     let s = i .before in
     let w = s .before .before .before in
     let one = rw sub-zero at (w .word .ensures .0) in
     let isnot = sym (rw sub-zero at (s .same .ensures)) ∙ i .if2 .left in
     let other = sym (rw sub-zero at (t .before .same2 .ensures)) ∙ t .if3 .left in
+    let neither = sym (rw sub-zero at (u .before .same3 .ensures)) ∙ u .if4 .left in
     let h = lt-leb _ _ (w .before .before .if1 .left) in (
-      rw (h, ← one, isnot, other) (rw (c .before .parse .ensures, sub-zero) at (c .of-numbers .ensures)),
+      rw (h, ← one, isnot, other, neither) (rw (c .before .parse .ensures, sub-zero) at (c .of-numbers .ensures)),
       rw (h, ← one, isnot) refl,
     )
 
@@ -142,11 +179,18 @@ parse-spec =
     part-same-end-2
     slice-aggregate-same-2
     same-requires-2
-    feed-requires
+    scan-requires
     returns-3
+    sub-same-3
+    part-same-start-3
+    part-same-end-3
+    slice-aggregate-same-3
+    same-requires-3
+    feed-requires
+    returns-4
     sub-of-numbers
     part-of-numbers-start
     part-of-numbers-end
     parse-requires
     of-numbers-requires
-    returns-4)
+    returns-5)

@@ -1,153 +1,66 @@
 -- `console::request::scan` meets its contract.
-use mathlib.Core.Path.{_≡_, refl}
-use lib.IntN.{ℤ}
-use mathlib.Core.List.{List}
-use mir.Syntax.{w64}
-use Rattle.integers.specs.Machine.{back}
-use Rattle.text.specs.Arguments.{argument, naturalIn}
-use Rattle.console.specs.Commands.{scanCommand}
+use native.Mathlib.Nat.{sub-zero}
 use native.Mathlib.Omega.{arith}
+use Rattle.console.specs.Commands.{scanCommand}
 use Rattle.console.proofs.request.scan.Statement.{statement}
 use Rattle.console.proofs.request.scan.Tie as tie
 
-array-copy-out-natural-in : tie.Need-array-copy-out-natural-in
-array-copy-out-natural-in c = omega arith
+after-words-requires : tie.Need-after-words-requires
+after-words-requires c κs = tt
 
-natural-in-requires : tie.Need-natural-in-requires
-natural-in-requires c κs = tt
+sub-parse : tie.Need-sub-parse
+sub-parse c = omega arith
 
-array-copy-out-natural-in-2 : tie.Need-array-copy-out-natural-in-2
-array-copy-out-natural-in-2 c = omega arith
+part-parse-start : tie.Need-part-parse-start
+part-parse-start c = omega arith
 
-natural-in-requires-2 : tie.Need-natural-in-requires-2
-natural-in-requires-2 c κs = tt
+part-parse-end : tie.Need-part-parse-end
+part-parse-end c = omega arith
 
-array-copy-out-natural-in-3 : tie.Need-array-copy-out-natural-in-3
-array-copy-out-natural-in-3 c = omega arith
+parse-requires : tie.Need-parse-requires
+parse-requires c κs = tt
 
-natural-in-requires-3 : tie.Need-natural-in-requires-3
-natural-in-requires-3 c κs = tt
+only-word-requires : tie.Need-only-word-requires
+only-word-requires c κs = tt
 
-array-copy-out-natural-in-4 : tie.Need-array-copy-out-natural-in-4
-array-copy-out-natural-in-4 c = omega arith
+sub-parse-2 : tie.Need-sub-parse-2
+sub-parse-2 c = omega arith
 
-natural-in-requires-4 : tie.Need-natural-in-requires-4
-natural-in-requires-4 c κs = tt
+part-parse-start-2 : tie.Need-part-parse-start-2
+part-parse-start-2 c = omega arith
 
-array-copy-out-natural-in-5 : tie.Need-array-copy-out-natural-in-5
-array-copy-out-natural-in-5 c = omega arith
+part-parse-end-2 : tie.Need-part-parse-end-2
+part-parse-end-2 c = omega arith
 
-natural-in-requires-5 : tie.Need-natural-in-requires-5
-natural-in-requires-5 c κs = tt
+parse-requires-2 : tie.Need-parse-requires-2
+parse-requires-2 c κs = tt
 
-array-copy-out-natural-in-6 : tie.Need-array-copy-out-natural-in-6
-array-copy-out-natural-in-6 c = omega arith
-
-natural-in-requires-6 : tie.Need-natural-in-requires-6
-natural-in-requires-6 c κs = tt
-
-cast-t27 : tie.Need-cast-t27
-cast-t27 c =
-    let six = c .before .before .before .before .before .before .before .before in
-    omega (arith, six .before .before .before .before .before .before .before .before .before .before .natural-in .ensures .2)
-
-cast-t28 : tie.Need-cast-t28
-cast-t28 c =
-    let six = c .before .before .before .before .before .before .before .before .before in
-    omega (arith, six .before .before .before .before .before .before .before .before .natural-in2 .ensures .2)
-
-cast-t29 : tie.Need-cast-t29
-cast-t29 c =
-    let six = c .before .before .before .before .before .before .before .before .before .before in
-    omega (arith, six .before .before .before .before .before .before .natural-in3 .ensures .2)
-
-cast-t30 : tie.Need-cast-t30
-cast-t30 c =
-    let six = c .before .before .before .before .before .before .before .before .before .before .before in
-    omega (arith, six .before .before .before .before .natural-in4 .ensures .2)
-
-cast-t31 : tie.Need-cast-t31
-cast-t31 c =
-    let six = c .before .before .before .before .before .before .before .before .before .before .before .before in
-    omega (arith, six .before .before .natural-in5 .ensures .2)
-
-cast-t32 : tie.Need-cast-t32
-cast-t32 c =
-    let six = c .before .before .before .before .before .before .before .before .before .before .before .before .before in
-    omega (arith, six .natural-in6 .ensures .2)
-
--- what each call of `natural_in` gives
-module _ (six : tie.After-natural-in6) where
-  abbrev five : tie.After-natural-in5
-  five = six .before .before
-
-  abbrev four : tie.After-natural-in4
-  four = five .before .before
-
-  abbrev three : tie.After-natural-in3
-  three = four .before .before
-
-  abbrev two : tie.After-natural-in2
-  two = three .before .before
-
-  abbrev one : tie.After-natural-in
-  one = two .before .before
-
-  abbrev values : List ℤ
-  values = one .before .before .args .t1
-
-  pins-is : one .natural-in .result ≡ naturalIn (argument values 0) 0 255
-  pins-is = rw (back w64 (argument values 0) (one .before .natural-in-arg .given)) at (one .natural-in .ensures .0)
-
-  sample1-is : two .natural-in2 .result ≡ naturalIn (argument values 1) 0 65535
-  sample1-is = rw (back w64 (argument values 1) (two .before .natural-in-arg2 .given)) at (two .natural-in2 .ensures .0)
-
-  sample2-is : three .natural-in3 .result ≡ naturalIn (argument values 2) 0 65535
-  sample2-is = rw (back w64 (argument values 2) (three .before .natural-in-arg3 .given)) at (three .natural-in3 .ensures .0)
-
-  sample3-is : four .natural-in4 .result ≡ naturalIn (argument values 3) 0 65535
-  sample3-is = rw (back w64 (argument values 3) (four .before .natural-in-arg4 .given)) at (four .natural-in4 .ensures .0)
-
-  buttons-is : five .natural-in5 .result ≡ naturalIn (argument values 4) 0 255
-  buttons-is = rw (back w64 (argument values 4) (five .before .natural-in-arg5 .given)) at (five .natural-in5 .ensures .0)
-
-  sensors-is : six .natural-in6 .result ≡ naturalIn (argument values 5) 0 255
-  sensors-is = rw (back w64 (argument values 5) (six .before .natural-in-arg6 .given)) at (six .natural-in6 .ensures .0)
+scan-with-requires : tie.Need-scan-with-requires
+scan-with-requires c κs = tt
 
 returns : tie.Need-returns
 unfolding scanCommand
 returns c =
-    let n = c .before .before .before .before .before .before .before .before .before .before .before .before .before in
-    let test = c .before .before .before .before .before .before in
-    rw (← pins-is n, ← sample1-is n, ← sample2-is n, ← sample3-is n, ← buttons-is n, ← sensors-is n, test .if1 .taken) refl
-
-returns-2 : tie.Need-returns-2
-unfolding scanCommand
-returns-2 c =
-    let n = c .before .before .before .before .before .before .before in
-    rw (← pins-is n, ← sample1-is n, ← sample2-is n, ← sample3-is n, ← buttons-is n, ← sensors-is n, c .if1 .left) refl
+    let n = c .before in
+    let w = n .before .before in
+    let a = w .before in
+    let six = a .before .before in
+    rw (← (six .after-words .ensures .0), ← (w .only-word .ensures .0))
+    (rw (n .parse2 .ensures, a .parse .ensures, sub-zero) at (c .scan-with .ensures))
 
 pub scan-spec : {M : Type 1} → statement M
 scan-spec =
     tie.close
     (tie.spec
-    array-copy-out-natural-in
-    natural-in-requires
-    array-copy-out-natural-in-2
-    natural-in-requires-2
-    array-copy-out-natural-in-3
-    natural-in-requires-3
-    array-copy-out-natural-in-4
-    natural-in-requires-4
-    array-copy-out-natural-in-5
-    natural-in-requires-5
-    array-copy-out-natural-in-6
-    natural-in-requires-6
-    cast-t27
-    cast-t28
-    cast-t29
-    cast-t30
-    cast-t31
-    cast-t32
-    returns
-    returns-2)
+    after-words-requires
+    sub-parse
+    part-parse-start
+    part-parse-end
+    parse-requires
+    only-word-requires
+    sub-parse-2
+    part-parse-start-2
+    part-parse-end-2
+    parse-requires-2
+    scan-with-requires
+    returns)

@@ -27,6 +27,9 @@ enum-told-6 c = c .match .keys7
 enum-told-7 : tie.Need-enum-told-7
 enum-told-7 c = c .match .keys8
 
+enum-told-8 : tie.Need-enum-told-8
+enum-told-8 c = c .match .keys9
+
 returns : tie.Need-returns
 returns c = rw (c .before .reply .given .1) refl
 
@@ -51,6 +54,9 @@ returns-7 c = rw (c .enum-told6 .given .1) refl
 returns-8 : tie.Need-returns-8
 returns-8 c = rw (c .enum-told7 .given .1) refl
 
+returns-9 : tie.Need-returns-9
+returns-9 c = rw (c .enum-told8 .given .1) refl
+
 pub last-after-spec : {M : Type 1} → statement M
 last-after-spec =
     tie.close
@@ -63,6 +69,7 @@ last-after-spec =
     enum-told-5
     enum-told-6
     enum-told-7
+    enum-told-8
     returns
     returns-2
     returns-3
@@ -70,4 +77,5 @@ last-after-spec =
     returns-5
     returns-6
     returns-7
-    returns-8)
+    returns-8
+    returns-9)

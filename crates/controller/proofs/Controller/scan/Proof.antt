@@ -19,21 +19,24 @@ enum-told : tie.Need-enum-told
 enum-told c = search needs
 
 -- what an accepted verdict says
-none-refuses : (c : tie.After-enum-told) → refusedBy (scanTests (c .before .before .before .args .input)) ≡ none
+none-refuses : (c : tie.After-enum-told) → let start = c .before .before .before .before in
+    refusedBy (scanTests (start .args .self .core .clock) (start .args .input)) ≡ none
 none-refuses c = sym (c .before .before .scan-verdict .ensures) ∙ ap numberIn (c .enum-told .given .1)
 
 stepped-requires : tie.Need-stepped-requires
-stepped-requires c κs = (c .before .before .before .pre, sampled (c .before .before .before .args .input) (none-refuses c))
+stepped-requires c κs =
+    let start = c .before .before .before .before in
+    (start .pre, sampled (start .args .self .core .clock) (start .args .input) (none-refuses c))
 
 answer-requires : tie.Need-answer-requires
 answer-requires c κs =
-    let start = c .before .before .before .before in
+    let start = c .before .before .before .before .before in
     rw (c .stepped .ensures)
     (stepped-valid (start .args .self) (start .args .input) (start .pre)
-    (sampled (start .args .input) (none-refuses (c .before))))
+    (sampled (start .args .self .core .clock) (start .args .input) (none-refuses (c .before))))
 
-some-refuses : (c : tie.After-verdict) →
-    refusedBy (scanTests (c .before .before .before .args .input)) ≡ some (numberOf (c .verdict .given .0 .0))
+some-refuses : (c : tie.After-verdict) → let start = c .before .before .before .before in
+    refusedBy (scanTests (start .args .self .core .clock) (start .args .input)) ≡ some (numberOf (c .verdict .given .0 .0))
 some-refuses c = sym (c .before .before .scan-verdict .ensures) ∙ ap numberIn (c .verdict .given .1)
 
 returns : tie.Need-returns

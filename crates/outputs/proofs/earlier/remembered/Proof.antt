@@ -1,9 +1,9 @@
--- `outputs::remembered` meets its contract.
+-- `outputs::earlier::remembered` meets its contract.
 use mir.Facts.{toZ-ofZ}
 use mir.Syntax.{w64}
 use borrow.Author.Needs.{needs}
-use Rattle.outputs.proofs.remembered.Statement.{statement}
-use Rattle.outputs.proofs.remembered.Tie as tie
+use Rattle.outputs.proofs.earlier.remembered.Statement.{statement}
+use Rattle.outputs.proofs.earlier.remembered.Tie as tie
 
 enum-told : tie.Need-enum-told
 enum-told c = search needs

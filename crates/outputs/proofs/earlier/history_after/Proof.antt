@@ -1,8 +1,8 @@
--- `outputs::history_after` meets its contract.
+-- `outputs::earlier::history_after` meets its contract.
 use borrow.Author.Needs.{needs}
 use Rattle.outputs.specs.History.{historyAfter}
-use Rattle.outputs.proofs.history_after.Statement.{statement}
-use Rattle.outputs.proofs.history_after.Tie as tie
+use Rattle.outputs.proofs.earlier.history_after.Statement.{statement}
+use Rattle.outputs.proofs.earlier.history_after.Tie as tie
 
 remembered-requires : tie.Need-remembered-requires
 remembered-requires c κs = search needs

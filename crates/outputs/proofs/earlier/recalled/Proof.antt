@@ -1,9 +1,9 @@
--- `outputs::recalled` meets its contract.
+-- `outputs::earlier::recalled` meets its contract.
 use mir.Facts.{toZ-ofZ}
 use mir.Syntax.{w64}
 use borrow.Author.Needs.{needs}
-use Rattle.outputs.proofs.recalled.Statement.{statement}
-use Rattle.outputs.proofs.recalled.Tie as tie
+use Rattle.outputs.proofs.earlier.recalled.Statement.{statement}
+use Rattle.outputs.proofs.earlier.recalled.Tie as tie
 
 enum-told : tie.Need-enum-told
 enum-told c = search needs
