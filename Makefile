@@ -1,6 +1,6 @@
-# Two commands: `make run` proves, builds and plays figures, a drying session, two dryers and power cuts; `make test` is
-# the gate.
-.PHONY: run test
+# `make run` proves, builds and plays figures, a drying session, two dryers and power cuts; `make test` is the gate;
+# `make bench` counts the instructions of a square root, with gcc and valgrind.
+.PHONY: run test bench
 
 run:
 	rt check
@@ -8,3 +8,6 @@ run:
 
 test:
 	python3 -B -m tests.gate.gate
+
+bench:
+	python3 -B -m tests.roots.benchmark

@@ -4,6 +4,7 @@ Usage: python3 -B -m tests.repository.layout
 
 - every file of Rattle, antt and Python has fewer than 300 lines, and `rt fmt` leaves Rattle and antt files as they are;
 - every function of Rattle has fewer than 40 lines, branches at most three deep and at most one loop;
+- of both the table of roots, which is written by a program, may have more lines;
 - a line of code has at most 140 columns, a line of prose at most 120 (`tests/repository/line_lengths.py`);
 - no file names a path in one of the usual folders outside the repository.
 
@@ -20,6 +21,7 @@ from tests.repository.files import text_of, tracked
 from tests.repository.line_lengths import too_long_lines
 
 MOST_FILE_LINES, MOST_FUNCTION_LINES, MOST_DEPTH, MOST_LOOPS = 299, 39, 3, 1
+TABLE = "crates/scaling/src/roots.rt"  # written by a program, one entry to a line: neither it nor its function is too long
 OUTSIDE = re.compile(r"(?<![\w.])/(?:work|opt|root|home|tmp)/")
 FUNCTION = re.compile(r"^\s*(?:pub )?(?:extern \"C\" )?fn (\w+)")
 BRANCH = re.compile(r"\b(?:if|match)\b")
@@ -71,13 +73,14 @@ def faults(name):
     looked = 1 + len(found)
     if any(OUTSIDE.search(line) for line in lines) and name != "tests/repository/layout.py":
         found.append(f"{name}: names a path outside the repository")
-    if name.endswith((".rt", ".antt", ".py")) and len(lines) - 1 > MOST_FILE_LINES:
+    if name.endswith((".rt", ".antt", ".py")) and len(lines) - 1 > MOST_FILE_LINES and name != TABLE:
         found.append(f"{name}: {len(lines) - 1} lines")
     if name.endswith(".rt"):
         for function, line, body in functions(lines):
             looked += 1
             loops = sum(len(LOOP.findall(code_of(text))) for text in body)
-            if len(body) > MOST_FUNCTION_LINES or branch_depth(body) > MOST_DEPTH or loops > MOST_LOOPS:
+            is_too_long = len(body) > MOST_FUNCTION_LINES and name != TABLE
+            if is_too_long or branch_depth(body) > MOST_DEPTH or loops > MOST_LOOPS:
                 found.append(f"{name}:{line}: {function}: {len(body)} lines, branches {branch_depth(body)} deep, {loops} loops")
     return found, looked
 

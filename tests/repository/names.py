@@ -2,9 +2,9 @@
 
 Usage: python3 -B -m tests.repository.names
 
-Looked at are the identifiers of crates (Rattle and antt, without comments and texts), tests and demo, and the name of
-every file and folder.  A name's parts are those of snake_case, camelCase and hyphenated names.  The last line printed
-is 'N passed, M failed', one count for each name in each file and for each path.
+Looked at are the identifiers of crates (Rattle and antt, without comments, texts and what is taken from the kit's
+modules), tests and demo, and the name of every file and folder.  A name's parts are those of snake_case, camelCase and
+hyphenated names.  The last line printed is 'N passed, M failed', one count for each name in each file and each path.
 """
 
 import io
@@ -21,7 +21,8 @@ marks mend mended mending mends reckon reckoned reckoner reckoning reckons said 
 unsaid""".split())
 PART = re.compile(r"[A-Z]+(?![a-z])|[A-Z]?[a-z]+")
 TEXT = r'"(?:[^"\\\n]|\\.)*"'
-COMMENTS_AND_TEXTS = {"rt": re.compile(r"//.*|b?" + TEXT), "antt": re.compile(r"--.*|" + TEXT),
+KIT = r"^use (?!Rattle·).*"  # the kit's own names, which a file may have to take
+COMMENTS_AND_TEXTS = {"rt": re.compile(r"//.*|b?" + TEXT), "antt": re.compile(rf"--.*|{KIT}|{TEXT}", re.MULTILINE),
                       "show": re.compile(r"#.*|'[^'\n]*'|" + TEXT)}
 IDENTIFIER = re.compile(r"[^\W\d](?:[\w'·]|-(?=\w))*")
 

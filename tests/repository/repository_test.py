@@ -12,7 +12,7 @@ from tests.repository.line_lengths import too_long_lines
 from tests.repository.names import identifiers, retired_in
 
 RATTLE = 'pub fn reckon_it(x: u8) -> u8 { print(b"carried"); x } // said'
-SPECIFICATION = '-- marks\nleft-unsaid : Lent·Buffer\nleft-unsaid = "shown"'
+SPECIFICATION = '-- marks\nuse denote.Walked.{says}\nuse Rattle.said\nleft-unsaid : Lent·Buffer\nleft-unsaid = "shown"'
 PYTHON = '"""Said."""\nshown_by = layout.display  # lent\nlay = "marks"\n'
 # A name, and the retired words in it
 NAMES = (("sameMarks", ["marks"]), ("with_marks_shown", ["marks", "shown"]), ("MENDED", ["mended"]), ("re-reckoned", ["reckoned"]),
@@ -33,7 +33,7 @@ def results():
     """Whether each is found as it must be, and what was found."""
     for name, words in NAMES:
         yield retired_in(name) == words, f"{name}: {retired_in(name)}"
-    for name, text, expected in (("a.rt", RATTLE, {"reckon_it"}), ("a.antt", SPECIFICATION, {"left-unsaid", "Lent·Buffer"}),
+    for name, text, expected in (("a.rt", RATTLE, {"reckon_it"}), ("a.antt", SPECIFICATION, {"Rattle.said", "left-unsaid", "Lent·Buffer"}),
                                  ("a.py", PYTHON, {"shown_by", "lay"})):
         found = {each for each in identifiers(name, text) if retired_in(each)}
         yield found == expected, f"{name}: {found}"

@@ -7,6 +7,8 @@ ghost use Rattle.scaling.specs.Scale.{scaled, ChannelRange};
 ghost use Rattle.scaling.specs.Root.{rootOf};
 ghost use Rattle.scaling.specs.Ratio.{ratioQuotient, inverseQuotient, RatioRange};
 
+mod roots;
+
 // The sample scaled to low..high. The contract rules out a half that goes down and a quotient that is cut.
 pub fn scale(low: i64, high: i64, sample: u16) -> i64
     requires { ⌜ ChannelRange low high sample ⌝ }
@@ -17,23 +19,12 @@ pub fn scale(low: i64, high: i64, sample: u16) -> i64
     low + part as i64
 }
 
-// The greatest whole r with r × r ≤ 10000 × sample, by halving. The contract rules out one less and one more.
+// The greatest whole r with r × r ≤ 10000 × sample, read from the table. The contract rules out one less and one more.
 pub fn root(sample: u16) -> u16
     requires { ⌜ sample ≤ 10000 ⌝ }
     ensures { λ r. ⌜ r ≡ rootOf sample ⌝ }
 {
-    let n = 10000 * (sample as u32);
-    let mut found: u32 = 0;
-    let mut beyond: u32 = 10001;
-    while found + 1 < beyond {
-        let middle = found + (beyond - found) / 2;
-        if middle * middle <= n {
-            found = middle;
-        } else {
-            beyond = middle;
-        }
-    }
-    found as u16
+    roots::entry(sample)
 }
 
 // n / d nearest, halves up, with the sign of q: halves away from zero. Only magnitudes far below the

@@ -1,0 +1,74 @@
+"""Whether two builds of the programs answer alike, for a change that nobody outside should be able to tell.
+
+Usage: python3 -B -m tests.comparison.builds BEFORE AFTER
+
+BEFORE and AFTER are folders with the programs of a build, target/bin each. The console gets the lists that the gate
+compares, by two seeds, and a million scans with IC 1; the calculator gets every root fifty times among other calls,
+a million lines. The last line printed is 'N passed, M failed', one count for each line.
+"""
+
+import pathlib
+import random
+import sys
+
+from tests.comparison import calculator, console
+from tests.comparison.program import PROGRAM_SECONDS, run_lines
+from tests.gate import tally
+
+SEEDS = (6360, 31)
+STARTS, SCANS_A_START = 500, 2000
+LINES = 1_000_000
+
+
+def console_inputs():
+    """The lines of each run of the console."""
+    for seed in SEEDS:
+        for lists in console.all_lists(random.Random(seed)):
+            yield [entry.line for _, entries, _ in lists for entry in entries]
+    yield root_scans(random.Random(SEEDS[0]))
+
+
+def root_scans(generator):
+    """Starts with drawn switches and ranges of channel 1, and scans with IC 1 in changing modes, 36 ms apart."""
+    lines = []
+    for _ in range(STARTS):
+        low, high = generator.randint(-9999, 0), generator.randint(1, 9999)
+        lines += [f"fresh {generator.getrandbits(16)}", "write 24 4096", "write 23 1", f"write 2 {low}", f"write 1 {high}"]
+        beginning = generator.getrandbits(40)
+        for number in range(SCANS_A_START):
+            samples = " ".join(str(generator.randrange(10001)) for _ in range(3))
+            lines.append(f"scan {generator.choice((0, 128, 145, 160, 192))} {samples} {generator.choice((0, 1, 2, 4, 8, 64))} "
+                         f"{generator.choice((0, 0, 0, 0, 1))} {beginning + 36 * number}")
+    return lines
+
+
+def calculator_inputs():
+    """Every root fifty times in drawn order, and the calls that the gate compares, drawn until there are enough."""
+    generator = random.Random(SEEDS[0])
+    samples = [*range(10001)] * 50
+    generator.shuffle(samples)
+    lines = [f"root {sample}" for sample in samples]
+    while len(lines) < LINES:
+        lines += [line for line, _ in calculator.all_comparisons(generator)[0]]
+    yield lines
+
+
+def main():
+    before, after = map(pathlib.Path, sys.argv[1:3])
+    passed, faults = 0, []
+    for name, inputs in (("console", console_inputs()), ("calculator", calculator_inputs())):
+        for lines in inputs:
+            (old, old_trouble), (new, new_trouble) = (run_lines(folder / name, lines, PROGRAM_SECONDS) for folder in (before, after))
+            pairs = list(zip(old.split("\n"), new.split("\n")))
+            different = [number for number, (one, other) in enumerate(pairs) if one != other]
+            is_whole = not old_trouble + new_trouble and old.count("\n") == new.count("\n") == len(lines)
+            passed += len(lines) - len(different)
+            faults += [f"{name}: {lines[number]!r} is answered otherwise" for number in different]
+            faults += [] if is_whole else [f"{name}: a run that didn't answer every line: {old_trouble} {new_trouble}"]
+            print(f"{name}: {len(lines)} lines, {len(different)} answered otherwise", flush=True)
+    print("\n".join(faults[:10]) or "all are answered alike")
+    return tally.close(passed, len(faults))
+
+
+if __name__ == "__main__":
+    sys.exit(main())
