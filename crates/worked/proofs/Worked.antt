@@ -2,8 +2,8 @@
 -- same number.
 use mathlib.Core.Path.{_≡_, refl}
 use mathlib.Core.List.{[], _∷_}
-use Prim.Native.Nat.{ℕ}
-use lib.Dec.{lit<}
+use Prim.Native.Nat.{ℕ, _+_, _*_}
+use lib.Dec.{T, leb, ltb, lit<, lit≤}
 use lib.IntN.{pos}
 use lib.ListN.{drop}
 use Rattle.integers.specs.Limit as Limit
@@ -21,6 +21,7 @@ use Rattle.words.specs.Written.{mdTests}
 use Rattle.parameters.specs.Table.{value, withValue, ruleOf}
 use Rattle.settings.specs.Settings as t
 use Rattle.scaling.specs.Ratio.{ratioQuotient, inverseQuotient}
+use Rattle.scaling.specs.Root.{rootOf, root-from, root-is, root-same}
 use Rattle.scaling.specs.Scale.{scaled}
 use Rattle.setpoints.specs.Computation as r
 use Rattle.setpoints.specs.Setpoints as p
@@ -92,7 +93,15 @@ worked =
     image-figure and
     tt
 
+-- a root is told by its square and the next one's, which are shorter to compute than the search from 10000 down
+root-figure : (s r : ℕ) → T (leb s 10000) → T (leb (r * r) (10000 * s)) → T (ltb (10000 * s) ((r + 1) * (r + 1))) → rootOf s ≡ r
+root-figure s r sample fits next = root-same (root-is s (lit≤ sample)) (root-from (lit≤ fits) (lit< next))
+
 pub further-figures-hold : AllHold furtherFigures
 unfolding furtherFigures o.changed o.exactArithmetic plus proportionalTerm integralTerm derivativeTerm limitedTerm
     storedTerm whole atLeast atMost limited stored storedUnits nearestEven halfEven
-further-figures-hold = refl and refl and (lit< tt, lit< tt, refl) and tt
+further-figures-hold =
+    refl and refl and (lit< tt, lit< tt, refl) and
+    root-figure 0 0 tt tt tt and root-figure 400 2000 tt tt tt and root-figure 1600 4000 tt tt tt and root-figure 10000 10000 tt tt tt and
+    root-figure 2 141 tt tt tt and root-figure 9998 9998 tt tt tt and
+    tt

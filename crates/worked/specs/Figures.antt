@@ -14,6 +14,7 @@ use Rattle.modes.specs.declared.Mode.the-variants.{Auto}
 use Rattle.modes.specs.declared.Request.the-variants as request
 use Rattle.words.specs.Words.{MD, DS}
 use Rattle.scaling.specs.Ratio.{ratioQuotient, inverseQuotient}
+use Rattle.scaling.specs.Root.{rootOf}
 use Rattle.scaling.specs.Scale.{scaled}
 use Rattle.terms.specs.Fraction.{Fraction, Positive, whole}
 use Rattle.terms.specs.Terms.{proportionalTerm, integralTerm, derivativeTerm, limitedTerm, storedTerm}
@@ -94,6 +95,14 @@ furtherFigures =
     ∷ (storedTerm (derivativeTerm (example 0 10) (pos 100)) ≡ negℤ (pos 655360000))
     -- the exact controller's output with the term of 0.36 units and two of 0: "its limited terms are added unrounded"
     ∷ Equal (changed exactArithmetic (termsFrom (example 10 0) 0 1 0) (whole (pos 0))) (record { numerator = pos 36; denominator = 100 })
+    -- the manual's roots, 4.3.3: of 0, 0.4, 1.6 and 10 V they are 0, 2, 4 and 10 V
+    ∷ (rootOf 0 ≡ 0)
+    ∷ (rootOf 400 ≡ 2000)
+    ∷ (rootOf 1600 ≡ 4000)
+    ∷ (rootOf 10000 ≡ 10000)
+    -- document 02, request 3: 141 × 141 is 19,881 and 142 × 142 is 20,164; 9999 × 9999 is 99,980,001, one too great
+    ∷ (rootOf 2 ≡ 141)
+    ∷ (rootOf 9998 ≡ 9998)
     ∷ []
 
 abbrev pub firstScan : Input
