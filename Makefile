@@ -1,5 +1,5 @@
-# `make run` proves, builds and plays figures, a drying session, two dryers and power cuts; `make test` is the gate;
-# `make bench` counts the instructions of a square root, with gcc and valgrind.
+# `make run` proves, builds and plays figures, a drying session, two dryers, power cuts and a mechanic's visit; `make
+# test` is the gate; `make bench` counts the instructions of a square root, with gcc and valgrind.
 .PHONY: run test bench
 
 run:

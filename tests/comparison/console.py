@@ -25,6 +25,7 @@ from tests.coverage.power_cuts import PowerCutCoverage
 from tests.coverage.roots import RootCoverage
 from tests.coverage.scans import ScanCoverage
 from tests.coverage.sheets import SheetCoverage
+from tests.coverage.terminal import TerminalCoverage
 from tests.coverage.writes import WriteCoverage
 from tests.figures import check as figure_check
 from tests.gate import tally
@@ -36,6 +37,7 @@ from tests.lists import restarts as restart_lists
 from tests.lists import roots as root_lists
 from tests.lists import scans as scan_lists
 from tests.lists import sheets as sheet_lists
+from tests.lists import terminal as terminal_lists
 from tests.lists import writes as write_lists
 from tests.lists.line_forms import LINE_ERRORS
 from tests.model.lines import call_of, line_of
@@ -44,10 +46,10 @@ from tests.model.pair import Pair, answers_of
 DEFAULT_SEED = 6360
 INPUTS, AT_ONCE = 4, 2     # the lists are shared out among so many runs of the program, so many of them at once
 COVERAGES = (ScanCoverage, ParameterCoverage, WriteCoverage, ImageCoverage, PowerCutCoverage, SheetCoverage, ClockCoverage,
-             RootCoverage)
+             RootCoverage, TerminalCoverage)
 KINDS = ((scan_lists, ScanCoverage), (parameter_lists, ParameterCoverage), (write_lists, WriteCoverage), (image_lists, ImageCoverage),
          (restart_lists, ImageCoverage), (power_cuts, PowerCutCoverage), (sheet_lists, SheetCoverage),
-         (clock_lists, ClockCoverage), (root_lists, RootCoverage))
+         (clock_lists, ClockCoverage), (root_lists, RootCoverage), (terminal_lists, TerminalCoverage))
 FAULTS_PRINTED = 10
 
 

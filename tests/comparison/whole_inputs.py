@@ -4,6 +4,7 @@ comes in pieces.
 
 from tests.figures.images import FRESH
 from tests.figures.sheets import EMPTY
+from tests.figures.terminal import typed
 from tests.model.lines import LONGEST_LINE, lines_in
 
 # Worked by hand.  SW 0, pins 80h, all else 0: Manual is MD 2000h; DS is 80h, then bits 4, 3, 2, 1, 0: 801Fh; output and
@@ -14,6 +15,13 @@ IMAGE = FRESH.split()[1]  # a fresh controller's
 # The first of the numbers is 2 to the 64th; the third has 21 digits
 NO_READINGS = ("18446744073709551616", "99999999999999999999", "000000000000000000000", "", "-0", "-1", "+1", "x", "1 1", "1.0", "none",
                "36ms")
+# XP of a fresh controller, asked for in twelve bytes, and what is no such line
+XP_LINE, XP_REPLY = typed("XP", "XP>1000")
+NO_LINES = ("line", "line 5850", "line 12", "line -", "line - -", "line 5850 12 12", "line 58 50 12", "line 12 5850", "line 585 12",
+            "line 58505 12", "line 5850 301", "line 5850 -1", "line 5850 65548", "line 5850 +12", "line 5850 12h", "line 5850 x",
+            "line XP 12", "line 0x5850 12", "line 5850h 12", "line -5850 12", "line 5850- 12", "line 585G 12", "line 58g0 12", "line -- 12",
+            "Line 5850 12", "LINE 5850 12", "line5850 12", "line 5850\t12", "line 5850 12\r", "line\t5850 12", "lines 5850 12",
+            "lin 5850 12", f"line {'30' * 301} 12", f"line {'30' * 340} 12", f"line 5850 {'0' * 19}")
 BY_HAND = (
     ("no input", "", ""),
     ("no newline at the end", "fresh 0", "ok\n"),
@@ -104,6 +112,14 @@ BY_HAND = (
      f"{FIRST_ANSWER}\nclock 7\n{FIRST_ANSWER}\nclock 18446744073709551615\n"),
     ("no readings", "".join(f"scan 128 0 0 0 0 0 {reading}\n" for reading in NO_READINGS) + "clock\n",
      "error\n" * len(NO_READINGS) + "clock none\n"),
+    ("a line of the terminal, in other forms", f"{XP_LINE}\n  line   5850  0012 \nline 5850 12\nline 58503E30303530 300\n"
+     "line 58503e3135 9\nline 58503E35 000000000000000009\nread 17\n",
+     f"{XP_REPLY}\n" * 3 + "reply 5 58503E3530\nreply 5 58503E3135\nreply 4 58503E35\nvalue 5\n"),
+    ("the ends of a reply's buffer", "line 5850 300\nline 5850 9\nline 5850 8\nline 5850 0\nline 5850 -0\nline - 0\nline - 300\n",
+     f"{XP_REPLY}\n" * 2 + "refused 15\n" * 3 + "refused 17\n" * 2),
+    ("the longest lines of the terminal", f"line {'30' * 300} 12\nline 5850{'00' * 298} 0\nline 58503E{'30' * 297} 300\n",
+     "refused 17\nrefused 18\nrefused 18\n"),
+    ("no lines of the terminal", "".join(f"{line}\n" for line in NO_LINES) + f"{XP_LINE}\n", "error\n" * len(NO_LINES) + f"{XP_REPLY}\n"),
     ("no calls of the clock", "clock 0\nclock none\nclock -\nClock\nCLOCK\nclocks\ncloc\nclock\t\n clock \n",
      "error\n" * 8 + "clock none\n"),
 )
@@ -134,7 +150,8 @@ def cut_short(answers_of):
     for text in ("fresh 1024\nscan 192 4990 20 5000 4 0 0\nscan 0160  1001 -0 070 66 03  000036", "write 22 -7\nwrite 0022  -2147483649",
                  "write 22 -7\nread 0022", "write 22 -7\nsave  0000000137 ", f"write 22 -7\nrestart {IMAGE} ",
                  "sheet-feed ratio -7 1 9\nsheet-feed forced  -32768 65535 065535 ", "sheet-feed ratio -7 1 9\nsheet-last  ",
-                 "sheet-feed ratio -7 1 9\nsheet-new ", "sheet-feed ratio -7 1 9\n sheet 0", "scan 128 0 0 0 0 0 9\nclock 9"):
+                 "sheet-feed ratio -7 1 9\nsheet-new ", "sheet-feed ratio -7 1 9\n sheet 0", "scan 128 0 0 0 0 0 9\nclock 9",
+                 "write 22 -7\nline 52423E2D30303939 0012 ", "write 22 -7\nline 5242  009", "write 22 -7\nline -  300"):
         first = text.index("\n") + 1
         lengths = range(first, len(text) + 1)
         for length in lengths if len(lengths) < 100 else (*lengths[:14], *lengths[14:-6:25], *lengths[-6:]):

@@ -5,6 +5,7 @@ from tests.figures import images as image_figures
 from tests.figures import manual as manual_figures
 from tests.figures import scans as scan_figures
 from tests.figures import sheets as sheet_figures
+from tests.figures import terminal as terminal_figures
 from tests.figures import writes as write_figures
 from tests.lists.host_clock import at_usual_steps
 from tests.lists.parameters import writes_of
@@ -112,7 +113,7 @@ def all_lines():
     """
     for case in CASES:
         yield from ((case.name, *line) for line in lines_of(case))
-    for name, steps in (*manual_figures.FIGURES, *sheet_figures.FIGURES):
+    for name, steps in (*manual_figures.FIGURES, *sheet_figures.FIGURES, *terminal_figures.FIGURES):
         yield from ((name, *line) for line in timed((("fresh 0", "ok"), *steps)))
 
 

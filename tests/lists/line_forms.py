@@ -1,6 +1,6 @@
 """Other forms of the same call's line, and lines that are no call, drawn from a seed."""
 
-from tests.model.lines import ANY, LONGEST_LINE, MODE, MODE_WORDS, RANGES, READING, line_of, text_of
+from tests.model.lines import ANY, LONGEST_LINE, MODE, MODE_WORDS, MOST_BYTES, RANGES, READING, TYPED, line_of, text_of
 
 
 # Other forms of the same call ----------------------------------------------
@@ -48,12 +48,12 @@ def filled_up(generator, line, length):
 
 
 def in_small_letters(generator, call):
-    return f"{call[0]} {text_of(call[1]).lower()}"
+    return with_number(call, 1, text_of(call[1]).lower())
 
 
 def in_both_cases(generator, call):
     """Each digit above 9 in a capital or a small letter."""
-    return f"{call[0]} {''.join(generator.choice((digit, digit.lower())) for digit in text_of(call[1]))}"
+    return with_number(call, 1, "".join(generator.choice((digit, digit.lower())) for digit in text_of(call[1])))
 
 
 OTHER_FORMS = {"leading zeros": with_leading_zeros, "eighteen digits": with_eighteen_digits, "twenty digits": with_twenty_digits,
@@ -69,6 +69,7 @@ NO_BYTES = ("--", "-0", "-00", "0-", "00-", "+00", "0x00", "00h", "0h", "g0", "0
 NO_WORDS = ("scam", "sca", "scann", "scan,", "scans", "freshen", "fres", "writ", "writes", "rewrite", "rea", "reads", "ok", "value",
             "refused", "error", "x", "-", "128", "scan128", "read5", "sav", "saves", "restar", "restarts", "start", "image", "save137",
             "cloc", "clocks", "clock36", "clock-", "time", "none")
+NO_LINE_WORDS = (*NO_WORDS, "lin", "lines", "line-", "line:", "line>", "in", "reply", "typed", "terminal", "XP", "5850", "MD>1000")
 NO_SHEET_WORDS = (*NO_WORDS, "shee", "sheets", "sheet-", "sheet-ne", "sheet-news", "sheet_new", "sheetnew", "sheet-las", "sheet-lasts",
                   "sheetlast", "sheet-fee", "sheet-feeds", "sheetfeed", "new", "last", "feed", "full", "sheet-old", "sheet=", "-sheet")
 # In place of a mode: parts and other forms of the words, the names that document 01 has for modes, numbers
@@ -98,7 +99,7 @@ def numbers_in(call):
 
     A scan's milliseconds have forms of their own, and aren't among them.
     """
-    return [(place, *ends) for place, ends in enumerate(RANGES.get(call[0], ()), 1) if ends not in (MODE, READING)]
+    return [(place, *ends) for place, ends in enumerate(RANGES.get(call[0], ()), 1) if ends not in (MODE, READING, TYPED)]
 
 
 def number_beyond_its_type(generator, call):
@@ -174,7 +175,8 @@ def mode_behind(generator, call):
 
 
 def unknown_word(generator, call):
-    return line_of((generator.choice(NO_SHEET_WORDS if call[0].startswith("sheet") else NO_WORDS), *call[1:]))
+    words = NO_SHEET_WORDS if call[0].startswith("sheet") else NO_LINE_WORDS if call[0] == "line" else NO_WORDS
+    return line_of((generator.choice(words), *call[1:]))
 
 
 def word_in_capitals(generator, call):
@@ -225,20 +227,26 @@ def with_wrong_text(text, wrong, place):
 
 def no_bytes(generator, call):
     text, wrong = text_of(call[1]).replace("-", ""), generator.choice(NO_BYTES)
-    return f"{call[0]} {generator.choice(with_wrong_text(text, wrong, 2 * generator.randint(0, len(text) // 2)))}"
+    return with_number(call, 1, generator.choice(with_wrong_text(text, wrong, 2 * generator.randint(0, len(text) // 2))))
 
 
 def odd_digits(generator, call):
     """One digit more or less."""
     text = text_of(call[1]).replace("-", "")
-    return f"{call[0]} {generator.choice((text + '0', '0' + text, text[1:] or 'A', text[:-1] or '7'))}"
+    return with_number(call, 1, generator.choice((text + "0", "0" + text, text[1:] or "A", text[:-1] or "7")))
 
 
 def blank_in_bytes(generator, call):
-    """Two or more parts: two arguments at least."""
+    """Two or more parts: one argument more at least."""
     text = text_of(call[1]) + "00"
     place = generator.randint(1, len(text) - 1)
-    return f"{call[0]} {text[:place]} {text[place:]}"
+    return with_number(call, 1, f"{text[:place]} {text[place:]}")
+
+
+def too_many_bytes(generator, call):
+    """More than a line of the terminal may have; what stands before them is a line or the longest line."""
+    length = generator.choice((MOST_BYTES + 1, MOST_BYTES + 2, generator.randint(MOST_BYTES + 1, 340)))
+    return with_number(call, 1, call[1][:MOST_BYTES].ljust(length, generator.choice((b"0", b" ", b"\0"))))
 
 
 LINE_ERRORS = {"number missing": number_missing, "number too many": number_too_many, "number beyond its type": number_beyond_its_type,
@@ -246,17 +254,18 @@ LINE_ERRORS = {"number missing": number_missing, "number too many": number_too_m
                "unknown word": unknown_word, "word in capitals": word_in_capitals, "no word": no_word, "word twice": word_twice,
                "empty line": empty_line, "blanks only": blanks_only, "other blank": other_blank, "two calls": two_calls,
                "overlong line": overlong_line, "no bytes": no_bytes, "odd digits": odd_digits, "blank in bytes": blank_in_bytes,
+               "too many bytes": too_many_bytes,
                "no mode": no_mode, "mode in capitals": mode_in_capitals, "mode behind": mode_behind,
                "reading signed": reading_signed, "reading of 21 digits": reading_of_21_digits,
                "reading beyond 64 bits": reading_beyond_64_bits, "reading no number": reading_no_number}
-# What is made of bytes, which only a restart has, of a mode, which only an answer to be entered has, of milliseconds,
-# which only a scan has, and of numbers, which a restart and some other calls haven't; some lines with a number that is
-# wrong elsewhere are calls all the same.
+# What is made of bytes, which a restart and a line of the terminal have, the second up to so many, of a mode, which
+# only an answer to be entered has, of milliseconds, which only a scan has, and of numbers, which a restart and some
+# other calls haven't; some lines with a number that is wrong elsewhere are calls all the same.
 OF_BYTES = ("small letters", "both cases", "no bytes", "odd digits", "blank in bytes")
 OF_MODES = ("no mode", "mode in capitals", "mode behind")
 OF_READINGS = ("twenty digits", "reading signed", "reading of 21 digits", "reading beyond 64 bits", "reading no number")
 OF_NUMBERS = ("leading zeros", "eighteen digits", "minus zero", "number beyond its type", "nineteen digits", "no number")
-NOT_OF = {"scan": (*OF_BYTES, *OF_MODES), "restart": (*OF_NUMBERS, *OF_MODES), "sheet-feed": OF_BYTES,
+NOT_OF = {"scan": (*OF_BYTES, *OF_MODES), "restart": (*OF_NUMBERS, *OF_MODES), "line": OF_MODES, "sheet-feed": OF_BYTES,
           "write": (*OF_BYTES, *OF_MODES, "number below zero"),
           "read": (*OF_BYTES, *OF_MODES, "number below zero", "number beyond its type"),
           **{word: (*OF_BYTES, *OF_MODES, *OF_NUMBERS, "number missing", "number below zero")
@@ -265,7 +274,8 @@ NOT_OF = {"scan": (*OF_BYTES, *OF_MODES), "restart": (*OF_NUMBERS, *OF_MODES), "
 
 def applies(kind, word):
     """Whether a call of this word can be put in this form or made into this line error."""
-    return kind not in NOT_OF.get(word, (*OF_BYTES, *OF_MODES)) and (word == "scan" or kind not in OF_READINGS)
+    return (kind not in NOT_OF.get(word, (*OF_BYTES, *OF_MODES)) and (word == "scan" or kind not in OF_READINGS)
+            and (word == "line" or kind != "too many bytes"))
 
 
 def other_forms_of(word):

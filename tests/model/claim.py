@@ -4,12 +4,14 @@ checked after every call, and what each call may change.
 It is written apart from the rules: the conditions of the modes, the causes, the accepted automatic scans and the
 outright settings are written out here again from the paper's words, and are read from the exact controller.  So is the
 clock of document 02, request 2: the reading that is remembered, and what a gap forgets, are told from the calls and
-their answers.  Nothing of the rules is called, and of the model only the names of the state items are used.
+their answers.  A line of request 4 is taken for the read or write that it names (`line_claim.py`).  Nothing of the
+rules is called, and of the model only the names of the state items are used.
 """
 
 from functools import lru_cache
 from operator import itemgetter
 
+from tests.model.line_claim import LineClaim
 from tests.model.state import Controller
 
 STEPS_IN_A_UNIT = 65536
@@ -93,6 +95,7 @@ class Claim:
         self.restart_brought_fault = False  # whether the last accepted restart brought the memory fault
         self.cleared_since = False          # an accepted write of MD with bit 8 zero came after that restart
         self.reading, self.remembered = None, 0
+        self.lines = LineClaim()
 
     def broken(self, call, before, after, answers, mode_of):
         """The parts of the claim that this call has broken.
@@ -101,13 +104,16 @@ class Claim:
         second; mode_of tells the mode that a controller of ours is in.
         """
         stored, exact = after
+        broken_line = []
+        if call[0] == "line":
+            call, answers, broken_line = self.lines.taken_for(call, before, after, answers)
         is_to_leave = call[0] in ASKING or answers[0][0] == "refused"
         untimely = [*self.broken_timing(call, answers[0])] if call[0] in TIMED else []
         if is_to_leave and stored is before[0] and exact is before[1]:  # all that was found of them still holds
-            return [*untimely, *broken_answers(call, after, None, answers)]
+            return [*untimely, *broken_line, *broken_answers(call, after, None, answers)]
         mode, indicated = first_mode_present(exact), mode_of(stored)
         self.follow(call, before[1], exact, answers[1], mode)
-        return [*untimely, *self.broken_states(after), *broken_leaving(call, before, after, answers),
+        return [*untimely, *broken_line, *self.broken_states(after), *broken_leaving(call, before, after, answers),
                 *broken_answers(call, after, mode, answers),
                 *self.broken_output(stored, exact, mode),
                 *([] if indicated == mode else [f"the mode is {indicated}, the first condition present is that of {mode}"])]

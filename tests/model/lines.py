@@ -19,19 +19,21 @@ MODE_WORDS = {"Hold": "hold", "Track": "track", "Forced Manual": "forced", "Manu
 MODE_OF_WORD = {word: mode for mode, word in MODE_WORDS.items()}
 # The least and the greatest of each number: SW, samples, DS and OP have 16 bits, pins, buttons and sensors 8, a value
 # to be written 32 and a sign, a PV to be entered in a sheet 16 and a sign; a parameter number may be any; a save's
-# buffer has up to 300 bytes; milliseconds have 64 bits, and no sign even at 0.  A restart has bytes in place of
-# numbers, and an answer to be entered begins with a mode.  Further kinds of call are to be added here.
+# buffer and that of a line's reply have up to 300 bytes; milliseconds have 64 bits, and no sign even at 0.  A restart
+# has bytes in place of numbers, a line of the terminal begins with its own, up to 300, and an answer to be entered with
+# a mode.  Further kinds of call are to be added here.
 BYTE, WORD, SIGNED_WORD, VALUE = (0, 255), (0, 65535), (-1 << 15, (1 << 15) - 1), (-1 << 31, (1 << 31) - 1)
-ANY, BUFFER, MODE, READING = (1 - 10 ** 18, 10 ** 18 - 1), (0, 300), "mode", (0, (1 << 64) - 1)
+ANY, BUFFER, MODE, TYPED, READING = (1 - 10 ** 18, 10 ** 18 - 1), (0, 300), "mode", "typed", (0, (1 << 64) - 1)
 RANGES = {"fresh": (WORD,), "scan": (BYTE, WORD, WORD, WORD, BYTE, BYTE, READING), "write": (ANY, VALUE), "read": (ANY,),
-          "save": (BUFFER,), "clock": (), "sheet-new": (), "sheet-last": (), "sheet-feed": (MODE, SIGNED_WORD, WORD, WORD), "sheet": ()}
-MOST_BYTES = 300  # of an image in the lists; what the console makes of more isn't decided
+          "save": (BUFFER,), "clock": (), "line": (TYPED, BUFFER), "sheet-new": (), "sheet-last": (),
+          "sheet-feed": (MODE, SIGNED_WORD, WORD, WORD), "sheet": ()}
+MOST_BYTES = 300  # of a line; of an image in the lists, what the console makes of more isn't decided
 
 
 # The same lines come again and again: what was found of them is kept, to save time.
 @lru_cache(maxsize=1 << 14)
 def call_of(line):
-    """The call that a line makes, as its word and numbers, a restart's as its word and bytes.
+    """The call that a line makes, as its word and numbers; a restart's as its word and bytes.
 
     None for a line to be answered error.
     """
@@ -56,9 +58,11 @@ def call_by(ranges, word, texts):
 
 
 def part_of(text, kind):
-    """The number or the mode that a text is, or None."""
+    """The number, the mode or the typed bytes that a text is, or None."""
     if kind == MODE:
         return MODE_OF_WORD.get(text)
+    if kind == TYPED:
+        return bytes_of(text) if BYTES.fullmatch(text) and len(text) <= 2 * MOST_BYTES else None
     if not (MILLISECONDS if kind == READING else NUMBER).fullmatch(text):
         return None
     (least, greatest), number = kind, int(text)

@@ -22,7 +22,7 @@ TEXTS = (("a.py", "# " + "word " * 24, [1]), ("a.py", "x = [" + "1, " * 46 + "]"
          ("a.py", f'def f():\n    """{"word " * 24}"""', [2]), ("a.py", f'def f():\n    return "{"word " * 24}"', []),
          ("a.rt", "// " + "word " * 24, [1]), ("a.rt", "x" * 150, []), ("a.antt", "f : " + "ℕ → " * 34 + "ℕ", [1]),
          ("a.antt", "f : " + "ℕ → " * 33 + "ℕ", []), ("a.antt", "-- " + "word " * 24, [1]), ("a.edit", "word " * 40, []),
-         ("demo/show", "# " + "word " * 24, [1]),
+         ("demo/show", "# " + "word " * 24, [1]), ("crates.txt", "a: " + "word " * 40, []), ("crates.txt", "# " + "word " * 24, [1]),
          ("crates/worked/specs/ModelCalls.antt", "word " * 40, []), ("a.py", "# http://" + "a" * 140, []),
          ("a.md", "word " * 25, [1]), ("a.md", "| " + "cell " * 40, []), ("a.md", "    " + "code " * 40, []),
          ("a.md", "- " + "a" * 140, []),

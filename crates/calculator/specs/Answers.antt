@@ -1,7 +1,7 @@
 -- The lines that answer calls, as bytes.
 use mathlib.Core.List.{List, _++_}
 use Prim.Native.Nat.{ℕ}
-use Rattle.text.specs.Digits.{decimal}
+use Rattle.numerals.specs.Numerals.{decimal}
 use Rattle.formatting.specs.Ascii.{ascii}
 use Rattle.calculator.specs.declared.answer.Answer.{Answer}
 use Rattle.calculator.specs.declared.answer.Answer.the-variants.{Number, NoCall}

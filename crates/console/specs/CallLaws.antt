@@ -1,15 +1,17 @@
--- Laws of the calls: the next controller is valid, and a save changes no byte that isn't the image's.
+-- Laws of the calls: the next controller is valid, a save changes no byte that isn't the image's, and a terminal's line
+-- none that isn't the reply's.
 use mathlib.Core.Bool.{Bool, true, false, _&&_, cond}
 use mathlib.Core.List.{List, [], _∷_, _++_, append-assoc}
-use mathlib.Core.Option.{some, none}
+use mathlib.Core.Option.{Option, some, none}
 use mathlib.Core.Path.{_≡_, refl}
 use Prim.Native.Nat.{ℕ, zero, suc, _+_, _≤_, _<_}
 use native.Mathlib.Numerals.{add-one}
 use lib.Dec.{eqb, leb, ltb}
+use lib.IntN.{ℤ}
 use lib.ListN.{length, take, drop, getD, replicate, drop-of-length-le}
 use lib.Seq.{drop-at, drop-cons}
-use borrow.Author.Tests.{eq-eqb, ne-eqb, lt-leb, le-leb, ltb-true, ltb-false}
-use Rattle.integers.specs.Choice.{by-cases}
+use borrow.Author.Tests.{eq-eqb, ne-eqb, lt-leb, le-leb, leb-true, ltb-true, ltb-false}
+use Rattle.integers.specs.Choice.{by-cases, both}
 use Rattle.signals.specs.Refusals.{numberOf, refusedBy}
 use Rattle.signals.specs.declared.Verdict.{Verdict}
 use Rattle.signals.specs.declared.Verdict.the-variants as verdict
@@ -20,18 +22,25 @@ use Rattle.controller.specs.RestartLaws.{valid-restart}
 use Rattle.controller.specs.Restart.{restart}
 use Rattle.controller.specs.Save.{savedImage}
 use Rattle.controller.specs.Valid.{Valid}
+use Rattle.controller.specs.Write.{writeTests, write}
 use Rattle.controller.specs.ValidLaws.{valid-fresh, valid-scan}
 use Rattle.controller.specs.WriteLaws.{valid-write}
 use Rattle.controller.specs.declared.Controller.{Controller}
+use Rattle.terminal.specs.Commands.{commandIn}
+use Rattle.terminal.specs.Terminal.{replyText, presentValue, replied, wroteOr, answeredTo, answered, refusedLine, LineOutcome}
+use Rattle.terminal.specs.TerminalLaws.{valid-line}
+use Rattle.terminal.specs.declared.command.Command as terminal
+use Rattle.terminal.specs.declared.command.Command.the-variants as command
 use Rattle.console.specs.Calls.{isFilled, stepOf, unchangedWith, performed, checkedReply, saveReply}
+use Rattle.console.specs.Calls.{filled, terminalFits, terminalOutcome, terminalReply, terminalStep, checkedTerminal}
 use Rattle.console.specs.declared.call.Reply.the-variants.{Image, Refused, Error}
 use Rattle.console.specs.declared.call.Step.{Step}
 use Rattle.console.specs.declared.request.Call.{Call}
-use Rattle.console.specs.declared.request.Call.the-variants.{Fresh, Scan, Write, Read, Restart, Save, Clock}
+use Rattle.console.specs.declared.request.Call.the-variants.{Fresh, Scan, Write, Read, Restart, Save, Line, Clock}
 
 -- every call leaves a controller that the next call may take
 pub valid-performed : (c : Controller) (call : Call) (bytes : List ℕ) → Valid c → Valid (performed c call bytes .controller)
-unfolding performed
+unfolding performed terminalStep
 valid-performed c (Fresh sw) bytes v = valid-fresh sw
 valid-performed c (Scan input) bytes v = valid-scan c input v
 valid-performed c (Write n value) bytes v = valid-write c n value v
@@ -40,6 +49,9 @@ valid-performed c (Restart count) bytes v =
     by-cases (λ (s : Step). Valid (s .controller)) (leb count (length bytes)) (stepOf (restart c (take count bytes)))
     (unchangedWith c Error) (λ e. valid-restart c (take count bytes) v) (λ e. v)
 valid-performed c (Save count) bytes v = v
+valid-performed c (Line count size) bytes v =
+    by-cases (λ (s : Step). Valid (s .controller)) (terminalFits count size (length bytes)) _ (unchangedWith c Error)
+    (λ e. valid-line c (take count bytes) (take size (filled bytes)) v) (λ e. v)
 valid-performed c Clock bytes v = v
 
 -- ---- filled buffers
@@ -126,3 +138,56 @@ module _ (c : Controller) (valid : Valid c) (part rest : List ℕ) (p : isFilled
           → checkedReply v (savedIn (savedImage c) part ++ rest) ≡ saveReply (cond t (some 15) none)
       go true e = short (ltb-true (length part) 137 e) v
       go false e = long (ltb-false (length part) 137 e) v
+
+-- ---- a line of the terminal
+
+pub record Fits (count size room : ℕ) : Type 0 where
+  pub few : count ≤ 300
+  pub line : count ≤ room
+  pub reply : size ≤ room
+
+pub line-fits : (count size room : ℕ) → terminalFits count size room ≡ true → Fits count size room
+line-fits count size room e =
+    let h = both (leb count 300 && leb count room) (leb size room) e in
+    let k = both (leb count 300) (leb count room) (h .0) in
+    record { few = leb-true count 300 (k .0); line = leb-true count room (k .1); reply = leb-true size room (h .1) }
+
+-- into `part` of a filled buffer, with `rest` behind it
+module _ (part rest : List ℕ) (p : isFilled part ≡ true) (r : isFilled rest ≡ true) where
+  -- the reply goes by the answer alone: no byte has changed that isn't the reply's
+  abbrev Unchanged : LineOutcome → Type 0
+  Unchanged o = checkedTerminal (o .answer) (o .buffer ++ rest) ≡ terminalReply (o .answer)
+
+  unchanged-refused : (c : Controller) (n : ℕ) → Unchanged (refusedLine c part n)
+  unfolding checkedTerminal
+  unchanged-refused c n = simp (filled-append part rest p r)
+
+  unchanged-replied : (c : Controller) (n : ℕ) → Unchanged (replied c n part)
+  unfolding checkedTerminal replied
+  unchanged-replied c n =
+      let text = replyText n (presentValue c n) in
+      let count = length text in
+      rw (
+        append-assoc text (drop count part) rest,
+        drop-at text (drop count part ++ rest) count refl,
+        filled-append (drop count part) rest (filled-drop count part p) r,
+      )
+
+  unchanged-wrote : (d : Option ℕ) (c : Controller) (n : ℕ) (v : ℤ) → Unchanged (wroteOr d c n v part)
+  unchanged-wrote none c n v = unchanged-replied (write c n v .next) n
+  unchanged-wrote (some k) c n v = unchanged-refused c k
+
+  unchanged-to : (c : Controller) (asked : terminal.Command) → Unchanged (answeredTo c part asked)
+  unfolding answeredTo
+  unchanged-to c command.NoMnemonic = unchanged-refused c 17
+  unchanged-to c command.NoValue = unchanged-refused c 18
+  unchanged-to c (command.Read n) =
+      by-cases Unchanged (ltb (length part) 9) (refusedLine c part 15) (replied c n part) (λ e. unchanged-refused c 15)
+      (λ e. unchanged-replied c n)
+  unchanged-to c (command.Write n v) =
+      by-cases Unchanged (ltb (length part) 9) (refusedLine c part 15) _ (λ e. unchanged-refused c 15)
+      (λ e. unchanged-wrote (refusedBy (writeTests (c .core) n v)) c n v)
+
+  pub checked-line : (c : Controller) (line : List ℕ) → Unchanged (answered c line part)
+  unfolding answered
+  checked-line c line = unchanged-to c (commandIn line)

@@ -20,12 +20,14 @@ use Rattle.controller.specs.Scan.{scan}
 use Rattle.controller.specs.State.{freshController}
 use Rattle.controller.specs.Write.{write}
 use Rattle.controller.specs.declared.Controller.{Controller}
+use Rattle.terminal.specs.Terminal as terminal
+use Rattle.terminal.specs.Terminal.{LineReply, LineOutcome, answered}
 use Rattle.console.specs.declared.call.Reply.{Reply}
 use Rattle.console.specs.declared.call.Reply.the-variants as reply
 use Rattle.console.specs.declared.call.Reply.the-variants.{Accepted, Value, Answer, Image, Refused, Error}
 use Rattle.console.specs.declared.call.Step.{Step}
 use Rattle.console.specs.declared.request.Call.{Call}
-use Rattle.console.specs.declared.request.Call.the-variants.{Fresh, Scan, Write, Read, Restart, Save, Clock}
+use Rattle.console.specs.declared.request.Call.the-variants.{Fresh, Scan, Write, Read, Restart, Save, Line, Clock}
 
 -- the console's reply for each answer of the controller
 abbrev pub replyTo : answers.Reply → Reply
@@ -43,9 +45,9 @@ stepOf r = record { controller = r .next; reply = replyTo (r .answer) }
 abbrev pub unchangedWith : Controller → Reply → Step
 unchangedWith c reply = record { controller = c; reply = reply }
 
--- ---- saving
+-- ---- filled buffers
 
--- whether every byte is 0xA5, to which the buffer is filled before a save
+-- whether every byte is 0xA5, to which the buffer is filled before a call writes into it
 unfoldable pub isFilled : List ℕ → Bool
 isFilled [] = true
 isFilled (b ∷ bs) = eqb b 0xA5 && isFilled bs
@@ -53,6 +55,8 @@ isFilled (b ∷ bs) = eqb b 0xA5 && isFilled bs
 -- a buffer of this length, filled
 abbrev pub filled : List ℕ → List ℕ
 filled bytes = replicate (length bytes) 0xA5
+
+-- ---- saving
 
 -- the reply to a verdict, with the buffer as the save left it: `error` where a byte changed that isn't the image's
 unfoldable pub checkedReply : Verdict → List ℕ → Reply
@@ -73,9 +77,42 @@ unfoldable pub savedBuffer : Controller → ℕ → List ℕ → List ℕ
 savedBuffer c count bytes =
     let f = filled bytes in if leb count (length bytes) then savedIn (savedImage c) (take count f) ++ drop count f else f
 
+-- ---- a line of the terminal
+
+-- whether a buffer of that length has the line's bytes, at most 300, and those for the reply
+abbrev pub terminalFits : ℕ → ℕ → ℕ → Bool
+terminalFits count size room = leb count 300 && leb count room && leb size room
+
+-- what comes of the line that so many bytes of the buffer are, with so many filled bytes for the reply
+abbrev pub terminalOutcome : Controller → ℕ → ℕ → List ℕ → LineOutcome
+terminalOutcome c count size bytes = answered c (take count bytes) (take size (filled bytes))
+
+-- the reply to the terminal's answer, with the buffer as it left it: `error` where a byte changed that isn't of the
+-- reply
+unfoldable pub checkedTerminal : LineReply → List ℕ → Reply
+checkedTerminal (terminal.reply count) bytes = if isFilled (drop count bytes) then reply.Line count else Error
+checkedTerminal (terminal.number n) bytes = if isFilled bytes then Refused n else Error
+
+-- the reply by the answer alone
+abbrev pub terminalReply : LineReply → Reply
+terminalReply (terminal.reply count) = reply.Line count
+terminalReply (terminal.number n) = Refused n
+
+-- the next controller and the reply
+unfoldable pub terminalStep : Controller → ℕ → ℕ → List ℕ → Step
+terminalStep c count size bytes =
+    let outcome = terminalOutcome c count size bytes in
+    if terminalFits count size (length bytes) then record { controller = outcome .next; reply = terminalReply (outcome .answer) } else
+    unchangedWith c Error
+
+-- the buffer after it: filled, and the reply in front where there is one
+unfoldable pub terminalBuffer : Controller → ℕ → ℕ → List ℕ → List ℕ
+terminalBuffer c count size bytes =
+    if terminalFits count size (length bytes) then terminalOutcome c count size bytes .buffer ++ drop size (filled bytes) else bytes
+
 -- ---- every call
 
--- the next controller and the reply, with the buffer that holds a restart's bytes
+-- the next controller and the reply, with the buffer that holds a restart's bytes or a terminal's line
 unfoldable pub performed : Controller → Call → List ℕ → Step
 performed c (Fresh sw) bytes = unchangedWith (freshController sw) Accepted
 performed c (Scan input) bytes = stepOf (scan c input)
@@ -83,11 +120,13 @@ performed c (Write n v) bytes = stepOf (write c n v)
 performed c (Read n) bytes = unchangedWith c (replyTo (read c n))
 performed c (Restart count) bytes = if leb count (length bytes) then stepOf (restart c (take count bytes)) else unchangedWith c Error
 performed c (Save count) bytes = unchangedWith c (replyToSave count bytes)
+performed c (Line count size) bytes = terminalStep c count size bytes
 performed c Clock bytes = unchangedWith c (reply.Clock (c .core .clock))
 
--- the buffer afterwards: only a save changes it
+-- the buffer afterwards: only a save and a terminal's line change it
 unfoldable pub bufferAfter : Controller → Call → List ℕ → List ℕ
 bufferAfter c (Save count) bytes = savedBuffer c count bytes
+bufferAfter c (Line count size) bytes = terminalBuffer c count size bytes
 bufferAfter c (Fresh sw) bytes = bytes
 bufferAfter c (Scan input) bytes = bytes
 bufferAfter c (Write n v) bytes = bytes

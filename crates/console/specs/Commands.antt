@@ -1,4 +1,4 @@
--- The command that a line asks for, and the bytes of a restart in the buffer.
+-- The command that a line asks for, and the bytes of a restart or of a terminal's line in the buffer.
 use mathlib.Core.Bool.{_&&_}
 use mathlib.Core.List.{List}
 use mathlib.Core.Option.{Option}
@@ -9,20 +9,20 @@ use lib.ListN.{length, take}
 use lib.Signed.{leZ}
 use Rattle.integers.specs.Choice.{if_then_else_}
 use Rattle.integers.specs.Sign.{isNegative}
+use Rattle.numerals.specs.Parsed.{naturalOf}
+use Rattle.numerals.specs.declared.ParsedNatural.{ParsedNatural}
+use Rattle.numerals.specs.declared.ParsedNatural.the-variants as reading
 use Rattle.text.specs.Arguments.{part, argument, argumentsFrom, hasCount, isCall, naturalIn}
 use Rattle.text.specs.Hexadecimal.{bytesOf, countIn, bytesIn}
-use Rattle.text.specs.Numbers.{naturalOf}
 use Rattle.text.specs.Words.{wordAt, onlyWord, afterWords, sameBytes}
 use Rattle.text.specs.declared.arguments.Arguments.{Arguments}
 use Rattle.text.specs.declared.hexadecimal.Count.{Count}
 use Rattle.text.specs.declared.hexadecimal.Count.the-variants.{Bytes, Malformed}
-use Rattle.text.specs.declared.natural.ParsedNatural.{ParsedNatural}
-use Rattle.text.specs.declared.natural.ParsedNatural.the-variants as reading
 use Rattle.formatting.specs.Ascii.{ascii}
 use Rattle.sheet_lines.specs.Answers.{answerFrom}
 use Rattle.sheet_lines.specs.declared.answer.ParsedAnswer.{ParsedAnswer}
 use Rattle.sheet_lines.specs.declared.answer.ParsedAnswer.the-variants as parsed
-use Rattle.console.specs.declared.request.Call.the-variants.{Fresh, Scan, Write, Read, Restart, Save, Clock}
+use Rattle.console.specs.declared.request.Call.the-variants.{Fresh, Scan, Write, Read, Restart, Save, Line, Clock}
 use Rattle.console.specs.declared.request.Command.{Command}
 use Rattle.console.specs.declared.request.Command.the-variants as command
 use Rattle.console.specs.declared.sheet_call.SheetCall.the-variants as sheetcall
@@ -124,14 +124,33 @@ abbrev pub restartOf : Count → Command
 restartOf (Bytes n) = command.Call (Restart n)
 restartOf Malformed = command.Invalid
 
+-- ---- a line of the terminal
+
+-- line HEX LENGTH: the bytes of the first word behind a place
+unfoldable pub terminalBytes : List ℕ → ℕ → Option (List ℕ)
+terminalBytes line start = let word = wordAt line start in bytesOf (part line (word .from) (word .to))
+
+-- with that many bytes, at most 300, and the one number behind them; a malformed word asks nothing
+unfoldable pub terminalOf : Count → Arguments → Command
+terminalOf (Bytes n) a =
+    let size = naturalIn (argument (a .values) 0) 0 300 in
+    if hasCount a 1 && size .ok && leb n 300 then command.Call (Line n (size .value)) else command.Invalid
+terminalOf Malformed a = command.Invalid
+
+-- with a buffer of that length for the bytes
+unfoldable pub terminalCommand : List ℕ → ℕ → ℕ → Command
+terminalCommand line start size =
+    terminalOf (countIn (terminalBytes line start) size) (argumentsFrom line (wordAt line start .to))
+
 -- ---- a line
 
--- what a line asks, with a buffer of that length for a restart's bytes
+-- what a line asks, with a buffer of that length for a restart's bytes or a terminal's line
 unfoldable pub commandOf : List ℕ → ℕ → Command
 commandOf call size =
     let w = wordAt call 0 in
     let word = part call (w .from) (w .to) in
     if sameBytes word (ascii "restart") then restartOf (countIn (restartImage call (w .to)) size) else
+    if sameBytes word (ascii "line") then terminalCommand call (w .to) size else
     if sameBytes word (ascii "scan") then scanCommand call (w .to) else
     if sameBytes word (ascii "sheet-feed") then feedCommand call (w .to) else
     numbersCommand word (argumentsFrom call (w .to))
@@ -140,7 +159,9 @@ commandOf call size =
 unfoldable pub commandBytes : List ℕ → List ℕ → List ℕ
 commandBytes call bytes =
     let w = wordAt call 0 in
-    if sameBytes (part call (w .from) (w .to)) (ascii "restart") then bytesIn (restartImage call (w .to)) bytes else bytes
+    let word = part call (w .from) (w .to) in
+    if sameBytes word (ascii "restart") then bytesIn (restartImage call (w .to)) bytes else
+    if sameBytes word (ascii "line") then bytesIn (terminalBytes call (w .to)) bytes else bytes
 
 -- a line that fills its whole buffer is too long
 unfoldable pub commandIn : List ℕ → ℕ → ℕ → Command

@@ -2,22 +2,16 @@
 use mathlib.Core.List.{List}
 use mathlib.Core.Path.{_≡_}
 use Prim.Native.Nat.{ℕ, _+_, _≤_}
-use lib.Dec.{ltb}
 use lib.ListN.{length, replicate}
-use Rattle.integers.specs.Choice.{if_then_else_}
 use Rattle.formatting.specs.Buffer.{buffer, appendAll}
 use Rattle.formatting.specs.Laws.{replaced}
+use Rattle.lines.specs.Lines.{startOf}
 use Rattle.console.specs.Commands.{commandIn, bytesAfter}
 use Rattle.console.specs.Replies.{replyLine}
 use Rattle.console.specs.Sessions.{sessionStep, sessionBuffer}
 use Rattle.console.specs.declared.request.Command.{Command}
 use Rattle.console.specs.declared.session.Session.{Session}
 use Rattle.console.specs.declared.session.SessionStep.{SessionStep}
-
--- where the reply to a line begins in the output: at the front where more than 64,000 bytes were used, since those are
--- written out first
-abbrev pub startOf : ℕ → ℕ
-startOf used = if ltb 64000 used then 0 else used
 
 -- the command of the first `len` bytes, and the buffer after it was parsed, of 346 bytes that were 0
 abbrev pub lineCommand : List ℕ → ℕ → Command

@@ -9,12 +9,13 @@ use Rattle.signals.specs.declared.clock.ClockReading.the-variants.{None, At}
 use Rattle.modes.specs.declared.Mode.the-variants.{Auto}
 use Rattle.answers.specs.declared.ScanValues.{ScanValues}
 use Rattle.sheet.specs.declared.Sheet.{Sheet}
-use Rattle.text.specs.Digits.{digitsWithin, digits, decimal, hexadecimal}
+use Rattle.numerals.specs.Numerals.{digitByte, lastDigits, placesWithin, places, digits, decimal, hexadecimal}
 use Rattle.formatting.specs.Ascii.{ascii}
 use Rattle.sheet_lines.specs.ModeWords.{modeWord}
 use Rattle.sheet_lines.specs.SheetText.{sheetText}
 use Rattle.console.specs.declared.call.Reply.{Reply}
-use Rattle.console.specs.declared.call.Reply.the-variants.{Accepted, Value, Answer, Clock, Image, WholeSheet, Full, Refused, Error}
+use Rattle.console.specs.declared.call.Reply.the-variants.{Accepted, Value, Answer, Clock, Image, Line}
+use Rattle.console.specs.declared.call.Reply.the-variants.{WholeSheet, Full, Refused, Error}
 
 -- a blank and a number
 unfoldable pub spaced : ℕ → List ℕ
@@ -41,16 +42,21 @@ clockText (At milliseconds) = ascii "clock" ++ spaced milliseconds
 unfoldable pub imageText : List ℕ → List ℕ
 imageText saved = ascii "image " ++ hexadecimal (take 137 saved)
 
+-- the terminal's reply: its length, and so many bytes of the buffer that it was written into
+unfoldable pub lineText : ℕ → List ℕ → List ℕ
+lineText count saved = ascii "reply" ++ spaced count ++ ascii " " ++ hexadecimal (take count saved)
+
 unfoldable pub refusedText : ℕ → List ℕ
 refusedText number = ascii "refused" ++ spaced number
 
--- a line without its end, with the buffer that was saved into, and the sheet
+-- a line without its end, with the buffer that was written into, and the sheet
 unfoldable pub replyText : Reply → List ℕ → Sheet → List ℕ
 replyText Accepted saved sheet = ascii "ok"
 replyText (Value v) saved sheet = valueText v
 replyText (Answer v) saved sheet = answerText v
 replyText (Clock reading) saved sheet = clockText reading
 replyText Image saved sheet = imageText saved
+replyText (Line count) saved sheet = lineText count saved
 replyText WholeSheet saved sheet = sheetText (sheet .values)
 replyText Full saved sheet = ascii "full"
 replyText (Refused number) saved sheet = refusedText number
@@ -64,5 +70,5 @@ replyLine reply saved sheet = replyText reply saved sheet ++ ascii "\n"
 answer-example :
     answerText (record { md = 0x1002; ds = 0x913F; op = 0; electrical = 0; mode = Auto; pv = pos 500 })
     ≡ ascii "scan 4098 37183 0 0 auto 500"
-unfolding answerText wordsText spaced digits digitsWithin decimal modeWord
+unfolding answerText wordsText spaced digitByte lastDigits placesWithin places digits decimal modeWord
 answer-example = refl

@@ -1,27 +1,26 @@
 -- How long the line of a reply is: it stands whole in the output, where no more than 64,000 of 65,536 bytes are used.
-use mathlib.Core.Bool.{cond}
 use mathlib.Core.List.{List}
 use mathlib.Core.Path.{_≡_}
 use Prim.Native.Nat.{ℕ, _+_, _≤_, _<_}
 use native.Mathlib.Omega.{arith}
-use borrow.Author.Tests.{ltb-false}
-use lib.Dec.{ltb}
 use lib.IntN.{ℤ, pos, negsuc, natAbs}
 use lib.Signed.{mag}
 use lib.ListN.{length, take, length-append, length-take}
-use Rattle.integers.specs.Choice.{by-cases}
 use Rattle.signals.specs.declared.clock.ClockReading.{ClockReading}
 use Rattle.signals.specs.declared.clock.ClockReading.the-variants.{None, At}
 use Rattle.answers.specs.declared.ScanValues.{ScanValues}
 use Rattle.sheet.specs.declared.Sheet.{Sheet}
-use Rattle.text.specs.Digits.{digits-few, decimal-few, hexadecimal-length}
+use Rattle.numerals.specs.DigitLaws.{hexadecimal-length}
+use Rattle.numerals.specs.Shortest.{digits-few, decimal-few}
 use Rattle.formatting.specs.Buffer.{buffer, appendAll}
 use Rattle.formatting.specs.Laws.{replaced, append-room}
 use Rattle.sheet_lines.specs.ModeLaws.{word-length}
 use Rattle.sheet_lines.specs.SheetText.{sheetText}
-use Rattle.console.specs.Replies.{spaced, wordsText, answerText, valueText, clockText, imageText, refusedText, replyText, replyLine}
+use Rattle.console.specs.Replies.{spaced, wordsText, answerText, valueText, clockText, imageText, lineText, refusedText}
+use Rattle.console.specs.Replies.{replyText, replyLine}
 use Rattle.console.specs.declared.call.Reply.{Reply}
-use Rattle.console.specs.declared.call.Reply.the-variants.{Accepted, Value, Answer, Clock, Image, WholeSheet, Full, Refused, Error}
+use Rattle.console.specs.declared.call.Reply.the-variants.{Accepted, Value, Answer, Clock, Image, Line}
+use Rattle.console.specs.declared.call.Reply.the-variants.{WholeSheet, Full, Refused, Error}
 
 spaced-length : (n : ℕ) → n < 65536 → length (spaced n) ≤ 6
 unfolding spaced
@@ -52,6 +51,7 @@ InRange (Answer v) sheet = AnswerRange v
 InRange (Value v) sheet = natAbs v ≤ 2147483648
 InRange (Clock reading) sheet = ReadingRange reading
 InRange (Refused n) sheet = n < 256
+InRange (Line count) sheet = count < 18446744073709551616
 InRange WholeSheet sheet = length (sheetText (sheet .values)) ≤ 308
 InRange Accepted sheet = Unit {0}
 InRange Image sheet = Unit {0}
@@ -73,40 +73,45 @@ clock-length None h = omega arith
 clock-length (At milliseconds) h =
     let d = digits-few milliseconds 20 (omega arith) (omega arith) in simp length-append (omega arith)
 
-text-length : (reply : Reply) (saved : List ℕ) (sheet : Sheet) → InRange reply sheet → length (replyText reply saved sheet) ≤ 308
+line-length : (count : ℕ) (saved : List ℕ) → count < 18446744073709551616 → length saved ≤ 346 → length (lineText count saved) ≤ 719
+unfolding lineText spaced
+line-length count saved h size =
+    let d = digits-few count 20 (omega arith) (omega arith) in
+    simp length-append (omega (arith, hexadecimal-length (take count saved), length-take count saved))
+
+text-length : (reply : Reply) (saved : List ℕ) (sheet : Sheet) → InRange reply sheet → length saved ≤ 346 →
+    length (replyText reply saved sheet) ≤ 719
 unfolding replyText answerText valueText imageText refusedText
-text-length (Answer v) saved sheet h =
+text-length (Answer v) saved sheet h size =
     let w = words-length v (h .words) in
     let m = word-length (v .mode) in
-    let p = decimal-few (v .pv) 10 (omega arith) (omega arith) in
+    let p = decimal-few 10 (v .pv) (omega arith) (omega arith) in
     simp length-append (omega arith)
-text-length (Value v) saved sheet h = let d = decimal-few v 10 (omega arith) (omega arith) in simp length-append (omega arith)
-text-length (Clock reading) saved sheet h = let d = clock-length reading h in omega arith
-text-length (Refused n) saved sheet h = let d = spaced-length n (omega arith) in simp length-append (omega arith)
-text-length WholeSheet saved sheet h = h
-text-length Accepted saved sheet h = omega arith
-text-length Image saved sheet h =
+text-length (Value v) saved sheet h size = let d = decimal-few 10 v (omega arith) (omega arith) in simp length-append (omega arith)
+text-length (Clock reading) saved sheet h size = let d = clock-length reading h in omega arith
+text-length (Refused n) saved sheet h size = let d = spaced-length n (omega arith) in simp length-append (omega arith)
+text-length WholeSheet saved sheet h size = omega arith
+text-length (Line count) saved sheet h size = line-length count saved h size
+text-length Accepted saved sheet h size = omega arith
+text-length Image saved sheet h size =
     simp length-append (omega (arith, hexadecimal-length (take 137 saved), length-take 137 saved))
-text-length Full saved sheet h = omega arith
-text-length Error saved sheet h = omega arith
+text-length Full saved sheet h size = omega arith
+text-length Error saved sheet h size = omega arith
 
-pub reply-length : (reply : Reply) (saved : List ℕ) (sheet : Sheet) → InRange reply sheet → length (replyLine reply saved sheet) ≤ 309
+pub reply-length : (reply : Reply) (saved : List ℕ) (sheet : Sheet) → InRange reply sheet → length saved ≤ 346 →
+    length (replyLine reply saved sheet) ≤ 720
 unfolding replyLine
-reply-length reply saved sheet h = let t = text-length reply saved sheet h in simp length-append (omega arith)
+reply-length reply saved sheet h size = let t = text-length reply saved sheet h size in simp length-append (omega arith)
 
 -- the line stands whole behind the bytes used, and no other byte has changed
 module _ (reply : Reply) (saved : List ℕ) (sheet : Sheet) (out : List ℕ) (used : ℕ) where
-  pub reply-fits : InRange reply sheet → used ≤ 64000 → 65536 ≤ length out →
+  pub reply-fits : InRange reply sheet → length saved ≤ 346 → used ≤ 64000 → 65536 ≤ length out →
       appendAll (buffer out used) (replyLine reply saved sheet)
       ≡ buffer (replaced used (replyLine reply saved sheet) out) (used + length (replyLine reply saved sheet))
-  reply-fits r few size =
-      append-room (replyLine reply saved sheet) out used (omega (arith, reply-length reply saved sheet r))
+  reply-fits r short few size =
+      append-room (replyLine reply saved sheet) out used (omega (arith, reply-length reply saved sheet r short))
 
 -- ---- for the proofs of functions
-
-pub start-most : (used : ℕ) → cond (ltb 64000 used) 0 used ≤ 64000
-start-most used =
-    by-cases (λ (n : ℕ). n ≤ 64000) (ltb 64000 used) 0 used (λ e. omega arith) (λ e. let l = ltb-false 64000 used e in omega arith)
 
 -- a value of 32 bits
 pub value-most : (v : ℤ) → mag v < 2147483648 → natAbs v ≤ 2147483648

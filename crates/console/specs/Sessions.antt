@@ -12,7 +12,8 @@ use Rattle.controller.specs.State.{freshController}
 use Rattle.controller.specs.Valid as controller
 use Rattle.console.specs.Calls.{performed, bufferAfter}
 use Rattle.console.specs.declared.call.Reply.{Reply}
-use Rattle.console.specs.declared.call.Reply.the-variants.{Accepted, Value, Answer, Clock, Image, WholeSheet, Full, Refused, Error}
+use Rattle.console.specs.declared.call.Reply.the-variants.{Accepted, Value, Answer, Clock, Image, Line}
+use Rattle.console.specs.declared.call.Reply.the-variants.{WholeSheet, Full, Refused, Error}
 use Rattle.console.specs.declared.call.Step.{Step}
 use Rattle.console.specs.declared.request.Command.{Command}
 use Rattle.console.specs.declared.request.Command.the-variants as command
@@ -45,6 +46,7 @@ lastAfter last Accepted = last
 lastAfter last (Value v) = last
 lastAfter last (Clock reading) = last
 lastAfter last Image = last
+lastAfter last (Line count) = last
 lastAfter last WholeSheet = last
 lastAfter last Full = last
 lastAfter last (Refused n) = last
@@ -87,7 +89,7 @@ sheetStep s Read = staying s WholeSheet
 
 -- ---- every command
 
--- the next session and the reply, with the buffer that holds a restart's bytes
+-- the next session and the reply, with the buffer that holds a restart's bytes or a terminal's line
 unfoldable pub sessionStep : Session → Command → List ℕ → SessionStep
 sessionStep s (command.Call call) bytes = afterCall s (performed (s .controller) call bytes)
 sessionStep s (command.Sheet call) bytes = sheetStep s call

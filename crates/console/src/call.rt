@@ -24,6 +24,8 @@ pub enum Reply {
     Clock(ClockReading),
     // the image that was saved in the buffer beside
     Image,
+    // the terminal's reply, so many bytes at the front of the buffer beside
+    Line(usize),
     // the sheet beside
     WholeSheet,
     // an answer that a full sheet didn't take
@@ -97,7 +99,8 @@ fn write(controller: Controller, number: u64, value: i32) -> Step
     }
 }
 
-// Performs a call, with the buffer that holds a restart's bytes and takes a saved image. The contract gives the next
+// Performs a call, with the buffer that holds a restart's bytes or a terminal's line and takes a saved image or the
+// terminal's reply. The contract gives the next
 // controller, the reply and every byte of the buffer, so it rules out the reply of another call, a controller that
 // isn't handed on, and a call that is always an error; and a controller that the next call could not take.
 pub fn perform(controller: Controller, call: Call, buffer: &mut [u8]) -> Step
@@ -125,6 +128,7 @@ pub fn perform(controller: Controller, call: Call, buffer: &mut [u8]) -> Step
             let reply = crate::image::save(controller, count, buffer);
             Step { controller, reply }
         }
+        Call::Line(count, size) => crate::terminal_line::perform(controller, count, size, buffer),
         Call::Clock => Step {
             controller,
             reply: Reply::Clock(controller.last_reading()),

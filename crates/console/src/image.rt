@@ -1,21 +1,18 @@
 // What a line asks of an image: a restart with one, or saving one.
 ghost use mathlib.Core.Path.{_≡_};
 ghost use lib.Dec.{leb};
-ghost use lib.ListN.{length, take, drop, replicate};
+ghost use lib.ListN.{length, take, replicate};
 ghost use Rattle.integers.specs.Choice.{if_then_else_};
 ghost use Rattle.controller.specs.Restart.{restart};
 ghost use Rattle.controller.specs.Valid.{Valid};
-ghost use Rattle.console.specs.Calls.{stepOf, unchangedWith, isFilled, filled, checkedReply, replyToSave, savedBuffer};
+ghost use Rattle.console.specs.Calls.{stepOf, unchangedWith, checkedReply, replyToSave, savedBuffer};
 ghost use Rattle.console.specs.declared.call.Reply.the-variants.{Error};
 use crate::call::Reply;
 use crate::call::Step;
 use controller::Controller;
 use signals::Verdict;
 
-// What each byte of the buffer is before a save: none but the image's bytes may differ from it afterwards.
-const FILL: u8 = 0xA5;
-
-// A buffer for the bytes of a restart, as many as a line has room for, and to save into.
+// A buffer for the bytes of a restart, as many as a line has room for, or of a terminal's line, and to write into.
 pub fn buffer() -> [u8; 346]
     ensures { λ r. ⌜ (r ≡ replicate 346 0) × (346 ≡ length r) ⌝ }
 {
@@ -43,45 +40,20 @@ pub fn restart(controller: Controller, count: usize, buffer: &[u8]) -> Step
     }
 }
 
-// The contract rules out a byte that isn't filled.
-fn fill(buffer: &mut [u8])
-    ensures { λ r. ⌜ now (buffer .exit) ≡ filled (now (buffer .entry)) ⌝ }
-{
-    let mut i = 0;
-    while i < buffer.len() {
-        buffer[i] = FILL;
-        i += 1;
-    }
-}
-
-// Whether the bytes of the buffer from a position on are as they were filled.
-fn is_unchanged(buffer: &[u8], from: usize) -> bool
-    ensures { λ r. ⌜ r ≡ isFilled (drop from (now (buffer .entry))) ⌝ }
-{
-    let mut i = from;
-    while i < buffer.len() {
-        if buffer[i] != FILL {
-            return false;
-        }
-        i += 1;
-    }
-    true
-}
-
 // The reply to a save: where a byte changed that had to stay, `error`.
 fn reply_to_save(verdict: Verdict, buffer: &[u8]) -> Reply
     ensures { λ r. ⌜ r ≡ checkedReply verdict (now (buffer .entry)) ⌝ }
 {
     match verdict {
         Verdict::Accepted => {
-            if is_unchanged(buffer, 137) {
+            if crate::filled::is_unchanged(buffer, 137) {
                 Reply::Image
             } else {
                 Reply::Error
             }
         }
         Verdict::Refused(refusal) => {
-            if is_unchanged(buffer, 0) {
+            if crate::filled::is_unchanged(buffer, 0) {
                 Reply::Refused(refusal.number())
             } else {
                 Reply::Error
@@ -97,7 +69,7 @@ pub fn save(controller: Controller, count: usize, buffer: &mut [u8]) -> Reply
     ensures { λ r. ⌜ (r ≡ replyToSave count (now (buffer .entry)))
         × (now (buffer .exit) ≡ savedBuffer controller count (now (buffer .entry))) ⌝ }
 {
-    fill(buffer);
+    crate::filled::fill(buffer);
     if count <= buffer.len() {
         let verdict = controller.save(&mut buffer[0..count]);
         return reply_to_save(verdict, buffer);

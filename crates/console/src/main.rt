@@ -6,6 +6,7 @@
 //     read NUMBER                            value V, or refused N
 //     restart HEX, or - for no bytes         ok, or refused N
 //     save LENGTH                            image HEX, or refused N
+//     line HEX LENGTH, with - for no bytes   reply N HEX, or refused N: a line of the hand-held terminal
 //     clock                                  clock MS, the last accepted reading, or clock none
 // and those of the drying sheet:
 //     sheet-new                              ok
@@ -22,11 +23,13 @@ ghost use Rattle.console.specs.Sessions.{ValidSession};
 use session::Session;
 
 mod call;
+mod filled;
 mod image;
 mod print;
 mod request;
 mod session;
 mod sheet_call;
+mod terminal_line;
 
 // The session after a line, and how much of the output is used.
 struct Answered {

@@ -1,9 +1,11 @@
 // The line that answers a command, appended to the output.
 ghost use mathlib.Core.Path.{_≡_};
+ghost use lib.ListN.{take};
+ghost use Rattle.numerals.specs.Numerals.{hexadecimal};
 ghost use Rattle.formatting.specs.Buffer.{buffer, appendAll};
 ghost use Rattle.console.specs.ReplyLaws.{WordsRange, AnswerRange, ReadingRange, InRange};
 ghost use Rattle.console.specs.Replies.{spaced, wordsText, answerText, refusedText, valueText, clockText, imageText};
-ghost use Rattle.console.specs.Replies.{replyText, replyLine};
+ghost use Rattle.console.specs.Replies.{lineText, replyText, replyLine};
 use crate::call::Reply;
 use answers::ScanValues;
 use sheet::Sheet;
@@ -70,15 +72,33 @@ fn append_clock(out: &mut [u8], used: usize, reading: ClockReading) -> usize
     }
 }
 
-// The image that was saved: the first 137 bytes, or all where there are fewer. The contract rules out one byte more.
+// The first bytes of a buffer, so many, or all where there are fewer. The contract rules out one byte more.
+fn append_front(out: &mut [u8], used: usize, bytes: &[u8], count: usize) -> usize
+    ensures { λ r. ⌜ buffer (now (out .exit)) r ≡ appendAll (buffer (now (out .entry)) used)
+        (hexadecimal (take count (now (bytes .entry)))) ⌝ }
+{
+    if bytes.len() < count {
+        return formatting::append_hexadecimal(out, used, bytes);
+    }
+    formatting::append_hexadecimal(out, used, &bytes[0..count])
+}
+
+// The image that was saved: the first 137 bytes.
 fn append_image(out: &mut [u8], used: usize, saved: &[u8]) -> usize
     ensures { λ r. ⌜ buffer (now (out .exit)) r ≡ appendAll (buffer (now (out .entry)) used) (imageText (now (saved .entry))) ⌝ }
 {
     let name = formatting::append_bytes(out, used, b"image ");
-    if saved.len() < 137 {
-        return formatting::append_hexadecimal(out, name, saved);
-    }
-    formatting::append_hexadecimal(out, name, &saved[0..137])
+    append_front(out, name, saved, 137)
+}
+
+// The terminal's reply: its length and its bytes. The contract rules out a length that isn't that of the bytes.
+fn append_line(out: &mut [u8], used: usize, count: usize, saved: &[u8]) -> usize
+    ensures { λ r. ⌜ buffer (now (out .exit)) r ≡ appendAll (buffer (now (out .entry)) used) (lineText count (now (saved .entry))) ⌝ }
+{
+    let name = formatting::append_bytes(out, used, b"reply");
+    let number = append_spaced(out, name, count as u64);
+    let blank = formatting::append_byte(out, number, b' ');
+    append_front(out, blank, saved, count)
 }
 
 // What a reply's line has before its end. The contract also says that the reply's numbers are such as its types hold,
@@ -93,6 +113,7 @@ fn append_text(out: &mut [u8], used: usize, reply: Reply, saved: &[u8], sheet: S
         Reply::Answer(values) => append_answer(out, used, values),
         Reply::Clock(reading) => append_clock(out, used, reading),
         Reply::Image => append_image(out, used, saved),
+        Reply::Line(count) => append_line(out, used, count, saved),
         Reply::WholeSheet => sheet_lines::print::append_sheet(out, used, sheet),
         Reply::Full => formatting::append_bytes(out, used, b"full"),
         Reply::Refused(number) => append_refused(out, used, number),
@@ -100,8 +121,8 @@ fn append_text(out: &mut [u8], used: usize, reply: Reply, saved: &[u8], sheet: S
     }
 }
 
-// The line of a reply; `saved` is the buffer that a save wrote into. The contract rules out the line of another reply,
-// and one with no end.
+// The line of a reply; `saved` is the buffer that a save or the terminal wrote into. The contract rules out the line of
+// another reply, and one with no end.
 pub fn append_reply(out: &mut [u8], used: usize, reply: Reply, saved: &[u8], sheet: Sheet) -> usize
     ensures { λ r. ⌜ (buffer (now (out .exit)) r ≡ appendAll (buffer (now (out .entry)) used)
         (replyLine reply (now (saved .entry)) sheet)) × InRange reply sheet ⌝ }

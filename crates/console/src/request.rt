@@ -7,10 +7,10 @@ ghost use Rattle.console.specs.Commands.{parameterNumber, freshCommand, 
 ghost use Rattle.console.specs.Commands.{scanOf, scanWith, scanCommand, numbersCommand};
 ghost use Rattle.console.specs.Commands.{restartImage, restartOf, commandIn, bytesAfter};
 use crate::sheet_call::SheetCall;
+use numerals::ParsedNatural;
 use signals::Input;
 use text::arguments::Arguments;
 use text::hexadecimal::Count;
-use text::natural::ParsedNatural;
 
 // A call of the controller.
 pub enum Call {
@@ -23,6 +23,8 @@ pub enum Call {
     Restart(usize),
     // into so many bytes
     Save(usize),
+    // a line of the terminal, so many bytes at the front of the buffer, with so many bytes for the reply
+    Line(usize, usize),
     Clock,
 }
 
@@ -96,7 +98,7 @@ fn scan(line: &[u8], start: usize) -> Command
     let w = text::only_word(line, sixth);
     let from = w.from;
     let to = w.to;
-    scan_with(numbers, text::natural::parse(&line[from..to]))
+    scan_with(numbers, numerals::natural(&line[from..to]))
 }
 
 // The number of a parameter, as a line has it: one below zero is no parameter's, and 0 stands for it.
@@ -170,9 +172,9 @@ fn restart(line: &[u8], start: usize, bytes: &mut [u8]) -> Command
     }
 }
 
-// What a line asks, with a buffer for the bytes of a restart. A line that fills its whole buffer is too long. The
-// contract gives the command and every byte of the buffer, so it rules out a command that is taken for another or for
-// none.
+// What a line asks, with a buffer for the bytes of a restart or of a terminal's line. A line that fills its whole
+// buffer is too long. The contract gives the command and every byte of the buffer, so it rules out a command that is
+// taken for another or for none.
 pub fn parse(line: &[u8], len: usize, bytes: &mut [u8]) -> Command
     ensures { λ r. ⌜ (r ≡ commandIn (now (line .entry)) len (length (now (bytes .entry))))
         × (now (bytes .exit) ≡ bytesAfter (now (line .entry)) len (now (bytes .entry))) ⌝ }
@@ -186,6 +188,9 @@ pub fn parse(line: &[u8], len: usize, bytes: &mut [u8]) -> Command
     let to = w.to;
     if text::same(&call[from..to], b"restart") {
         return restart(call, to, bytes);
+    }
+    if text::same(&call[from..to], b"line") {
+        return crate::terminal_line::parse(call, to, bytes);
     }
     if text::same(&call[from..to], b"scan") {
         return scan(call, to);

@@ -49,6 +49,7 @@ fn last_after(last: LastAnswer, reply: Reply) -> LastAnswer
         Reply::Value(_) => last,
         Reply::Clock(_) => last,
         Reply::Image => last,
+        Reply::Line(_) => last,
         Reply::WholeSheet => last,
         Reply::Full => last,
         Reply::Refused(_) => last,

@@ -1,4 +1,3 @@
 pub mod Ascii
 pub mod Buffer
 pub mod Laws
-pub mod Decimal

@@ -38,6 +38,11 @@ pub record Appended (bytes before after : List ℕ) (len : ℕ) (r : AppendResul
   pub complete : r .complete ≡ hasEnd bytes
   pub count : r .count ≡ lineLength bytes
 
+-- where the answer to a line begins in the output: at the front where more than 64,000 bytes were used, since those are
+-- written out first
+abbrev pub startOf : ℕ → ℕ
+startOf used = cond (ltb 64000 used) 0 used
+
 -- nothing read, nothing written
 abbrev pub started : ReaderState
 started = record { at = 0; end = 0; len = 0; complete = false; more = true; used = 0 }

@@ -5,13 +5,17 @@ use mathlib.Core.List.{List, [], _∷_, _++_}
 use Prim.Native.Nat.{ℕ, zero, suc, _+_, _-_, _≤_, _<_, min}
 use native.Mathlib.Nat.{sub-zero, zero-sub, suc-sub-suc}
 use native.Mathlib.Omega.{arith}
-use lib.Dec.{eqb, leb}
+use lib.Dec.{eqb, leb, ltb}
 use lib.ListN.{length, take, drop, getD, length-take, drop-of-length-le}
 use lib.Seq.{drop-cons, drop-drop, take-all, take-nil, drop-nil}
-use borrow.Author.Tests.{eq-eqb, ne-eqb, leb-true, leb-false}
+use borrow.Author.Tests.{eq-eqb, ne-eqb, leb-true, leb-false, ltb-false}
 use Rattle.integers.specs.Choice.{by-cases, never}
-use Rattle.lines.specs.Lines.{hasEnd, lineOf, restOf, unread, lineLength}
+use Rattle.lines.specs.Lines.{hasEnd, lineOf, restOf, unread, lineLength, startOf}
 use Rattle.lines.specs.declared.ReaderState.{ReaderState}
+
+pub start-most : (used : ℕ) → startOf used ≤ 64000
+start-most used =
+    by-cases (λ (n : ℕ). n ≤ 64000) (ltb 64000 used) 0 used (λ e. omega arith) (λ e. let l = ltb-false 64000 used e in omega arith)
 
 -- ---- a line byte by byte
 

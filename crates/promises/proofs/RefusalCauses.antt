@@ -91,7 +91,7 @@ module _ (values : ℕ → ℤ) (n : ℕ) (v : ℤ) (first : 1 ≤ n) (last : n 
 
 -- ---- SL and MD
 
-setpoint-refused-is : (c : Core) → setsSetpoint (modeNow c) (switchesOf (c .sw) .setpointtracks) ≡ setpointRefused c
+pub setpoint-refused-is : (c : Core) → setsSetpoint (modeNow c) (switchesOf (c .sw) .setpointtracks) ≡ setpointRefused c
 unfolding setpointRefused switchesOf
 setpoint-refused-is c = rw (mode-is-first c) (go (modeNow c) (bit (c .sw) 10))
   where

@@ -68,7 +68,7 @@ unfolding binary byteOf
 byte-binary b7 b6 b5 b4 b3 b2 b1 b0 more above =
     omega (arith, weighs b7 128, weighs b6 64, weighs b5 32, weighs b4 16, weighs b3 8, weighs b2 4, weighs b1 2)
 
-byte-most : (b7 b6 b5 b4 b3 b2 b1 b0 : Bool) → byteOf b7 b6 b5 b4 b3 b2 b1 b0 ≤ 255
+pub byte-most : (b7 b6 b5 b4 b3 b2 b1 b0 : Bool) → byteOf b7 b6 b5 b4 b3 b2 b1 b0 ≤ 255
 unfolding byteOf
 byte-most b7 b6 b5 b4 b3 b2 b1 b0 =
     omega (

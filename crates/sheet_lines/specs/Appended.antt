@@ -8,7 +8,8 @@ use lib.Signed.{mag}
 use lib.ListN.{length, length-append}
 use Rattle.integers.specs.Operations.{known}
 use Rattle.integers.specs.Parts.{apart}
-use Rattle.text.specs.Digits.{digits, decimal, digits-few, decimal-few}
+use Rattle.numerals.specs.Numerals.{digits, decimal}
+use Rattle.numerals.specs.Shortest.{digits-few, decimal-few}
 use Rattle.formatting.specs.Buffer.{buffer, appendAll}
 use Rattle.formatting.specs.Laws.{then}
 
@@ -46,7 +47,7 @@ pub number-length : (n : ℕ) → n < 4294967296 → length (digits n) ≤ 10
 number-length n h = digits-few n 10 (omega arith) (omega arith)
 
 pub pv-length : (z : ℤ) → mag z < 2147483648 → length (decimal z) ≤ 11
-pv-length z h = decimal-few z 10 (omega arith) (omega (arith, known z))
+pv-length z h = decimal-few 10 z (omega (arith, known z)) (omega arith)
 
 pub sum-length : (z : ℤ) → mag z < 9223372036854775808 → length (decimal z) ≤ 20
-sum-length z h = decimal-few z 19 (omega arith) (omega (arith, known z, apart z))
+sum-length z h = decimal-few 19 z (omega (arith, known z, apart z)) (omega arith)

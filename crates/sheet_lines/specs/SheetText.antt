@@ -10,7 +10,7 @@ use Rattle.sheet.specs.declared.Extreme.{Extreme}
 use Rattle.sheet.specs.declared.Extreme.the-variants.{None, First}
 use Rattle.sheet.specs.declared.Occurrence.{Occurrence}
 use Rattle.sheet.specs.declared.SheetValues.{SheetValues}
-use Rattle.text.specs.Digits.{digitsWithin, digits, decimal}
+use Rattle.numerals.specs.Numerals.{digitByte, lastDigits, placesWithin, places, digits, decimal}
 use Rattle.formatting.specs.Ascii.{ascii}
 use Rattle.sheet_lines.specs.ModeWords.{modeWord}
 
@@ -67,5 +67,5 @@ sheet-example :
     ≡ ascii "sheet scans=3 hold=0 track=0 forced=0 manual=2 auto=0 remote=0 ratio=0 fallback=1" ++
     ascii " max=5@1 min=-20@2 alarms=1 sumpv=-10 sumop=700"
 unfolding sheetText countsText countText scansIn extremesText extremeText occurrenceText numberText sumText named
-    modeWord digits digitsWithin decimal
+    modeWord digitByte lastDigits placesWithin places digits decimal
 sheet-example = refl

@@ -11,7 +11,7 @@ use Rattle.signals.specs.declared.Input.{Input}
 use Rattle.signals.specs.declared.Refusal.{Refusal}
 use Rattle.signals.specs.declared.Refusal.the-variants.{Sample, ButtonBits, SensorBits, Number, ReadOnly, Range, Pair}
 use Rattle.signals.specs.declared.Refusal.the-variants.{Setpoint, RequestBits, RemotePin, Cause}
-use Rattle.signals.specs.declared.Refusal.the-variants.{ImageLength, ImageField, ImageValue, ShortBuffer, Clock}
+use Rattle.signals.specs.declared.Refusal.the-variants.{ImageLength, ImageField, ImageValue, ShortBuffer, Clock, Mnemonic, ValueForm}
 use Rattle.signals.specs.declared.Verdict.{Verdict}
 use Rattle.signals.specs.declared.Verdict.the-variants.{Accepted, Refused}
 use Rattle.signals.specs.declared.clock.ClockReading.{ClockReading}
@@ -34,6 +34,8 @@ numberOf ImageField = 13
 numberOf ImageValue = 14
 numberOf ShortBuffer = 15
 numberOf Clock = 16
+numberOf Mnemonic = 17
+numberOf ValueForm = 18
 
 -- and of a verdict: none where the call is accepted
 abbrev pub numberIn : Verdict → Option ℕ

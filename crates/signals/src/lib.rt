@@ -64,7 +64,7 @@ pub enum Adjustment {
 }
 
 // Why a call is refused: 1 to 3 the plant's, 4 to 11 the writer's, of which 4 is a reader's too, 12 to 14 a restart's,
-// 15 a save's, 16 the plant's again.
+// 15 a save's and a terminal's, 16 the plant's again, 17 and 18 a terminal's.
 pub enum Refusal {
     // 1: a sample above 10000
     Sample,
@@ -94,10 +94,14 @@ pub enum Refusal {
     ImageField,
     // 14: an illegal value in an image whose sumcheck is right
     ImageValue,
-    // 15: fewer than 137 bytes to save into
+    // 15: fewer than 137 bytes to save into, or than nine for a terminal's reply
     ShortBuffer,
     // 16: a reading less than 30 ms after the last accepted one, or before it
     Clock,
+    // 17: a line's first two bytes are no mnemonic
+    Mnemonic,
+    // 18: what follows them isn't nothing, or > with a value of the parameter's form
+    ValueForm,
 }
 
 // What a call that answers no value comes to: accepted, or why not.
@@ -212,6 +216,8 @@ impl Refusal {
             Refusal::ImageValue => 14,
             Refusal::ShortBuffer => 15,
             Refusal::Clock => 16,
+            Refusal::Mnemonic => 17,
+            Refusal::ValueForm => 18,
         }
     }
 }

@@ -6,10 +6,10 @@ use lib.Dec.{eqb, ltb}
 use lib.IntN.{ℤ, pos, natAbs}
 use lib.ListN.{length, take, drop, getD, replicate}
 use Rattle.integers.specs.Sign.{isNegative}
+use Rattle.numerals.specs.Parsed.{numberOf}
+use Rattle.numerals.specs.declared.ParsedNumber.{ParsedNumber}
+use Rattle.numerals.specs.declared.ParsedNumber.the-variants.{Number, Malformed}
 use Rattle.text.specs.Words.{wordAt, sameBytes}
-use Rattle.text.specs.Numbers.{numberOf}
-use Rattle.text.specs.declared.ParsedNumber.{ParsedNumber}
-use Rattle.text.specs.declared.ParsedNumber.the-variants.{Number, Malformed}
 use Rattle.text.specs.declared.arguments.Arguments.{Arguments}
 use Rattle.text.specs.declared.arguments.Natural.{Natural}
 
@@ -29,10 +29,10 @@ unfoldable pub inFront : ParsedNumber → List ℤ → List ℤ
 inFront (Number value) others = value ∷ others
 inFront Malformed others = []
 
--- the numbers that words are, up to the first word that is none
+-- the numbers of up to eighteen digits that words are, up to the first word that is none
 unfoldable pub numbersOf : List (List ℕ) → List ℤ
 numbersOf [] = []
-numbersOf (w ∷ ws) = inFront (numberOf w) (numbersOf ws)
+numbersOf (w ∷ ws) = inFront (numberOf 18 w) (numbersOf ws)
 
 -- six values: the numbers, and zeros behind them
 unfoldable pub padded : List ℤ → List ℤ

@@ -8,13 +8,13 @@ use native.Mathlib.Numerals.{add-one}
 use native.Mathlib.Omega.{arith}
 use lib.Dec.{eqb}
 use lib.IntN.{ℤ, pos}
-use lib.ListN.{length, take, replicate, set, length-append, length-set, length-replicate}
-use lib.Seq.{set-at, take-nil, append-snoc, take-suc-set, length-take-le, take-length}
+use lib.ListN.{length, take, replicate, set, length-append, length-set}
+use lib.Seq.{set-at, take-nil, append-snoc, take-suc-set, length-take-le}
 use borrow.Author.Tests.{eq-eqb, ne-eqb}
+use Rattle.numerals.specs.Parsed.{numberOf}
+use Rattle.numerals.specs.declared.ParsedNumber.the-variants.{Number, Malformed}
 use Rattle.text.specs.Words.{wordAt}
-use Rattle.text.specs.Numbers.{numberOf}
 use Rattle.text.specs.Arguments.{part, firstWords, inFront, numbersOf, padded, readOf, argumentsFrom}
-use Rattle.text.specs.declared.ParsedNumber.the-variants.{Number, Malformed}
 use Rattle.text.specs.declared.Span.{Span}
 use Rattle.text.specs.declared.arguments.Arguments.{Arguments}
 
@@ -25,7 +25,7 @@ result ok count values = record { ok = ok; count = count; values = values }
 unfoldable pub gathered : List ℤ → List (List ℕ) → Arguments
 gathered before words = readOf (before ++ numbersOf (take (6 - length before) words)) (length before + length words)
 
-stopped : (k : ℕ) (w : List ℕ) (ws : List (List ℕ)) → numberOf w ≡ Malformed → numbersOf (take k (w ∷ ws)) ≡ []
+stopped : (k : ℕ) (w : List ℕ) (ws : List (List ℕ)) → numberOf 18 w ≡ Malformed → numbersOf (take k (w ∷ ws)) ≡ []
 unfolding numbersOf inFront
 stopped zero w ws e = refl
 stopped (suc k) w ws e = rw e
@@ -43,7 +43,7 @@ module _ (before : List ℤ) where
   gather-full ws h = rw (h, append-nil before)
 
   module _ (w : List ℕ) (ws : List (List ℕ)) where
-    gather-number : (v : ℤ) → length before < 6 → numberOf w ≡ Number v → gathered before (w ∷ ws) ≡ gathered (before ++ (v ∷ [])) ws
+    gather-number : (v : ℤ) → length before < 6 → numberOf 18 w ≡ Number v → gathered before (w ∷ ws) ≡ gathered (before ++ (v ∷ [])) ws
     unfolding gathered numbersOf inFront
     gather-number v h e =
         let n : length (before ++ (v ∷ [])) ≡ suc (length before) = length-append before (v ∷ []) ∙ add-one (length before) in
@@ -51,7 +51,7 @@ module _ (before : List ℤ) where
         let m : 6 - suc (length before) ≡ 5 - length before = omega arith in
         rw (k, n, m, e, append-snoc before v) (ap (readOf _) (omega arith))
 
-    gather-stops : numberOf w ≡ Malformed → gathered before (w ∷ ws) ≡ result false (length before) (padded before)
+    gather-stops : numberOf 18 w ≡ Malformed → gathered before (w ∷ ws) ≡ result false (length before) (padded before)
     unfolding gathered readOf
     gather-stops e =
         rw (stopped (6 - length before) w ws e, append-nil before)
@@ -125,12 +125,12 @@ module _ (line : List ℕ) (start at count : ℕ) (values : List ℤ) (g : Gathe
       first = rw (next, ← found, ne-eqb (w .from) (w .to) some)
 
       -- a word that is no number
-      pub gathering-stops : numberOf (part line (w .from) (w .to)) ≡ Malformed → result false count values ≡ argumentsFrom line start
+      pub gathering-stops : numberOf 18 (part line (w .from) (w .to)) ≡ Malformed → result false count values ≡ argumentsFrom line start
       gathering-stops e = sym (g .same ∙ rw first (gather-stops (take count values) _ _ e ∙ ended false))
 
       -- one number more
       pub gathering-more :
-          (v : ℤ) → numberOf (part line (w .from) (w .to)) ≡ Number v → Gathering line start (set values count v) (count + 1) (w .to)
+          (v : ℤ) → numberOf 18 (part line (w .from) (w .to)) ≡ Number v → Gathering line start (set values count v) (count + 1) (w .to)
       gathering-more v e =
           let front = take-suc-set values count v (omega (arith, g .six)) in
           let k : 7 - suc count ≡ 6 - count = omega arith in

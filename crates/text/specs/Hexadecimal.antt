@@ -5,25 +5,26 @@ use mathlib.Core.Option.{Option, some, none}
 use Prim.Native.Nat.{ℕ, zero, suc, _+_, _-_, _*_, _/_, _%_}
 use lib.Dec.{eqb, leb, ltb}
 use lib.ListN.{length, drop, getD}
+use Rattle.numerals.specs.Numerals.{within, digitValue}
 use Rattle.text.specs.declared.hexadecimal.Count.{Count}
 use Rattle.text.specs.declared.hexadecimal.Count.the-variants.{Bytes, Malformed}
 
--- whether a number lies between two others, or is one of them
-abbrev pub within : ℕ → ℕ → ℕ → Bool
-within low high b = leb low b && leb b high
+-- the capital of a small letter `a` to `f`; another byte as it is
+unfoldable pub capital : ℕ → ℕ
+capital b = cond (within 97 102 b) (b - 97 + 65) b
 
--- the value of a digit, `0` to `9`, `A` to `F` or `a` to `f`; 16 of another byte
-unfoldable pub digitValue : ℕ → ℕ
-digitValue b = cond (within 48 57 b) (b - 48) (cond (within 65 70 b) (b - 65 + 10) (cond (within 97 102 b) (b - 97 + 10) 16))
+-- the value of a digit of either case; 16 of another byte
+unfoldable pub hexadecimalValue : ℕ → ℕ
+hexadecimalValue b = digitValue (capital b)
 
 -- whether every byte is a digit
 unfoldable pub allDigits : List ℕ → Bool
 allDigits [] = true
-allDigits (b ∷ bs) = ltb (digitValue b) 16 && allDigits bs
+allDigits (b ∷ bs) = ltb (hexadecimalValue b) 16 && allDigits bs
 
 -- the byte of a high and a low digit
 abbrev pub pair : ℕ → ℕ → ℕ
-pair high low = digitValue high * 16 + digitValue low
+pair high low = hexadecimalValue high * 16 + hexadecimalValue low
 
 -- the bytes of the first pairs of digits
 unfoldable pub pairs : List ℕ → ℕ → List ℕ

@@ -11,41 +11,29 @@ use lib.ListN.{length, drop, getD, set, length-append, drop-of-length-le}
 use lib.Seq.{drop-cons, append-snoc, set-at}
 use borrow.Author.Tests.{lt-ltb, le-ltb, le-leb, lt-leb, eq-eqb, ne-eqb, ltb-true, leb-true}
 use Rattle.integers.specs.Choice.{both}
-use Rattle.text.specs.Hexadecimal.{within, digitValue, allDigits, pair, pairs, isDash, bytesOf, countIn, bytesIn}
+use Rattle.text.specs.Hexadecimal.{hexadecimalValue, allDigits, pair, pairs, isDash, bytesOf, countIn, bytesIn}
 use Rattle.text.specs.declared.hexadecimal.Count.the-variants.{Bytes, Malformed}
-
--- ---- where a number lies
-
-module _ (low high b : ℕ) where
-  pub inside : low ≤ b → b ≤ high → within low high b ≡ true
-  inside l h = simp (le-leb low b l, le-leb b high h)
-
-  pub below : b < low → within low high b ≡ false
-  below l = simp (lt-leb low b l)
-
-  pub above : low ≤ b → high < b → within low high b ≡ false
-  above l h = simp (le-leb low b l, lt-leb b high h)
 
 -- ---- digits one by one
 
 module _ (s : List ℕ) (i : ℕ) where
-  pub all-more : i < length s → digitValue (getD s i 0) < 16 → allDigits (drop i s) ≡ allDigits (drop (suc i) s)
+  pub all-more : i < length s → hexadecimalValue (getD s i 0) < 16 → allDigits (drop i s) ≡ allDigits (drop (suc i) s)
   unfolding allDigits
-  all-more h d = rw (drop-cons s i 0) (simp (lt-ltb (digitValue (getD s i 0)) 16 d))
+  all-more h d = rw (drop-cons s i 0) (simp (lt-ltb (hexadecimalValue (getD s i 0)) 16 d))
 
-  pub all-fails : i < length s → digitValue (getD s i 0) ≡ 16 → allDigits (drop i s) ≡ false
+  pub all-fails : i < length s → hexadecimalValue (getD s i 0) ≡ 16 → allDigits (drop i s) ≡ false
   unfolding allDigits
-  all-fails h d = rw (drop-cons s i 0) (simp (le-ltb (digitValue (getD s i 0)) 16 (omega arith)))
+  all-fails h d = rw (drop-cons s i 0) (simp (le-ltb (hexadecimalValue (getD s i 0)) 16 (omega arith)))
 
   pub all-ends : length s ≤ i → allDigits (drop i s) ≡ true
   unfolding allDigits
   all-ends h = rw (drop-of-length-le s h)
 
-pub each-digit : (s : List ℕ) → allDigits s ≡ true → (i : ℕ) → i < length s → digitValue (getD s i 0) < 16
+pub each-digit : (s : List ℕ) → allDigits s ≡ true → (i : ℕ) → i < length s → hexadecimalValue (getD s i 0) < 16
 unfolding allDigits
 each-digit [] e i h = absurd (omega arith)
-each-digit (b ∷ bs) e zero h = ltb-true (digitValue b) 16 (both (ltb (digitValue b) 16) (allDigits bs) e .0)
-each-digit (b ∷ bs) e (suc i) h = each-digit bs (both (ltb (digitValue b) 16) (allDigits bs) e .1) i (omega arith)
+each-digit (b ∷ bs) e zero h = ltb-true (hexadecimalValue b) 16 (both (ltb (hexadecimalValue b) 16) (allDigits bs) e .0)
+each-digit (b ∷ bs) e (suc i) h = each-digit bs (both (ltb (hexadecimalValue b) 16) (allDigits bs) e .1) i (omega arith)
 
 -- ---- pairs one by one
 

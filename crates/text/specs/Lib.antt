@@ -1,7 +1,4 @@
 pub mod Words
-pub mod Numbers
-pub mod NumberLaws
-pub mod Digits
 pub mod Hexadecimal
 pub mod HexadecimalLaws
 pub mod HexadecimalRead

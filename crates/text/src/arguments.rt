@@ -1,8 +1,8 @@
-// The arguments of a call: the decimal numbers of a line from a position on.
+// The arguments of a call: the decimal numbers of a line from a position on, each of up to eighteen digits.
 ghost use mathlib.Core.Path.{_≡_};
 ghost use Prim.Native.Nat.{_≤_, max};
 ghost use Rattle.text.specs.Arguments.{argumentsFrom, hasCount, isCall, naturalIn};
-use crate::ParsedNumber;
+use numerals::ParsedNumber;
 
 // The numbers in front of the first word that is none, zeros behind them; `ok` says whether all words are numbers and
 // there are at most six.
@@ -39,7 +39,7 @@ pub fn parse(line: &[u8], start: usize) -> Arguments
         if from == to {
             return result(true, count, values);
         }
-        let reading = crate::number(&line[from..to]);
+        let reading = numerals::number(&line[from..to], 18);
         match reading {
             ParsedNumber::Number(value) => {
                 values[count] = value;

@@ -4,7 +4,7 @@ ghost use mathlib.Core.Bool.{true};
 ghost use mathlib.Core.List.{_++_};
 ghost use Prim.Native.Nat.{_*_, _≤_, _<_};
 ghost use lib.ListN.{length, drop};
-ghost use Rattle.text.specs.Hexadecimal.{digitValue, allDigits, isDash, pair, pairs, bytesOf, countIn, bytesIn};
+ghost use Rattle.text.specs.Hexadecimal.{capital, hexadecimalValue, allDigits, isDash, pair, pairs, bytesOf, countIn, bytesIn};
 
 // How many bytes a word is.
 pub enum Count {
@@ -12,16 +12,21 @@ pub enum Count {
     Malformed,
 }
 
-// The value of a digit of either case; 16 for another byte.
-fn digit_value(b: u8) -> u8
-    ensures { λ r. ⌜ (r ≡ digitValue b) × (r ≤ 16) ⌝ }
+// The capital of a small letter that is a digit; another byte as it is.
+fn capital(b: u8) -> u8
+    ensures { λ r. ⌜ r ≡ capital b ⌝ }
 {
     match b {
-        b'0'..=b'9' => b - b'0',
-        b'A'..=b'F' => b - b'A' + 10,
-        b'a'..=b'f' => b - b'a' + 10,
-        _ => 16,
+        b'a'..=b'f' => b - b'a' + b'A',
+        _ => b,
     }
+}
+
+// The value of a digit of either case; 16 for another byte.
+fn digit_value(b: u8) -> u8
+    ensures { λ r. ⌜ (r ≡ hexadecimalValue b) × (r ≤ 16) ⌝ }
+{
+    numerals::digit_value(capital(b)) as u8
 }
 
 fn all_digits(word: &[u8]) -> bool
@@ -48,7 +53,7 @@ fn is_dash(word: &[u8]) -> bool
 }
 
 fn pair_value(high: u8, low: u8) -> u8
-    requires { ⌜ (digitValue high < 16) × (digitValue low < 16) ⌝ }
+    requires { ⌜ (hexadecimalValue high < 16) × (hexadecimalValue low < 16) ⌝ }
     ensures { λ r. ⌜ r ≡ pair high low ⌝ }
 {
     digit_value(high) * 16 + digit_value(low)

@@ -1,25 +1,16 @@
-// Words and decimal numbers of a line of bytes. Every function is total: what a line has wrong is in the answer.
+// The words of a line of bytes, and what they say. Every function is total: what a line has wrong is in the answer.
 ghost use mathlib.Core.Path.{_≡_};
-ghost use mathlib.Core.Bool.{true};
-ghost use Prim.Native.Nat.{_+_, _-_, _≤_, max};
+ghost use Prim.Native.Nat.{_+_, _≤_, max};
 ghost use lib.ListN.{length, drop};
 ghost use Rattle.text.specs.Words.{fitsBlank, leading, wordAt, onlyWord, afterWords, sameBytes};
-ghost use Rattle.text.specs.Numbers.{isDigit, digitsOf, withSign, numberOf};
-use natural::ParsedNatural;
 
 pub mod arguments;
 pub mod hexadecimal;
-pub mod natural;
 
 // The bytes of a line from `from` up to `to`.
 pub struct Span {
     pub from: usize,
     pub to: usize,
-}
-
-pub enum ParsedNumber {
-    Number(i64),
-    Malformed,
 }
 
 fn fits_blank(blank: bool, b: u8) -> bool
@@ -97,44 +88,4 @@ pub fn same(a: &[u8], b: &[u8]) -> bool
         i += 1;
     }
     true
-}
-
-fn is_digit(b: u8) -> bool
-    ensures { λ r. ⌜ r ≡ isDigit b ⌝ }
-{
-    if b < b'0' { false } else { b <= b'9' }
-}
-
-fn digit(b: u8) -> u64
-    requires { ⌜ isDigit b ≡ true ⌝ }
-    ensures { λ r. ⌜ r ≡ b - 48 ⌝ }
-{
-    (b - b'0') as u64
-}
-
-fn digits(minus: bool, s: &[u8]) -> ParsedNumber
-    ensures { λ r. ⌜ r ≡ withSign minus (digitsOf 18 (now (s .entry))) ⌝ }
-{
-    if 18 < s.len() {
-        return ParsedNumber::Malformed;
-    }
-    let reading = natural::parse(s);
-    match reading {
-        ParsedNatural::Natural(value) => ParsedNumber::Number(integers::signed(minus, value)),
-        ParsedNatural::Malformed => ParsedNumber::Malformed,
-    }
-}
-
-// A decimal number: an optional minus and one to eighteen digits. The contract rules out a wrong value and taking what
-// is no number.
-pub fn number(s: &[u8]) -> ParsedNumber
-    ensures { λ r. ⌜ r ≡ numberOf (now (s .entry)) ⌝ }
-{
-    if s.len() == 0 {
-        return ParsedNumber::Malformed;
-    }
-    if s[0] == b'-' {
-        return digits(true, &s[1..]);
-    }
-    digits(false, s)
 }

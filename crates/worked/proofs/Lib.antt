@@ -1,2 +1,3 @@
 pub mod ModelCalls
 pub mod Worked
+pub mod LineFigures

@@ -1,8 +1,13 @@
 -- `console::line_answer` meets its contract.
 use mathlib.Core.Path.{ap, _∙_}
+use Prim.Native.Nat.{_≤_}
+use native.Mathlib.Omega.{arith}
+use lib.ListN.{length}
 use borrow.Author.Needs.{needs}
-use Rattle.console.specs.Lines.{startOf, lineSaved, lineStep}
-use Rattle.console.specs.ReplyLaws.{start-most, reply-fits}
+use Rattle.lines.specs.Lines.{startOf}
+use Rattle.lines.specs.LinesLaws.{start-most}
+use Rattle.console.specs.Lines.{lineSaved, lineStep}
+use Rattle.console.specs.ReplyLaws.{reply-fits}
 use Rattle.console.specs.declared.session.SessionStep.{SessionStep}
 use Rattle.console.proofs.line_answer.Statement.{statement}
 use Rattle.console.proofs.line_answer.Tie as tie
@@ -50,6 +55,8 @@ returns c =
     let result = rw (parsed .0, parsed .1) at (p .perform .ensures) in
     let reply = ap (λ (s : SessionStep). s .reply) (result .0) in
     let sheet = ap (λ (s : SessionStep). s .session .sheet) (result .0) in
+    let short : length (lineSaved session line len) ≤ 346 =
+    rw (← (result .1)) (omega (arith, p .perform .kept .1 .1 .0, q .parse .kept .1 .1 .0, empty .buffer .ensures .1)) in
     let o = rw (room .room .ensures, reply, sheet, result .1) at (a .append-reply .ensures .0) in (
       p .perform .ensures .2,
       record {
@@ -58,7 +65,7 @@ returns c =
         whole = λ size.
             o ∙
             reply-fits (step .reply) (lineSaved session line len) (step .session .sheet) (start .args .out .now)
-            (startOf (start .args .used)) (rw (reply, sheet) at (a .append-reply .ensures .1)) (start-most (start .args .used)) size;
+            (startOf (start .args .used)) (rw (reply, sheet) at (a .append-reply .ensures .1)) short (start-most (start .args .used)) size;
       },
     )
 

@@ -1,41 +1,30 @@
 -- `formatting::append_decimal` meets its contract.
 use mathlib.Core.Path.{ap, _∙_}
+use Prim.Native.Nat.{ℕ}
 use borrow.Author.Needs.{needs}
+use Rattle.numerals.specs.Numerals.{lastDigits, digits}
 use Rattle.formatting.specs.Buffer.{buffer, appendAll}
-use Rattle.formatting.specs.Decimal.{written}
 use Rattle.formatting.proofs.append_decimal.Statement.{statement}
 use Rattle.formatting.proofs.append_decimal.Tie as tie
 
-decimal-requires : tie.Need-decimal-requires
-decimal-requires c κs = tt
+places-requires : tie.Need-places-requires
+places-requires c κs = tt
 
-array-share-prefix-text : tie.Need-array-share-prefix-text
-array-share-prefix-text c = search needs
-
-slice-aggregate-append-bytes : tie.Need-slice-aggregate-append-bytes
-slice-aggregate-append-bytes c = search needs
-
-append-bytes-requires : tie.Need-append-bytes-requires
-append-bytes-requires c κs = tt
+append-digits-requires : tie.Need-append-digits-requires
+append-digits-requires c κs = search needs
 
 same-length : tie.Need-same-length
-same-length c = c .before .before .append-bytes .kept .0
+same-length c = c .before .before .append-digits .kept .0
 
 returns : tie.Need-returns
+unfolding digits
 returns c =
     let a = c .before .before in
-    let d = a .before .before .before in
-    let s = d .before .before .before in
-    a .append-bytes .ensures ∙ ap (appendAll (buffer (s .args .out .now) (s .args .used)))
-    (d .decimal .ensures .1 .1 ∙ written (s .args .number) (d .decimal .result) (d .decimal .ensures .1 .0))
+    let p = a .before .before in
+    let s = p .before .before .args in
+    a .append-digits .ensures ∙
+    ap (λ (k : ℕ). appendAll (buffer (s .out .now) (s .used)) (lastDigits 10 k (s .number))) (p .places .ensures .0)
 
 pub append-decimal-spec : {M : Type 1} → statement M
 append-decimal-spec =
-    tie.close
-    (tie.spec
-    decimal-requires
-    array-share-prefix-text
-    slice-aggregate-append-bytes
-    append-bytes-requires
-    same-length
-    returns)
+    tie.close (tie.spec places-requires append-digits-requires same-length returns)

@@ -1,50 +1,53 @@
 -- `formatting::append_digits` meets its contract.
-use mathlib.Core.Path.{_∙_}
-use Prim.Native.Nat.{ℕ, _/_, _<_}
-use native.Mathlib.Nat.{mod-eq-of-lt}
+use mathlib.Core.Path.{sym, ap, _∙_}
+use mathlib.Core.List.{List}
+use Prim.Native.Nat.{ℕ}
 use native.Mathlib.Omega.{arith}
-use Rattle.text.specs.Digits.{hexadecimal}
-use Rattle.formatting.specs.Buffer.{buffer}
-use Rattle.formatting.specs.Laws.{then}
+use lib.ListN.{take}
+use lib.Seq.{length-take-le}
+use borrow.Author.Needs.{needs}
+use Rattle.numerals.specs.Writing.{front}
+use Rattle.formatting.specs.Buffer.{buffer, appendAll}
 use Rattle.formatting.proofs.append_digits.Statement.{statement}
 use Rattle.formatting.proofs.append_digits.Tie as tie
 
-high-half : (b : ℕ) → b < 256 → b / 16 < 16
-high-half b h = omega arith
+slice-aggregate-write-digits : tie.Need-slice-aggregate-write-digits
+slice-aggregate-write-digits c = search needs
 
-low-digit-requires : tie.Need-low-digit-requires
-low-digit-requires c κs = tt
+write-digits-requires : tie.Need-write-digits-requires
+write-digits-requires c κs = search needs
 
-append-byte-requires : tie.Need-append-byte-requires
-append-byte-requires c κs = tt
+array-share-prefix-text : tie.Need-array-share-prefix-text
+array-share-prefix-text c = search needs
 
-low-digit-requires-2 : tie.Need-low-digit-requires-2
-low-digit-requires-2 c κs = tt
+slice-aggregate-append-bytes : tie.Need-slice-aggregate-append-bytes
+slice-aggregate-append-bytes c =
+    let w = c .before .before .before in
+    sym (length-take-le (w .before .before .before .args .count) (w .write-digits .last .0) (omega (arith, w .write-digits .kept .0)))
 
-append-byte-requires-2 : tie.Need-append-byte-requires-2
-append-byte-requires-2 c κs = tt
+append-bytes-requires : tie.Need-append-bytes-requires
+append-bytes-requires c κs = tt
 
 same-length : tie.Need-same-length
-same-length c = c .before .before .append-byte2 .kept .0 ∙ c .before .before .before .before .before .before .before .append-byte .kept .0
+same-length c = c .before .before .append-bytes .kept .0
 
 returns : tie.Need-returns
-unfolding hexadecimal
 returns c =
-    let l = c .before .before in
-    let h = l .before .before .before .before .before in
-    let s = h .before .before .before .before in
-    let half = high-half (s .args .byte) (s .fits .byte .fits) in
-    let high = rw (h .before .low-digit .ensures, mod-eq-of-lt half) at (h .append-byte .ensures) in
-    let low = rw (l .before .low-digit2 .ensures) at (l .append-byte2 .ensures) in
-    then (buffer (s .args .out .now) (s .args .used)) _ _ high low
+    let a = c .before .before in
+    let w = a .before .before .before .before in
+    let s = w .before .before .before .args in
+    a .append-bytes .ensures ∙
+    ap (λ (bytes : List ℕ). appendAll (buffer (s .out .now) (s .used)) (take (s .count) bytes)) (w .write-digits .ensures) ∙
+    ap (appendAll (buffer (s .out .now) (s .used))) (front (s .base) (s .count) (s .number) _)
 
 pub append-digits-spec : {M : Type 1} → statement M
 append-digits-spec =
     tie.close
     (tie.spec
-    low-digit-requires
-    append-byte-requires
-    low-digit-requires-2
-    append-byte-requires-2
+    slice-aggregate-write-digits
+    write-digits-requires
+    array-share-prefix-text
+    slice-aggregate-append-bytes
+    append-bytes-requires
     same-length
     returns)

@@ -1,9 +1,10 @@
 -- `formatting::append_hexadecimal` meets its contract.
 use mathlib.Core.Path.{refl}
 use Prim.Native.Nat.{_-_}
+use native.Mathlib.Omega.{arith}
 use lib.ListN.{length}
 use borrow.Author.Needs.{needs}
-use Rattle.text.specs.Digits.{hexadecimal}
+use Rattle.numerals.specs.Numerals.{lastDigits, hexadecimal}
 use Rattle.formatting.specs.Laws.{Appending, appending-turn, appending-ends}
 use Rattle.formatting.proofs.append_hexadecimal.Statement.{statement}
 use Rattle.formatting.proofs.append_hexadecimal.Tie as tie
@@ -20,8 +21,11 @@ loop-holds c = record { inside = search needs; size = refl; whole = refl }
 shared-slice-read-append-digits : tie.Need-shared-slice-read-append-digits Inv-loop μ-loop
 shared-slice-read-append-digits c = search needs
 
+cast-append-digits : tie.Need-cast-append-digits Inv-loop μ-loop
+cast-append-digits c = omega (arith, c .shared-slice-known2 .given (c .before .before .before .loop .i))
+
 append-digits-requires : tie.Need-append-digits-requires Inv-loop μ-loop
-append-digits-requires c κs = tt
+append-digits-requires c κs = search needs
 
 add-i : tie.Need-add-i Inv-loop μ-loop
 add-i c = search needs
@@ -30,7 +34,7 @@ loop-less : tie.Need-loop-less Inv-loop μ-loop
 loop-less c = search needs
 
 loop-again : tie.Need-loop-again Inv-loop μ-loop
-unfolding hexadecimal
+unfolding hexadecimal lastDigits
 loop-again c =
     let a = c .before .before .append-digits in
     let l = c .before .before .before .before .before .before .loop in
@@ -42,7 +46,7 @@ same-length : tie.Need-same-length Inv-loop μ-loop
 same-length c = c .before .loop .inv .size
 
 returns : tie.Need-returns Inv-loop μ-loop
-unfolding hexadecimal
+unfolding hexadecimal lastDigits
 returns c =
     let l = c .before .loop in
     let s = c .before .before .before .before .args in
@@ -56,6 +60,7 @@ append-hexadecimal-spec =
     μ-loop
     loop-holds
     shared-slice-read-append-digits
+    cast-append-digits
     append-digits-requires
     add-i
     loop-less

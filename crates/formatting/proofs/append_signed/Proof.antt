@@ -1,7 +1,7 @@
 -- `formatting::append_signed` meets its contract.
 use mathlib.Core.Path.{sym, _∙_}
 use mir.Facts.{toZ-ofZ}
-use Rattle.text.specs.Digits.{decimal}
+use Rattle.numerals.specs.Numerals.{decimal}
 use Rattle.formatting.specs.Buffer.{buffer}
 use Rattle.formatting.specs.Laws.{then}
 use Rattle.formatting.proofs.append_signed.Statement.{statement}

@@ -51,8 +51,14 @@ enum-known-call-6 c = c .match .keys6
 save-requires : tie.Need-save-requires
 save-requires c κs = c .before .before .before .before .before .pre
 
+enum-known-call-7 : tie.Need-enum-known-call-7
+enum-known-call-7 c = c .match .keys7
+
+perform-requires : tie.Need-perform-requires
+perform-requires c κs = c .before .before .before .before .before .pre
+
 enum-told : tie.Need-enum-told
-enum-told c = c .match .keys7
+enum-told c = c .match .keys8
 
 last-reading-requires : tie.Need-last-reading-requires
 last-reading-requires c κs = tt
@@ -125,9 +131,22 @@ returns-6 c =
     rw e (ap (unchangedWith (s .args .controller)) (c .before .before .save .ensures .0)) in
     (r, rw e (c .before .before .save .ensures .1), valid s _ r)
 
+same-length-3 : tie.Need-same-length-3
+same-length-3 c = c .before .before .perform .kept .1 .1 .1 .0
+
 returns-7 : tie.Need-returns-7
 unfolding performed bufferAfter
 returns-7 c =
+    let p = c .before .before in
+    let s = p .before .before .before .before .before .before in
+    let e = p .before .before .before .call7 .given .1 in
+    let r : IsStep s (p .perform .result) =
+    rw e (p .perform .ensures .0) in
+    (r, rw e (p .perform .ensures .1), valid s _ r)
+
+returns-8 : tie.Need-returns-8
+unfolding performed bufferAfter
+returns-8 c =
     let s = c .before .before .before .before in
     let e = c .before .enum-told .given .1 in
     let r : IsStep s (unchangedWith (s .args .controller) (Clock (c .last-reading .result))) =
@@ -151,6 +170,8 @@ perform-spec =
     restart-requires
     enum-known-call-6
     save-requires
+    enum-known-call-7
+    perform-requires
     enum-told
     last-reading-requires
     returns
@@ -161,4 +182,6 @@ perform-spec =
     returns-5
     same-length-2
     returns-6
-    returns-7)
+    same-length-3
+    returns-7
+    returns-8)

@@ -2,7 +2,7 @@
 use mathlib.Core.Path.{ap, _∙_}
 use mir.Syntax.{w32, w64}
 use Rattle.integers.specs.Machine.{back}
-use Rattle.text.specs.Digits.{decimal}
+use Rattle.numerals.specs.Numerals.{decimal}
 use Rattle.formatting.specs.Buffer.{buffer, appendAll}
 use Rattle.formatting.specs.Laws.{then}
 use Rattle.console.specs.Replies.{answerText}

@@ -40,14 +40,20 @@ enum-told-2 c = c .match .keys5
 append-image-requires : tie.Need-append-image-requires
 append-image-requires c κs = tt
 
+enum-known-reply-4 : tie.Need-enum-known-reply-4
+enum-known-reply-4 c = c .match .keys6
+
+append-line-requires : tie.Need-append-line-requires
+append-line-requires c κs = tt
+
 enum-told-3 : tie.Need-enum-told-3
-enum-told-3 c = c .match .keys6
+enum-told-3 c = c .match .keys7
 
 append-sheet-requires : tie.Need-append-sheet-requires
 append-sheet-requires c κs = tt
 
 enum-told-4 : tie.Need-enum-told-4
-enum-told-4 c = c .match .keys7
+enum-told-4 c = c .match .keys8
 
 slice-aggregate-append-bytes-2 : tie.Need-slice-aggregate-append-bytes-2
 slice-aggregate-append-bytes-2 c = refl
@@ -55,14 +61,14 @@ slice-aggregate-append-bytes-2 c = refl
 append-bytes-requires-2 : tie.Need-append-bytes-requires-2
 append-bytes-requires-2 c κs = tt
 
-enum-known-reply-4 : tie.Need-enum-known-reply-4
-enum-known-reply-4 c = c .match .keys8
+enum-known-reply-5 : tie.Need-enum-known-reply-5
+enum-known-reply-5 c = c .match .keys9
 
 append-refused-requires : tie.Need-append-refused-requires
 append-refused-requires c κs = tt
 
 enum-told-5 : tie.Need-enum-told-5
-enum-told-5 c = c .match .keys9
+enum-told-5 c = c .match .keys10
 
 slice-aggregate-append-bytes-3 : tie.Need-slice-aggregate-append-bytes-3
 slice-aggregate-append-bytes-3 c = refl
@@ -120,39 +126,49 @@ returns-5 c =
     (rw e (c .before .before .append-image .ensures), rw e tt)
 
 same-length-6 : tie.Need-same-length-6
-same-length-6 c = c .before .before .append-sheet .kept .0
+same-length-6 c = c .before .before .append-line .kept .0
 
 returns-6 : tie.Need-returns-6
 unfolding replyText
 returns-6 c =
-    let e = c .before .before .before .before .enum-told3 .given .1 in
-    (rw e (c .before .before .append-sheet .ensures .bytes), rw e (c .before .before .append-sheet .ensures .short))
+    let k = c .before .before .before .before in
+    let e = k .before .reply4 .given .1 in
+    (rw e (c .before .before .append-line .ensures), rw e (k .known-told4 .given .0 .1))
 
 same-length-7 : tie.Need-same-length-7
-same-length-7 c = c .before .before .append-bytes2 .kept .0
+same-length-7 c = c .before .before .append-sheet .kept .0
 
 returns-7 : tie.Need-returns-7
 unfolding replyText
 returns-7 c =
-    let e = c .before .before .before .before .before .enum-told4 .given .1 in
-    (rw e (c .before .before .append-bytes2 .ensures), rw e tt)
+    let e = c .before .before .before .before .enum-told3 .given .1 in
+    (rw e (c .before .before .append-sheet .ensures .bytes), rw e (c .before .before .append-sheet .ensures .short))
 
 same-length-8 : tie.Need-same-length-8
-same-length-8 c = c .before .before .append-refused .kept .0
+same-length-8 c = c .before .before .append-bytes2 .kept .0
 
 returns-8 : tie.Need-returns-8
 unfolding replyText
 returns-8 c =
-    let k = c .before .before .before .before in
-    let e = k .before .reply4 .given .1 in
-    (rw e (c .before .before .append-refused .ensures), rw e (k .known-told4 .given .0 .1))
+    let e = c .before .before .before .before .before .enum-told4 .given .1 in
+    (rw e (c .before .before .append-bytes2 .ensures), rw e tt)
 
 same-length-9 : tie.Need-same-length-9
-same-length-9 c = c .before .before .append-bytes3 .kept .0
+same-length-9 c = c .before .before .append-refused .kept .0
 
 returns-9 : tie.Need-returns-9
 unfolding replyText
 returns-9 c =
+    let k = c .before .before .before .before in
+    let e = k .before .reply5 .given .1 in
+    (rw e (c .before .before .append-refused .ensures), rw e (k .known-told5 .given .0 .1))
+
+same-length-10 : tie.Need-same-length-10
+same-length-10 c = c .before .before .append-bytes3 .kept .0
+
+returns-10 : tie.Need-returns-10
+unfolding replyText
+returns-10 c =
     let e = c .before .before .before .before .before .enum-told5 .given .1 in
     (rw e (c .before .before .append-bytes3 .ensures), rw e tt)
 
@@ -171,12 +187,14 @@ append-text-spec =
     append-clock-requires
     enum-told-2
     append-image-requires
+    enum-known-reply-4
+    append-line-requires
     enum-told-3
     append-sheet-requires
     enum-told-4
     slice-aggregate-append-bytes-2
     append-bytes-requires-2
-    enum-known-reply-4
+    enum-known-reply-5
     append-refused-requires
     enum-told-5
     slice-aggregate-append-bytes-3
@@ -198,4 +216,6 @@ append-text-spec =
     same-length-8
     returns-8
     same-length-9
-    returns-9)
+    returns-9
+    same-length-10
+    returns-10)

@@ -23,17 +23,17 @@ parse-requires c κs = tt
 only-word-requires : tie.Need-only-word-requires
 only-word-requires c κs = tt
 
-sub-parse-2 : tie.Need-sub-parse-2
-sub-parse-2 c = omega arith
+sub-natural : tie.Need-sub-natural
+sub-natural c = omega arith
 
-part-parse-start-2 : tie.Need-part-parse-start-2
-part-parse-start-2 c = omega arith
+part-natural-start : tie.Need-part-natural-start
+part-natural-start c = omega arith
 
-part-parse-end-2 : tie.Need-part-parse-end-2
-part-parse-end-2 c = omega arith
+part-natural-end : tie.Need-part-natural-end
+part-natural-end c = omega arith
 
-parse-requires-2 : tie.Need-parse-requires-2
-parse-requires-2 c κs = tt
+natural-requires : tie.Need-natural-requires
+natural-requires c κs = tt
 
 scan-with-requires : tie.Need-scan-with-requires
 scan-with-requires c κs = tt
@@ -46,7 +46,7 @@ returns c =
     let a = w .before in
     let six = a .before .before in
     rw (← (six .after-words .ensures .0), ← (w .only-word .ensures .0))
-    (rw (n .parse2 .ensures, a .parse .ensures, sub-zero) at (c .scan-with .ensures))
+    (rw (n .natural .ensures, a .parse .ensures, sub-zero) at (c .scan-with .ensures))
 
 pub scan-spec : {M : Type 1} → statement M
 scan-spec =
@@ -58,9 +58,9 @@ scan-spec =
     part-parse-end
     parse-requires
     only-word-requires
-    sub-parse-2
-    part-parse-start-2
-    part-parse-end-2
-    parse-requires-2
+    sub-natural
+    part-natural-start
+    part-natural-end
+    natural-requires
     scan-with-requires
     returns)

@@ -30,6 +30,9 @@ enum-told-7 c = c .match .keys8
 enum-told-8 : tie.Need-enum-told-8
 enum-told-8 c = c .match .keys9
 
+enum-told-9 : tie.Need-enum-told-9
+enum-told-9 c = c .match .keys10
+
 returns : tie.Need-returns
 returns c = rw (c .before .reply .given .1) refl
 
@@ -57,6 +60,9 @@ returns-8 c = rw (c .enum-told7 .given .1) refl
 returns-9 : tie.Need-returns-9
 returns-9 c = rw (c .enum-told8 .given .1) refl
 
+returns-10 : tie.Need-returns-10
+returns-10 c = rw (c .enum-told9 .given .1) refl
+
 pub last-after-spec : {M : Type 1} → statement M
 last-after-spec =
     tie.close
@@ -70,6 +76,7 @@ last-after-spec =
     enum-told-6
     enum-told-7
     enum-told-8
+    enum-told-9
     returns
     returns-2
     returns-3
@@ -78,4 +85,5 @@ last-after-spec =
     returns-6
     returns-7
     returns-8
-    returns-9)
+    returns-9
+    returns-10)

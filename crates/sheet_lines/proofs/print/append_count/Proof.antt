@@ -1,7 +1,7 @@
 -- `sheet_lines::print::append_count` meets its contract.
 use mathlib.Core.Path.{_∙_, ap}
 use native.Mathlib.Omega.{arith}
-use Rattle.text.specs.Digits.{digits}
+use Rattle.numerals.specs.Numerals.{digits}
 use Rattle.sheet_lines.specs.Appended.{text-of, text-then, number-length, text-is}
 use Rattle.sheet_lines.specs.SheetText.{countText, numberText, named}
 use Rattle.sheet_lines.specs.ModeLaws.{word-length}

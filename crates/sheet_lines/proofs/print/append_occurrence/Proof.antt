@@ -3,7 +3,7 @@ use mathlib.Core.Path.{ap, _∙_}
 use native.Mathlib.Omega.{arith}
 use mir.Syntax.{w32, w64}
 use Rattle.integers.specs.Machine.{back}
-use Rattle.text.specs.Digits.{decimal}
+use Rattle.numerals.specs.Numerals.{decimal}
 use Rattle.formatting.specs.Buffer.{appendAll}
 use Rattle.sheet_lines.specs.Appended.{number-length, pv-length, text-of, text-then}
 use Rattle.sheet_lines.specs.SheetText.{occurrenceText}

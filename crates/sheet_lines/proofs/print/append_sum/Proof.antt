@@ -2,7 +2,7 @@
 use mathlib.Core.Path.{ap, _∙_}
 use native.Mathlib.Omega.{arith}
 use mir.Facts.{toZ-ofZ}
-use Rattle.text.specs.Digits.{decimal}
+use Rattle.numerals.specs.Numerals.{decimal}
 use Rattle.formatting.specs.Buffer.{appendAll}
 use Rattle.sheet_lines.specs.Appended.{sum-length, text-of, text-then, text-most}
 use Rattle.sheet_lines.specs.SheetText.{sumText}

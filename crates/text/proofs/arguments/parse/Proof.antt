@@ -1,18 +1,14 @@
+-- `text::arguments::parse` meets its contract.
 use mathlib.Core.Path.{_≡_, sym, _∙_}
 use Prim.Native.Nat.{_-_}
 use borrow.Author.Needs.{needs}
 use mir.Syntax.{w64}
 use Rattle.integers.specs.Machine.{back}
-use Rattle.text.specs.Numbers.{numberOf}
+use Rattle.numerals.specs.Parsed.{numberOf}
 use Rattle.text.specs.Arguments.{part}
 use Rattle.text.specs.ArgumentsLaws.{Gathering, gathering-starts, gathering-ends, gathering-stops, gathering-more, gathering-full}
 use Rattle.text.proofs.arguments.parse.Statement.{statement}
 use Rattle.text.proofs.arguments.parse.Tie as tie
-use Rattle.text.proofs.arguments.parse.Reads as reads
-use Rattle.text.proofs.arguments.parse.Lts as lts
-use Rattle.text.proofs.arguments.result.Reads as result-reads
-use Rattle.text.proofs.number.Reads as number-reads
-use Rattle.text.proofs.word.Reads as word-reads
 
 abbrev Inv-loop : tie.InvT-loop
 Inv-loop line start values₀ count₀ at₀ values count at = Gathering line start values count at
@@ -22,7 +18,7 @@ abbrev μ-loop : tie.MeasureT-loop
 
 -- the word that was read as a number
 word-read : (c : tie.After-number Inv-loop μ-loop) →
-    numberOf (part (c .before .before .before .before .before .before .before .args .line .now)
+    numberOf 18 (part (c .before .before .before .before .before .before .before .args .line .now)
     (c .before .before .before .word .result .from) (c .before .before .before .word .result .to)) ≡ c .number .result
 word-read c = sym (c .number .ensures)
 

@@ -1,6 +1,6 @@
 -- `text::hexadecimal::write_pairs` meets its contract. The bytes in front of `n` are the first pairs, and the others as
 -- they were.
-use mathlib.Core.Path.{_≡_, refl, sym, ap, _∙_}
+use mathlib.Core.Path.{_≡_, refl, ap, _∙_}
 use mathlib.Core.List.{List, _++_}
 use Prim.Native.Nat.{ℕ, _-_, _≤_}
 use native.Mathlib.Omega.{arith}

@@ -1,0 +1,5 @@
+pub mod Plant
+pub mod PlantLaws
+pub mod Answers
+pub mod AnswerLaws
+pub mod LongLines

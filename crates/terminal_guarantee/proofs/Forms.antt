@@ -1,0 +1,135 @@
+-- What the rules take a line for is what its bytes ask.
+use mathlib.Core.Logic.{_⊎_, inl, inr}
+use mathlib.Core.Path.{_≡_, refl, sym, ap, subst, _∙_}
+use mathlib.Core.Bool.{Bool, true, false, _&&_, cond}
+use mathlib.Core.List.{List, [], _∷_, _++_, append-nil}
+use mathlib.Core.Option.{Option, some, none}
+use Prim.Native.Nat.{ℕ, _+_, _-_, _*_, _^_, _≤_, _<_}
+use native.Mathlib.Omega.{arith}
+use lib.Dec.{eqb, leb, ltb}
+use lib.IntN.{ℤ, pos, negℤ}
+use lib.ListN.{length, take, drop, getD, take-append-drop}
+use borrow.Author.Tests.{eqb-true, eq-eqb, ne-eqb, leb-true, leb-false, le-leb, lt-leb, lt-ltb, ltb-true}
+use Rattle.integers.specs.Choice.{if_then_else_, by-cases, both}
+use Rattle.integers.specs.Listed.{listed, listed-same}
+use Rattle.integers.specs.Sign.{fromSign}
+use Rattle.numerals.specs.Numerals.{readOn, digitsOf, withSign, integerOf, wordOf}
+use Rattle.numerals.specs.PlaceValue.{numeral, capital, Number, no-digit, digit, number-read, read-number}
+use Rattle.numerals.specs.Reading.{some-of}
+use Rattle.numerals.specs.Shortest.{natural-some}
+use Rattle.terminal.specs.Commands.{isWord, unsigned, valueOf, writing, commandOf, commandBy, commandIn}
+use Rattle.terminal.specs.MnemonicLaws.{begins-with, names, named-range}
+use Rattle.terminal.specs.Mnemonics.{mnemonic, named}
+use Rattle.terminal.specs.declared.command.Command.{Command}
+use Rattle.terminal.specs.declared.command.Command.the-variants.{Read, Write, NoMnemonic, NoValue}
+use Rattle.terminal_guarantee.specs.Forms.{IsWord, IsDecimal, Few, Value, word, plain, minus}
+
+-- two things that can't both be
+pub apart : {A : Type 0} → _≡_ {A = ℕ} 0 1 → A
+apart e = absurd (omega arith)
+
+-- ---- which parameters are words
+
+pub is-word : (n : ℕ) → isWord n ≡ true → IsWord n
+unfolding isWord
+is-word n e = let t = both (leb 24 n) (leb n 27) e in (leb-true 24 n (t .0), leb-true n 27 (t .1))
+
+pub word-is : (n : ℕ) → IsWord n → isWord n ≡ true
+unfolding isWord
+word-is n h = rw (le-leb 24 n (h .0), le-leb n 27 (h .1)) refl
+
+pub is-decimal : (n : ℕ) → isWord n ≡ false → IsDecimal n
+unfolding isWord
+is-decimal n e = go (leb 24 n) refl (leb n 27) refl e
+  where
+    go : (s : Bool) → leb 24 n ≡ s → (t : Bool) → leb n 27 ≡ t → s && t ≡ false → IsDecimal n
+    go false f t g h = inl (leb-false 24 n f)
+    go true f false g h = inr (leb-false n 27 g)
+    go true f true g h = let z : _≡_ {A = ℕ} 0 1 = cc in apart z
+
+pub decimal-is : (n : ℕ) → IsDecimal n → isWord n ≡ false
+unfolding isWord
+decimal-is n (inl h) = rw (lt-leb 24 n h) refl
+decimal-is n (inr h) = rw (le-leb 24 n (omega arith), lt-leb n 27 h) refl
+
+-- ---- digits
+
+-- digits that the rules read are a number, as many as are taken
+record Digits (base : ℕ) (ds : List ℕ) (n : ℕ) : Type 0 where
+  number : Number base ds n
+  few : Few ds
+
+digits-of : (ds : List ℕ) (n : ℕ) → digitsOf 10 5 ds ≡ some n → Digits 10 ds n
+digits-of ds n e =
+    let t = natural-some 5 n ds e in
+    record { number = read-number 10 (omega arith) n ds (t .2); few = record { some = t .0; few = t .1 } }
+
+digits-read : (ds : List ℕ) (v : ℕ) → Few ds → Number 10 ds v → digitsOf 10 5 ds ≡ some v
+unfolding digitsOf
+digits-read ds v few n =
+    simp (lt-ltb 0 (length ds) (few .some), le-leb (length ds) 5 (few .few))
+    (number-read 10 (omega arith) 0 v ds n ∙ ap some (omega arith))
+
+word-of : (ds : List ℕ) (w : ℕ) → wordOf ds ≡ some w → (length ds ≡ 4) × Number 16 ds w
+unfolding wordOf
+word-of ds w e =
+    let t = some-of (eqb (length ds) 4) _ w e in
+    (eqb-true (length ds) 4 (t .0), read-number 16 (omega arith) w ds (t .1))
+
+word-read : (ds : List ℕ) (v : ℕ) → length ds ≡ 4 → Number 16 ds v → wordOf ds ≡ some v
+unfolding wordOf
+word-read ds v four n = simp (eq-eqb (length ds) 4 four) (number-read 16 (omega arith) 0 v ds n ∙ ap some (omega arith))
+
+-- ---- values
+
+signed-of : {P : Type 0} (negative : Bool) (ds : List ℕ) (z : ℤ) → withSign negative (digitsOf 10 5 ds) ≡ some z →
+    ((n : ℕ) → Digits 10 ds n → fromSign negative n ≡ z → P) → P
+unfolding withSign
+signed-of {P} negative ds z e f = go (digitsOf 10 5 ds) refl e
+  where
+    go : (o : Option ℕ) → digitsOf 10 5 ds ≡ o → withSign negative o ≡ some z → P
+    go none g h = let w : _≡_ {A = ℕ} 0 1 = cc in apart w
+    go (some n) g h = f n (digits-of ds n g) (cc)
+
+-- a list that has bytes behind its first
+headed : (c : ℕ) (t : List ℕ) → 1 ≤ length (drop 1 t) → getD t 0 0 ≡ c → c ∷ drop 1 t ≡ t
+headed c [] h e = absurd (omega arith)
+headed c (x ∷ xs) h e = cc
+
+decimal-form : (n : ℕ) (bytes : List ℕ) (z : ℤ) → IsDecimal n → integerOf 5 bytes ≡ some z → Value n bytes z
+unfolding integerOf
+decimal-form n bytes z decimal e = go (eqb (getD bytes 0 0) 45) refl e
+  where
+    go : (t : Bool) → eqb (getD bytes 0 0) 45 ≡ t →
+        cond t (withSign true (digitsOf 10 5 (drop 1 bytes))) (withSign false (digitsOf 10 5 bytes)) ≡ some z → Value n bytes z
+    go true f g =
+        signed-of true (drop 1 bytes) z g (λ v d is.
+        subst (λ (l : List ℕ). Value n l z) (headed 45 bytes (d .few .some) (eqb-true (getD bytes 0 0) 45 f))
+        (subst (Value n (45 ∷ drop 1 bytes)) is (minus decimal (d .few) (d .number))))
+    go false f g = signed-of false bytes z g (λ v d is. subst (Value n bytes) is (plain decimal (d .few) (d .number)))
+
+unsigned-of : {P : Type 0} (o : Option ℕ) (z : ℤ) → unsigned o ≡ some z → ((w : ℕ) → o ≡ some w → pos w ≡ z → P) → P
+unsigned-of none z e f = let w : _≡_ {A = ℕ} 0 1 = cc in apart w
+unsigned-of (some w) z e f = f w refl (cc)
+
+pub value-form : (n : ℕ) (bytes : List ℕ) (z : ℤ) → valueOf n bytes ≡ some z → Value n bytes z
+unfolding valueOf
+value-form n bytes z e = go (isWord n) refl e
+  where
+    go : (t : Bool) → isWord n ≡ t → (if t then unsigned (wordOf bytes) else integerOf 5 bytes) ≡ some z → Value n bytes z
+    go true f g =
+        unsigned-of (wordOf bytes) z g (λ w h is.
+        let r = word-of bytes w h in subst (Value n bytes) is (word (is-word n f) (r .0) (r .1)))
+    go false f g = decimal-form n bytes z (is-decimal n f) g
+
+-- a digit is no minus
+not-minus : {ds : List ℕ} {v : ℕ} → 1 ≤ length ds → Number 10 ds v → eqb (getD ds 0 0) 45 ≡ false
+not-minus h no-digit = absurd (omega arith)
+not-minus h (digit (numeral {d} k) small n) = ne-eqb (48 + d) 45 (λ e. omega arith)
+not-minus h (digit (capital {d} k) small n) = ne-eqb (65 + d) 45 (λ e. omega arith)
+
+pub form-value : {n : ℕ} {bytes : List ℕ} {z : ℤ} → Value n bytes z → valueOf n bytes ≡ some z
+unfolding valueOf integerOf withSign
+form-value {n} (word {ds} {v} h four k) = rw (word-is n h, word-read ds v four k) refl
+form-value {n} (plain {ds} {v} h few k) = rw (decimal-is n h, not-minus (few .some) k, digits-read ds v few k) refl
+form-value {n} (minus {ds} {v} h few k) = rw (decimal-is n h, digits-read ds v few k) refl

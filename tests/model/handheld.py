@@ -1,0 +1,56 @@
+"""The program `handheld`: lines as a mechanic types them, answered by a controller that is fresh with SW 0.
+
+A line ends at its newline, which isn't part of it; the last may lack one.  The answer is the reply, or the refusal with
+its name behind a question mark.  A line may have any length: the rules refuse every one that is too long.
+
+The line `pins N`, with one blank and a number from 0 to 255 in the form of the console's, brings the plant's pins: one
+scan, 36 ms after the last, the first at 36.  Every other line is one of the terminal.
+"""
+
+from tests.model import loop
+from tests.model.lines import BYTE, part_of
+from tests.model.state import Input, Stored
+from tests.model.terminal import LEAST_BUFFER, answer_line
+
+# Those of a line; 4 can't come, since every mnemonic has a number, nor 11, since there is no cause.  A scan made by
+# pins can't be refused
+REFUSALS = {4: "number", 5: "read only", 6: "out of range", 7: "pair out of order", 8: "setpoint", 9: "request bits", 10: "Remote pin",
+            11: "cause", 15: "short buffer", 17: "no mnemonic", 18: "no value"}
+PINS_WORD, SAMPLE_1, SCAN_MILLISECONDS = b"pins ", 5000, 36
+
+
+def typed_lines(text):
+    """The lines of a whole input, in bytes."""
+    lines = text.split(b"\n")
+    return lines[:-1] if lines[-1] == b"" else lines
+
+
+def pins_in(line):
+    """The pins that a line brings, or None if it is one of the terminal."""
+    return part_of(line[len(PINS_WORD):].decode("latin-1"), BYTE) if line.startswith(PINS_WORD) else None
+
+
+def answer_typed(controller, line):
+    """The next controller, and what is written for a line, without its newline."""
+    pins = pins_in(line)
+    if pins is None:
+        controller, answer, _ = answer_line(controller, line, bytes(LEAST_BUFFER), Stored)
+    else:
+        reading = (controller.clock or 0) + SCAN_MILLISECONDS
+        controller, answer = loop.scan(controller, Input(pins, SAMPLE_1, 0, 0, 0, 0, reading), Stored)
+    return controller, written(answer)
+
+
+def written(answer):
+    """An answer as it is written; of an accepted scan none of its values."""
+    if answer[0] == "refused":
+        return b"? %d %b" % (answer[1], REFUSALS[answer[1]].encode("ascii"))
+    return answer[2] if answer[0] == "reply" else b"ok"
+
+
+def answers_to(lines):
+    """What is written for each line, without its newline."""
+    controller = loop.fresh(0, Stored)
+    for line in lines:
+        controller, answer = answer_typed(controller, line)
+        yield answer
