@@ -60,7 +60,7 @@ digits-shortest most n h p =
     }
 
 -- a digit is no minus
-not-minus : (n : ℕ) (ds : List ℕ) → readOn 10 0 ds ≡ some n → eqb (getD ds 0 0) 45 ≡ false
+pub not-minus : (n : ℕ) (ds : List ℕ) → readOn 10 0 ds ≡ some n → eqb (getD ds 0 0) 45 ≡ false
 unfolding readOn digitValue
 not-minus n [] e = refl
 not-minus n (d ∷ ds) e = go (eqb d 45) refl
@@ -80,7 +80,7 @@ signed-some minus none z e f = let x : _≡_ {A = ℕ} 0 1 = cc in absurd (omega
 signed-some minus (some m) z e f = f m refl (cc)
 
 -- what reads as an integer does so with a minus or without one
-integer-some : {P : Type 0} (most : ℕ) (t : List ℕ) (z : ℤ) → integerOf most t ≡ some z
+pub integer-some : {P : Type 0} (most : ℕ) (t : List ℕ) (z : ℤ) → integerOf most t ≡ some z
     → ((m : ℕ) → getD t 0 0 ≡ 45 → digitsOf 10 most (drop 1 t) ≡ some m → fromSign true m ≡ z → P)
     → ((m : ℕ) → digitsOf 10 most t ≡ some m → pos m ≡ z → P) → P
 unfolding integerOf
@@ -91,7 +91,7 @@ integer-some {P} most t z e f g = go (eqb (getD t 0 0) 45) refl e
     go true k h = signed-some true (digitsOf 10 most (drop 1 t)) z h (λ m. f m (eqb-true (getD t 0 0) 45 k))
     go false k h = signed-some false (digitsOf 10 most t) z h g
 
-headed : (c : ℕ) (t : List ℕ) → 0 < length (drop 1 t) → getD t 0 0 ≡ c → t ≡ c ∷ drop 1 t
+pub headed : (c : ℕ) (t : List ℕ) → 0 < length (drop 1 t) → getD t 0 0 ≡ c → t ≡ c ∷ drop 1 t
 headed c [] h e = absurd (omega arith)
 headed c (x ∷ xs) h e = cc
 

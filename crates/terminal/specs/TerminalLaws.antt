@@ -42,7 +42,7 @@ use Rattle.terminal.specs.declared.command.Command.the-variants.{Read, W
 -- ---- a parameter that a mnemonic names
 
 module _ (n : ℕ) (least : 1 ≤ n) (most : n ≤ 32) where
-  is-known : unknownRefusal (ruleOf n) ≡ none
+  pub is-known : unknownRefusal (ruleOf n) ≡ none
   unfolding ruleOf listed
   is-known = listed-same (λ (m : ℕ). unknownRefusal (ruleOf m)) (λ (m : ℕ). none) 1 32 n refl least (omega arith)
 

@@ -14,9 +14,9 @@ use Rattle.integers.specs.Choice.{if_then_else_, by-cases, both}
 use Rattle.integers.specs.Listed.{listed, listed-same}
 use Rattle.integers.specs.Sign.{fromSign}
 use Rattle.numerals.specs.Numerals.{readOn, digitsOf, withSign, integerOf, wordOf}
-use Rattle.numerals.specs.PlaceValue.{numeral, capital, Number, no-digit, digit, number-read, read-number}
+use Rattle.numerals.specs.PlaceValue.{Number, number-read, read-number}
 use Rattle.numerals.specs.Reading.{some-of}
-use Rattle.numerals.specs.Shortest.{natural-some}
+use Rattle.numerals.specs.Shortest.{natural-some, not-minus, integer-some, headed}
 use Rattle.terminal.specs.Commands.{isWord, unsigned, valueOf, writing, commandOf, commandBy, commandIn}
 use Rattle.terminal.specs.MnemonicLaws.{begins-with, names, named-range}
 use Rattle.terminal.specs.Mnemonics.{mnemonic, named}
@@ -82,31 +82,14 @@ word-read ds v four n = simp (eq-eqb (length ds) 4 four) (number-read 16 (omega 
 
 -- ---- values
 
-signed-of : {P : Type 0} (negative : Bool) (ds : List ℕ) (z : ℤ) → withSign negative (digitsOf 10 5 ds) ≡ some z →
-    ((n : ℕ) → Digits 10 ds n → fromSign negative n ≡ z → P) → P
-unfolding withSign
-signed-of {P} negative ds z e f = go (digitsOf 10 5 ds) refl e
-  where
-    go : (o : Option ℕ) → digitsOf 10 5 ds ≡ o → withSign negative o ≡ some z → P
-    go none g h = let w : _≡_ {A = ℕ} 0 1 = cc in apart w
-    go (some n) g h = f n (digits-of ds n g) (cc)
-
--- a list that has bytes behind its first
-headed : (c : ℕ) (t : List ℕ) → 1 ≤ length (drop 1 t) → getD t 0 0 ≡ c → c ∷ drop 1 t ≡ t
-headed c [] h e = absurd (omega arith)
-headed c (x ∷ xs) h e = cc
-
 decimal-form : (n : ℕ) (bytes : List ℕ) (z : ℤ) → IsDecimal n → integerOf 5 bytes ≡ some z → Value n bytes z
-unfolding integerOf
-decimal-form n bytes z decimal e = go (eqb (getD bytes 0 0) 45) refl e
-  where
-    go : (t : Bool) → eqb (getD bytes 0 0) 45 ≡ t →
-        cond t (withSign true (digitsOf 10 5 (drop 1 bytes))) (withSign false (digitsOf 10 5 bytes)) ≡ some z → Value n bytes z
-    go true f g =
-        signed-of true (drop 1 bytes) z g (λ v d is.
-        subst (λ (l : List ℕ). Value n l z) (headed 45 bytes (d .few .some) (eqb-true (getD bytes 0 0) 45 f))
-        (subst (Value n (45 ∷ drop 1 bytes)) is (minus decimal (d .few) (d .number))))
-    go false f g = signed-of false bytes z g (λ v d is. subst (Value n bytes) is (plain decimal (d .few) (d .number)))
+decimal-form n bytes z decimal e =
+    integer-some 5 bytes z e
+    (λ v sign f is.
+    let d = digits-of (drop 1 bytes) v f in
+    subst (λ (l : List ℕ). Value n l z) (sym (headed 45 bytes (d .few .some) sign))
+    (subst (Value n (45 ∷ drop 1 bytes)) is (minus decimal (d .few) (d .number))))
+    (λ v f is. let d = digits-of bytes v f in subst (Value n bytes) is (plain decimal (d .few) (d .number)))
 
 unsigned-of : {P : Type 0} (o : Option ℕ) (z : ℤ) → unsigned o ≡ some z → ((w : ℕ) → o ≡ some w → pos w ≡ z → P) → P
 unsigned-of none z e f = let w : _≡_ {A = ℕ} 0 1 = cc in apart w
@@ -122,14 +105,9 @@ value-form n bytes z e = go (isWord n) refl e
         let r = word-of bytes w h in subst (Value n bytes) is (word (is-word n f) (r .0) (r .1)))
     go false f g = decimal-form n bytes z (is-decimal n f) g
 
--- a digit is no minus
-not-minus : {ds : List ℕ} {v : ℕ} → 1 ≤ length ds → Number 10 ds v → eqb (getD ds 0 0) 45 ≡ false
-not-minus h no-digit = absurd (omega arith)
-not-minus h (digit (numeral {d} k) small n) = ne-eqb (48 + d) 45 (λ e. omega arith)
-not-minus h (digit (capital {d} k) small n) = ne-eqb (65 + d) 45 (λ e. omega arith)
-
 pub form-value : {n : ℕ} {bytes : List ℕ} {z : ℤ} → Value n bytes z → valueOf n bytes ≡ some z
 unfolding valueOf integerOf withSign
 form-value {n} (word {ds} {v} h four k) = rw (word-is n h, word-read ds v four k) refl
-form-value {n} (plain {ds} {v} h few k) = rw (decimal-is n h, not-minus (few .some) k, digits-read ds v few k) refl
+form-value {n} (plain {ds} {v} h few k) =
+    let no-sign = not-minus _ ds (number-read 10 (omega arith) 0 v ds k) in rw (decimal-is n h, no-sign, digits-read ds v few k) refl
 form-value {n} (minus {ds} {v} h few k) = rw (decimal-is n h, digits-read ds v few k) refl

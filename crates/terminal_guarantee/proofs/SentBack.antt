@@ -1,5 +1,6 @@
 -- A parameter's decimal reply, sent back as a line, is answered the same and changes nothing.
-use mathlib.Core.Path.{_≡_, refl, sym, ap, subst, _∙_}
+use mathlib.Core.Logic.{inl}
+use mathlib.Core.Path.{_≡_, refl, sym, ap, _∙_}
 use mathlib.Core.Bool.{Bool, true, false}
 use mathlib.Core.List.{List, [], _∷_, _++_}
 use mathlib.Core.Option.{Option, some, none}
@@ -10,7 +11,7 @@ use lib.IntN.{ℤ, natAbs}
 use lib.ListN.{length, take, drop}
 use lib.Seq.{take-append-seam, drop-append-seam}
 use denote.Ref.{now}
-use borrow.Author.Tests.{eqb-true, eq-eqb, le-leb, le-ltb, lt-leb}
+use borrow.Author.Tests.{eqb-true, eq-eqb, le-leb, le-ltb}
 use Rattle.integers.specs.Choice.{if_then_else_, by-cases}
 use Rattle.numerals.specs.Numerals.{decimal, integerOf}
 use Rattle.numerals.specs.Shortest.{decimal-shortest}
@@ -25,7 +26,7 @@ use Rattle.guarantee.specs.Claim.{WithinLimits}
 use Rattle.guarantee.specs.Modes.{modeIn, isHoldOrTrack}
 use Rattle.guarantee.proofs.Modes.{mode-is-first}
 use Rattle.promises.specs.RefusalCauses.{setpointRefused}
-use Rattle.terminal.specs.Commands.{isWord, valueOf, commandIn}
+use Rattle.terminal.specs.Commands.{valueOf, commandIn}
 use Rattle.terminal.specs.MnemonicLaws.{names}
 use Rattle.terminal.specs.Mnemonics.{named}
 use Rattle.terminal.specs.Terminal.{valueText, replyText, presentValue, LineOutcome, LineReply, reply, number, refusedLine, replied}
@@ -39,7 +40,7 @@ use Rattle.terminal_guarantee.specs.Forms.{letters, InTable, Asked, a-re
 use Rattle.terminal_guarantee.specs.Lines.{RefusedWith}
 use Rattle.terminal_guarantee.specs.SentBack.{SameAgain, SendingBack, ReplySentBack}
 use Rattle.terminal_guarantee.specs.Visits.{Visited, typed}
-use Rattle.terminal_guarantee.proofs.Forms.{apart, value-form}
+use Rattle.terminal_guarantee.proofs.Forms.{apart, decimal-is, value-form}
 use Rattle.terminal_guarantee.proofs.Lines.{is-reply, refused-right, by-room}
 use Rattle.terminal_guarantee.proofs.Meaning.{letters-are, asked-command, Meaning, names-none, asks-nothing, asks-read}
 use Rattle.terminal_guarantee.proofs.Meaning.{asks-write, meaning}
@@ -136,11 +137,7 @@ next-is c n buffer r after e = ap (λ (q : LineOutcome). q .next) e
 
 -- ---- sent back
 
--- parameters 1 to 23 are decimals, and a read answers what is stored
-is-decimal : (n : ℕ) → n ≤ 23 → isWord n ≡ false
-unfolding isWord
-is-decimal n h = rw (lt-leb 24 n (omega arith)) refl
-
+-- a read of parameters 1 to 23 answers what is stored
 stored : (c : Controller) (n : ℕ) → 1 ≤ n → n ≤ 23 → presentValue c n ≡ value (c .core .parameters) n
 unfolding valueIn
 stored c n h k = rw (le-leb 1 n h, le-leb n 23 k) refl
@@ -149,10 +146,10 @@ reply-asks : (c : Controller) (n : ℕ) → Valid c → InTable n → n ≤ 23 �
 unfolding replyText valueText valueOf
 reply-asks c n valid t most =
     let v = presentValue c n in
-    let decimal-is = is-decimal n most in
-    let few = value-few c n valid decimal-is in
-    let back : valueOf n (decimal v) ≡ some v = rw decimal-is (decimal-shortest 5 v (omega arith) (omega arith) .reads) in
-    rw (← letters-are n t, decimal-is) (writes t (value-form n (decimal v) v back))
+    let is-decimal = decimal-is n (inl (omega arith)) in
+    let few = value-few c n valid is-decimal in
+    let back : valueOf n (decimal v) ≡ some v = rw is-decimal (decimal-shortest 5 v (omega arith) (omega arith) .reads) in
+    rw (← letters-are n t, is-decimal) (writes t (value-form n (decimal v) v back))
 
 module _ (c : Controller) (n : ℕ) (least : 1 ≤ n) (most : n ≤ 23) (valid : Valid c)
     (within : (mode : Mode) → modeIn (c .core) ≡ some mode → isHoldOrTrack mode ≡ false → WithinLimits c) where

@@ -39,6 +39,7 @@ use Rattle.promises.specs.RefusalCauses.{setpointRefused}
 use Rattle.promises.specs.Writes.{expectedOutput}
 use Rattle.promises.proofs.RefusalCauses.{setpoint-refused-is, write-tests}
 use Rattle.promises.proofs.Writes.{write-effects}
+use Rattle.terminal.specs.TerminalLaws.{is-known}
 use Rattle.terminal_guarantee.proofs.Forms.{apart}
 
 -- ---- the parameters
@@ -77,10 +78,6 @@ module _ (c : Controller) (n : ℕ) (least : 1 ≤ n) (most : n ≤ 23) (valid :
 
   -- ---- its refusals
 
-  is-known : unknownRefusal (ruleOf n) ≡ none
-  unfolding ruleOf listed
-  is-known = listed-same (λ (m : ℕ). unknownRefusal (ruleOf m)) (λ (m : ℕ). none) 1 25 n refl least (omega arith)
-
   is-settable : readOnlyRefusal (ruleOf n) ≡ none
   unfolding ruleOf listed
   is-settable = listed-same (λ (m : ℕ). readOnlyRefusal (ruleOf m)) (λ (m : ℕ). none) 1 25 n refl least (omega arith)
@@ -91,7 +88,7 @@ module _ (c : Controller) (n : ℕ) (least : 1 ≤ n) (most : n ≤ 23) (valid :
   unfolding writeTests stateTests setpointTests refusedBy
   tests-are =
       let kept = both (inRange (ruleOf n) (value (c .core .parameters)) _) _ (valid .legal .rules n least most) in
-      rw (is-known, is-settable, kept .0, kept .1, ne-eqb n 24 (λ q. omega arith), setpoint-refused-is (c .core))
+      rw (is-known n least (omega arith), is-settable, kept .0, kept .1, ne-eqb n 24 (λ q. omega arith), setpoint-refused-is (c .core))
       (go (eqb n 20) (setpointRefused (c .core)))
     where
       go : (s t : Bool) → refusedBy (if s then (t, 8) ∷ [] else []) ≡ (if s then (if t then some 8 else none) else none)
