@@ -59,16 +59,10 @@ module _ (n d : ℕ) (some : 0 < d) where
   even-above-half h =
       simp (le-ltb (2 * (n % d)) d (omega (arith, left-over n d some)), lt-ltb d (2 * (n % d)) (omega (arith, left-over n d some)))
 
-  at-half : d - n % d ≤ n % d → n % d ≤ d - n % d → n / d + n / d % 2 ≡ halfEven n d
+  pub even-at-half : d - n % d ≤ n % d → n % d ≤ d - n % d → n / d + n / d % 2 ≡ halfEven n d
   unfolding halfEven
-  at-half h k =
+  even-at-half h k =
       simp (le-ltb (2 * (n % d)) d (omega (arith, left-over n d some)), le-ltb d (2 * (n % d)) (omega (arith, left-over n d some)))
-
-  pub even-at-half : d - n % d ≤ n % d → n % d ≤ d - n % d → n / d % 2 ≡ 0 → n / d ≡ halfEven n d
-  even-at-half h k even = omega (arith, at-half h k)
-
-  pub odd-at-half : d - n % d ≤ n % d → n % d ≤ d - n % d → (n / d % 2 ≡ 0 → ⊥) → n / d + 1 ≡ halfEven n d
-  odd-at-half h k odd = omega (arith, at-half h k)
 
 -- a whole quotient is itself
 pub halfEven-whole : (k d : ℕ) → 0 < d → halfEven (k * d) d ≡ k

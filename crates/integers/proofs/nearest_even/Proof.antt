@@ -1,7 +1,7 @@
 -- `integers::nearest_even` meets its contract.
 use native.Mathlib.Omega.{arith}
 use borrow.Author.Needs.{needs}
-use Rattle.integers.specs.RoundingLaws.{remainder-fits, room, even-below-half, even-above-half, even-at-half, odd-at-half}
+use Rattle.integers.specs.RoundingLaws.{remainder-fits, room, even-below-half, even-above-half, even-at-half}
 use Rattle.integers.proofs.nearest_even.Statement.{statement}
 use Rattle.integers.proofs.nearest_even.Tie as tie
 
@@ -38,12 +38,12 @@ add-result-2 c =
 returns-3 : tie.Need-returns-3
 returns-3 c =
     let s = c .before .before .before in
-    even-at-half (s .args .n) (s .args .d) (s .pre) (c .before .before .if1 .left) (c .before .if2 .left) (c .if3 .taken)
+    omega (arith, even-at-half (s .args .n) (s .args .d) (s .pre) (c .before .before .if1 .left) (c .before .if2 .left))
 
 returns-4 : tie.Need-returns-4
 returns-4 c =
     let s = c .before .before .before in
-    odd-at-half (s .args .n) (s .args .d) (s .pre) (c .before .before .if1 .left) (c .before .if2 .left) (c .if3 .left)
+    omega (arith, even-at-half (s .args .n) (s .args .d) (s .pre) (c .before .before .if1 .left) (c .before .if2 .left))
 
 pub nearest-even-spec : {M : Type 1} → statement M
 nearest-even-spec =
