@@ -6,9 +6,11 @@ Usage: python3 -B -m tests.repository.layout
 - every function of Rattle has fewer than 40 lines, branches at most three deep and at most one loop;
 - of both the table of roots, which is written by a program, may have more lines;
 - a line of code has at most 140 columns, a line of prose at most 120 (`tests/repository/line_lengths.py`);
+- a file of Rattle or antt uses every name that it imports, and imports it once (`tests/repository/imports.py`);
 - no file names a path in one of the usual folders outside the repository.
 
-The last line printed is 'N passed, M failed', one count for each file, each function and each line that is too long.
+The last line printed is 'N passed, M failed', one count for each file, each function, each line that is too long and
+each name that is imported in vain.
 """
 
 import re
@@ -18,6 +20,7 @@ import sys
 from tests import ROOT
 from tests.gate import tally
 from tests.repository.files import text_of, tracked
+from tests.repository.imports import idle_imports
 from tests.repository.line_lengths import too_long_lines
 
 MOST_FILE_LINES, MOST_FUNCTION_LINES, MOST_DEPTH, MOST_LOOPS = 299, 39, 3, 1
@@ -70,6 +73,8 @@ def faults(name):
     """What is wrong with one file, and how many things were looked at."""
     lines = text_of(name).split("\n")
     found = [f"{name}:{number}: {columns} columns" for number, columns in too_long_lines(name, lines)]
+    if name.endswith((".rt", ".antt")):
+        found += [f"{name}:{number}: {imported} is imported in vain" for number, imported in idle_imports("\n".join(lines))]
     looked = 1 + len(found)
     if any(OUTSIDE.search(line) for line in lines) and name != "tests/repository/layout.py":
         found.append(f"{name}: names a path outside the repository")

@@ -1,4 +1,4 @@
-"""Tests of the checks of names and line lengths: what they must find, and what they must not.
+"""Tests of the checks of names, line lengths and imports: what they must find, and what they must not.
 
 Usage: python3 -B -m tests.repository.repository_test
 
@@ -8,6 +8,7 @@ The last line printed is 'N passed, M failed'.
 import sys
 
 from tests.gate import tally
+from tests.repository.imports import idle_imports
 from tests.repository.line_lengths import too_long_lines
 from tests.repository.names import identifiers, retired_in
 
@@ -27,6 +28,11 @@ TEXTS = (("a.py", "# " + "word " * 24, [1]), ("a.py", "x = [" + "1, " * 46 + "]"
          ("a.md", "word " * 25, [1]), ("a.md", "| " + "cell " * 40, []), ("a.md", "    " + "code " * 40, []),
          ("a.md", "- " + "a" * 140, []),
          ("a.md", "- item\n    " + "word " * 25, [2]), ("a.md", "```\n" + "code " * 40 + "\n```\n" + "word " * 25, [4]))
+# A text, and the names that it imports in vain
+IMPORTS = (("use a.{b, c, _+_, _*_}\nb : d + e", ["c", "_*_"]), ("use a.{b}\nuse a.{b}\nb : b", ["b"]), ("use a.{b}\n-- b", ["b"]),
+           ("use a.{b}\nuse c.{b}\nb : b", []), ("use a.{b as c}\nb", ["c"]), ("use a.{b as c}\nc", []), ("use a as m\nm.b", []),
+           ("use a as m\nb", ["m"]), ("use a.{b-c, if_then_else_}\nb\nif x then y else z", ["b-c"]), ("use a.{b}\nb-c", ["b"]),
+           ("ghost use a.{b, c};\nfn f() // c\nb", ["c"]))
 
 
 def results():
@@ -37,6 +43,9 @@ def results():
                                  ("a.py", PYTHON, {"shown_by", "lay"})):
         found = {each for each in identifiers(name, text) if retired_in(each)}
         yield found == expected, f"{name}: {found}"
+    for text, expected in IMPORTS:
+        found = [name for _, name in idle_imports(text)]
+        yield found == expected, f"{text!r}: {found}"
     for name, text, expected in TEXTS:
         found = [number for number, _ in too_long_lines(name, text.split("\n"))]
         yield found == expected, f"{name}, {text[:20]!r}..: lines {found}"

@@ -32,7 +32,7 @@ use Rattle.terminal.specs.TerminalLaws.{valid-line}
 use Rattle.terminal.specs.declared.command.Command as terminal
 use Rattle.terminal.specs.declared.command.Command.the-variants as command
 use Rattle.console.specs.Calls.{isFilled, stepOf, unchangedWith, performed, checkedReply, saveReply}
-use Rattle.console.specs.Calls.{filled, terminalFits, terminalOutcome, terminalReply, terminalStep, checkedTerminal}
+use Rattle.console.specs.Calls.{filled, terminalFits, terminalReply, terminalStep, checkedTerminal}
 use Rattle.console.specs.declared.call.Reply.the-variants.{Image, Refused, Error}
 use Rattle.console.specs.declared.call.Step.{Step}
 use Rattle.console.specs.declared.request.Call.{Call}

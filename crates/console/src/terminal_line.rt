@@ -4,7 +4,7 @@ ghost use Prim.Native.Nat.{_≤_};
 ghost use lib.ListN.{length};
 ghost use Rattle.controller.specs.Valid.{Valid};
 ghost use Rattle.terminal.specs.Terminal.{replyOfLine};
-ghost use Rattle.text.specs.Hexadecimal.{countIn, bytesIn};
+ghost use Rattle.text.specs.Hexadecimal.{bytesIn};
 ghost use Rattle.console.specs.Calls.{terminalFits, checkedTerminal, terminalStep, terminalBuffer};
 ghost use Rattle.console.specs.Commands.{terminalBytes, terminalOf, terminalCommand};
 use crate::call::Reply;

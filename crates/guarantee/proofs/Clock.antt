@@ -1,6 +1,6 @@
 -- The two texts of what a reading is beside the last accepted one; the reading that is remembered is the one that the
 -- accepted calls of the list tell; accepted scans come 30 ms apart or more.
-use mathlib.Core.Path.{_≡_, refl, sym, ap, subst, _∙_}
+use mathlib.Core.Path.{_≡_, refl, sym, ap, _∙_}
 use mathlib.Core.Bool.{Bool, true, false, _||_, false≢true}
 use mathlib.Core.List.{List}
 use mathlib.Core.Option.{Option, some}
@@ -17,12 +17,11 @@ use Rattle.signals.specs.declared.clock.ClockReading.{ClockReading}
 use Rattle.signals.specs.declared.clock.ClockReading.the-variants.{None, At}
 use Rattle.answers.specs.declared.ScanValues.{ScanValues}
 use Rattle.outputs.specs.History.{historyBefore}
-use Rattle.outputs.specs.declared.History.{History}
 use Rattle.outputs.specs.declared.History.the-variants.{Nothing}
 use Rattle.controller.specs.Answers.{Reply, words, reading, acceptance, number, replyOf, Response}
 use Rattle.controller.specs.Restart.{valuesIn, restartTests, restartAccepted, restartCore}
 use Rattle.controller.specs.Scan as rules
-use Rattle.controller.specs.Scan.{earlierScans, contextOf, coreAfter, statusOf, Outcome, withOutput, accepted, refused, refusedOr}
+use Rattle.controller.specs.Scan.{earlierScans, contextOf, coreAfter, statusOf, accepted, refused}
 use Rattle.controller.specs.Scan.{scanCore, responseFrom}
 use Rattle.controller.specs.State.{freshCore}
 use Rattle.controller.specs.ValidLaws.{by-verdict, passed}

@@ -6,7 +6,6 @@ use Prim.Native.Nat.{ℕ}
 use lib.IntN.{ℤ}
 use denote.Ref.{now}
 use Rattle.signals.specs.declared.Input.{Input}
-use Rattle.signals.specs.declared.clock.ClockReading.{ClockReading}
 use Rattle.modes.specs.Modes.{counted}
 use Rattle.modes.specs.declared.Mode.{Mode}
 use Rattle.controller.specs.Answers.{Reply, Response, responseOf, replyOfVerdict, responseOfVerdict}

@@ -1,9 +1,9 @@
 -- Laws of the answers: how long they are, and that a reply is written as the terminal gave it.
 use mathlib.Core.Path.{_≡_}
-use mathlib.Core.List.{List, _++_}
+use mathlib.Core.List.{List}
 use Prim.Native.Nat.{ℕ, _+_, _≤_}
 use native.Mathlib.Omega.{arith}
-use lib.ListN.{length, take, drop, replicate, length-append, length-take}
+use lib.ListN.{length, drop, length-append, length-take}
 use lib.Seq.{take-append-seam}
 use Rattle.numerals.specs.Numerals.{digitByte, lastDigits, placesWithin, places, digits}
 use Rattle.formatting.specs.Buffer.{buffer, appendAll}

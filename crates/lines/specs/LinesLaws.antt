@@ -7,7 +7,7 @@ use native.Mathlib.Nat.{sub-zero, zero-sub, suc-sub-suc}
 use native.Mathlib.Omega.{arith}
 use lib.Dec.{eqb, leb, ltb}
 use lib.ListN.{length, take, drop, getD, length-take, drop-of-length-le}
-use lib.Seq.{drop-cons, drop-drop, take-all, take-nil, drop-nil}
+use lib.Seq.{drop-cons, drop-drop, take-all, take-nil}
 use borrow.Author.Tests.{eq-eqb, ne-eqb, leb-true, leb-false, ltb-false}
 use Rattle.integers.specs.Choice.{by-cases, never}
 use Rattle.lines.specs.Lines.{hasEnd, lineOf, restOf, unread, lineLength, startOf}

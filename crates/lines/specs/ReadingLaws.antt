@@ -1,8 +1,8 @@
 -- Laws of reading: from the bytes appended to a line to the next line.
 use mathlib.Core.Path.{_≡_, refl, sym, ap, _∙_}
-use mathlib.Core.Bool.{Bool, true, false, not, _&&_, _||_, cond}
-use mathlib.Core.List.{List, [], _∷_, _++_, append-nil}
-use Prim.Native.Nat.{ℕ, zero, suc, _+_, _-_, _≤_, _<_}
+use mathlib.Core.Bool.{Bool, true, false, _&&_}
+use mathlib.Core.List.{List, [], _++_, append-nil}
+use Prim.Native.Nat.{ℕ, zero, suc, _+_, _-_, _≤_}
 use native.Mathlib.Omega.{arith}
 use lib.Dec.{ltb}
 use lib.ListN.{length, take, drop, length-take, length-drop}
@@ -10,7 +10,7 @@ use borrow.Author.Tests.{lt-ltb}
 use Rattle.integers.specs.Choice.{never}
 use Rattle.formatting.specs.Buffer.{Buffer, buffer, appendAll}
 use Rattle.formatting.specs.Laws.{append-append}
-use Rattle.lines.specs.Lines.{hasEnd, lineOf, restOf, unread, lineLength, reads, begun, ended, Appended, Advanced, Refilled}
+use Rattle.lines.specs.Lines.{hasEnd, lineOf, unread, reads, begun, ended, Appended, Advanced, Refilled}
 use Rattle.lines.specs.Lines.{Continued, NextLine}
 use Rattle.lines.specs.LinesLaws.{lastOf, firstOf, unread-part, unread-rest, rest-behind-line, line-behind, end-behind, rest-behind}
 use Rattle.lines.specs.LinesLaws.{line-whole, rest-whole}

@@ -2,9 +2,8 @@
 // whatever, and nothing is known but how many; what comes of them is stated byte by byte.
 ghost use mathlib.Core.Path.{_≡_};
 ghost use mathlib.Core.Bool.{cond};
-ghost use Prim.Native.Nat.{_≤_, min};
+ghost use Prim.Native.Nat.{min};
 ghost use lib.Dec.{ltb};
-ghost use lib.ListN.{length};
 ghost use Rattle.lines.specs.Lines.{Appended, started, begun, ended, Advanced, Refilled, Continued, NextLine};
 use libc::STDIN_FILENO;
 use libc::STDOUT_FILENO;

@@ -1,6 +1,6 @@
 -- Document 01, One scan, steps 2 and 3: causes, the request and the mode. Mode and cause "always follow the present
 -- state".
-use mathlib.Core.Bool.{Bool, true, false, not, _&&_, _||_}
+use mathlib.Core.Bool.{Bool, false, not, _&&_, _||_}
 use mathlib.Core.List.{List, [], _∷_}
 use Prim.Native.Nat.{ℕ, _+_, min}
 use lib.Dec.{eqb, leb}

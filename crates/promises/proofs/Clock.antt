@@ -1,9 +1,7 @@
 -- An accepted scan after a gap is that of the controller with nothing remembered; any other that of the controller with
 -- its earlier PVs and SP and no reading.
 use mathlib.Core.Path.{_≡_, refl, sym, ap, _∙_}
-use mathlib.Core.Bool.{Bool, true, false}
 use mathlib.Core.Option.{none}
-use Rattle.integers.specs.Choice.{if_then_else_}
 use Rattle.signals.specs.Refusals.{refusedBy, scanTests}
 use Rattle.signals.specs.declared.Input.{Input}
 use Rattle.signals.specs.declared.clock.ClockReading.{ClockReading}
@@ -15,12 +13,11 @@ use Rattle.outputs.specs.declared.History.{History}
 use Rattle.outputs.specs.declared.History.the-variants.{Nothing}
 use Rattle.controller.specs.Answers.{Response}
 use Rattle.controller.specs.Scan as rules
-use Rattle.controller.specs.Scan.{earlierScans, contextOf, computedIn, indicationsAfter, coreAfter, statusOf, Outcome, accepted}
+use Rattle.controller.specs.Scan.{earlierScans, contextOf, computedIn, indicationsAfter, coreAfter, statusOf, accepted}
 use Rattle.controller.specs.Scan.{controllerAfter, responseFrom}
 use Rattle.controller.specs.ValidLaws.{passed}
 use Rattle.controller.specs.declared.Controller.{Controller}
-use Rattle.controller.specs.declared.Core.{Core}
-use Rattle.guarantee.specs.Clock.{afterGap, recalledAt, recalledIn}
+use Rattle.guarantee.specs.Clock.{recalledAt, recalledIn}
 use Rattle.guarantee.proofs.Clock.{history-is, none-refused}
 use Rattle.promises.specs.Clock.{remembering, GapForgets, OrdinaryRemembers, StaysValid}
 use Rattle.promises.proofs.RefusalCauses.{accepted-scan}

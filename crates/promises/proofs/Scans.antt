@@ -36,8 +36,7 @@ use Rattle.promises.specs.Scans.{Scaled, NearestAway, expectedRatio, exp
 use Rattle.promises.specs.Words.{ShowsMD, ShowsDS, remoteOrRatio}
 use Rattle.signals.specs.Refusals.{refusedBy, scanTests}
 use Rattle.controller.specs.Answers.{Reply, words, reading, acceptance, number, replyOf, Response}
-use Rattle.controller.specs.Scan as rules
-use Rattle.controller.specs.Scan.{statusOf, scanCore, controllerAfter, responseFrom, stepped}
+use Rattle.controller.specs.Scan.{statusOf, controllerAfter, responseFrom, stepped}
 use Rattle.controller.specs.Valid.{Valid}
 use Rattle.controller.specs.ValidLaws.{sampled, stepped-valid}
 use Rattle.controller.specs.declared.Answer.{Answer}

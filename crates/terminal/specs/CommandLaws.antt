@@ -1,11 +1,10 @@
 -- Laws of what a line asks, by the steps in which the code reads it.
 use mathlib.Core.Path.{_≡_, refl}
-use mathlib.Core.Bool.{Bool, true, false}
-use mathlib.Core.List.{List, [], _∷_}
-use mathlib.Core.Option.{Option, some, none}
-use Prim.Native.Nat.{ℕ, suc, _<_, _≤_}
+use mathlib.Core.Bool.{true, false}
+use mathlib.Core.List.{List}
+use mathlib.Core.Option.{some, none}
+use Prim.Native.Nat.{ℕ, _<_, _≤_}
 use native.Mathlib.Omega.{arith}
-use lib.Dec.{eqb}
 use lib.IntN.{ℤ, pos, natAbs}
 use lib.ListN.{length, drop, getD, drop-of-length-le}
 use lib.Seq.{drop-cons}
@@ -16,7 +15,7 @@ use Rattle.numerals.specs.ParsedValues.{number-told, number-untold, word-told, 
 use Rattle.numerals.specs.declared.ParsedNumber.the-variants as number
 use Rattle.numerals.specs.declared.ParsedWord.the-variants as word
 use Rattle.terminal.specs.Commands.{isWord, valueOf, writing, commandOf}
-use Rattle.terminal.specs.declared.command.Command.the-variants.{Read, Write, NoMnemonic, NoValue}
+use Rattle.terminal.specs.declared.command.Command.the-variants.{Read, NoValue}
 
 -- ---- values
 

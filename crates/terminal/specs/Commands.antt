@@ -1,11 +1,11 @@
 -- Document 02, request 4: "A line is a mnemonic from document 01's table .. and perhaps, after the sign >, a value".
-use mathlib.Core.Bool.{Bool, true, false, _&&_}
+use mathlib.Core.Bool.{Bool, _&&_}
 use mathlib.Core.List.{List, [], _∷_}
 use mathlib.Core.Option.{Option, some, none}
 use Prim.Native.Nat.{ℕ}
 use lib.Dec.{eqb, leb}
 use lib.IntN.{ℤ, pos}
-use lib.ListN.{drop, getD}
+use lib.ListN.{drop}
 use Rattle.integers.specs.Choice.{if_then_else_}
 use Rattle.numerals.specs.Numerals.{integerOf, wordOf}
 use Rattle.terminal.specs.Mnemonics.{named}

@@ -1,14 +1,14 @@
 -- Laws of the mnemonics: the table as the code has it, the search in it, and that each names its own number.
 use mathlib.Core.Path.{_≡_, refl, sym, ap, _∙_}
-use mathlib.Core.Bool.{Bool, true, false, _&&_}
-use mathlib.Core.List.{List, [], _∷_, _++_}
+use mathlib.Core.Bool.{Bool, true, false}
+use mathlib.Core.List.{List, [], _∷_}
 use mathlib.Core.Option.{Option, some, none}
 use Prim.Native.Nat.{ℕ, zero, suc, _+_, _-_, _*_, _≤_, _<_}
 use native.Mathlib.Omega.{arith}
-use lib.Dec.{eqb, ltb}
+use lib.Dec.{ltb}
 use lib.ListN.{length, take, drop, getD}
 use lib.Seq.{drop-cons}
-use borrow.Author.Tests.{eqb-true, le-ltb, lt-ltb, ltb-false}
+use borrow.Author.Tests.{eqb-true, le-ltb, ltb-false}
 use Rattle.integers.specs.Choice.{if_then_else_, both}
 use Rattle.integers.specs.Listed.{listed, listed-same}
 use Rattle.terminal.specs.Mnemonics.{mnemonics, mnemonic, isOf, numbered, named, numberOr}

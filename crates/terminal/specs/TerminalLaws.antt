@@ -1,17 +1,17 @@
 -- Laws of what comes of a line: a read of a named parameter, the length of a reply, a write's verdict; the next
 -- controller is valid.
 use mathlib.Core.Path.{_≡_, refl, sym, ap, subst, _∙_}
-use mathlib.Core.Bool.{Bool, true, false}
+use mathlib.Core.Bool.{true, false}
 use mathlib.Core.List.{List, [], _∷_, _++_}
 use mathlib.Core.Option.{Option, some, none}
-use Prim.Native.Nat.{ℕ, _+_, _/_, _≤_, _<_}
+use Prim.Native.Nat.{ℕ, _+_, _≤_}
 use native.Mathlib.Omega.{arith}
 use lib.Dec.{eqb, leb, ltb}
 use lib.IntN.{ℤ, pos, natAbs}
 use native.Mathlib.Nat.{zero-add}
 use lib.ListN.{length, drop, getD, length-append}
 use borrow.Author.Tests.{eqb-true, eqb-false, leb-true}
-use Rattle.integers.specs.Choice.{if_then_else_, by-cases, both, never}
+use Rattle.integers.specs.Choice.{by-cases, both, never}
 use Rattle.integers.specs.Listed.{listed, listed-same}
 use Rattle.numerals.specs.DigitLaws.{digits-length}
 use Rattle.numerals.specs.Numerals.{decimal, hexadecimalWord}
@@ -25,15 +25,15 @@ use Rattle.parameters.specs.Table.{ruleOf, isFrom}
 use Rattle.outputs.specs.Instruction.{executed, changed, limitedTo}
 use Rattle.outputs.specs.OutputLaws.{OutputRange, stored-most}
 use Rattle.controller.specs.Answers.{reading, acceptance, number, replyBy, opOf}
-use Rattle.controller.specs.Read.{valueIn, readBy, readIn, read}
-use Rattle.controller.specs.Scan.{responseFrom, refused, withOutput, controllerAfter, Outcome}
+use Rattle.controller.specs.Read.{valueIn, readIn, read}
+use Rattle.controller.specs.Scan.{responseFrom, refused, controllerAfter}
 use Rattle.controller.specs.Valid.{Valid}
 use Rattle.controller.specs.Write.{writeTests, writeAccepted, writeCore, write}
 use Rattle.controller.specs.WriteLaws.{valid-write}
 use Rattle.controller.specs.declared.Controller.{Controller}
 use Rattle.terminal.specs.Commands.{isWord, valueOf, writing, commandOf, commandBy, commandIn}
 use Rattle.terminal.specs.MnemonicLaws.{named-range}
-use Rattle.terminal.specs.Mnemonics.{mnemonics, mnemonic, named}
+use Rattle.terminal.specs.Mnemonics.{mnemonic, named}
 use Rattle.terminal.specs.Terminal.{valueText, replyText, presentValue, replied, wroteOr, answeredTo, answered, refusedLine}
 use Rattle.terminal.specs.Terminal.{LineOutcome}
 use Rattle.terminal.specs.declared.command.Command.{Command}

@@ -3,7 +3,7 @@ ghost use mathlib.Core.Path.{_≡_};
 ghost use Prim.Native.Nat.{_≤_};
 ghost use lib.ListN.{length};
 ghost use Rattle.controller.specs.Valid.{Valid};
-ghost use Rattle.terminal.specs.Terminal.{refusedLine, replied, outcomeOf, answeredTo, answered};
+ghost use Rattle.terminal.specs.Terminal.{replied, outcomeOf, answeredTo, answered};
 ghost use Rattle.terminal.specs.declared.LineAnswer.the-variants.{Refused};
 ghost use Rattle.terminal.specs.declared.command.Command.the-variants.{Read, Write};
 use command::Command;

@@ -1,27 +1,21 @@
 -- What the rules take a line for is what its bytes ask.
-use mathlib.Core.Logic.{_⊎_, inl, inr}
+use mathlib.Core.Logic.{inl, inr}
 use mathlib.Core.Path.{_≡_, refl, sym, ap, subst, _∙_}
-use mathlib.Core.Bool.{Bool, true, false, _&&_, cond}
-use mathlib.Core.List.{List, [], _∷_, _++_, append-nil}
+use mathlib.Core.Bool.{Bool, true, false, _&&_}
+use mathlib.Core.List.{List, _∷_}
 use mathlib.Core.Option.{Option, some, none}
-use Prim.Native.Nat.{ℕ, _+_, _-_, _*_, _^_, _≤_, _<_}
+use Prim.Native.Nat.{ℕ, _-_}
 use native.Mathlib.Omega.{arith}
-use lib.Dec.{eqb, leb, ltb}
-use lib.IntN.{ℤ, pos, negℤ}
-use lib.ListN.{length, take, drop, getD, take-append-drop}
-use borrow.Author.Tests.{eqb-true, eq-eqb, ne-eqb, leb-true, leb-false, le-leb, lt-leb, lt-ltb, ltb-true}
-use Rattle.integers.specs.Choice.{if_then_else_, by-cases, both}
-use Rattle.integers.specs.Listed.{listed, listed-same}
-use Rattle.integers.specs.Sign.{fromSign}
-use Rattle.numerals.specs.Numerals.{readOn, digitsOf, withSign, integerOf, wordOf}
+use lib.Dec.{eqb, leb}
+use lib.IntN.{ℤ, pos}
+use lib.ListN.{length, drop}
+use borrow.Author.Tests.{eqb-true, eq-eqb, leb-true, leb-false, le-leb, lt-leb, lt-ltb}
+use Rattle.integers.specs.Choice.{if_then_else_, both}
+use Rattle.numerals.specs.Numerals.{digitsOf, withSign, integerOf, wordOf}
 use Rattle.numerals.specs.PlaceValue.{Number, number-read, read-number}
 use Rattle.numerals.specs.Reading.{some-of}
 use Rattle.numerals.specs.Shortest.{natural-some, not-minus, integer-some, headed}
-use Rattle.terminal.specs.Commands.{isWord, unsigned, valueOf, writing, commandOf, commandBy, commandIn}
-use Rattle.terminal.specs.MnemonicLaws.{begins-with, names, named-range}
-use Rattle.terminal.specs.Mnemonics.{mnemonic, named}
-use Rattle.terminal.specs.declared.command.Command.{Command}
-use Rattle.terminal.specs.declared.command.Command.the-variants.{Read, Write, NoMnemonic, NoValue}
+use Rattle.terminal.specs.Commands.{isWord, unsigned, valueOf}
 use Rattle.terminal_guarantee.specs.Forms.{IsWord, IsDecimal, Few, Value, word, plain, minus}
 
 -- two things that can't both be

@@ -1,7 +1,7 @@
 -- Every line does what its bytes ask, and is refused in the order of the request.
 use mathlib.Core.Path.{_≡_, refl, sym, ap, subst, _∙_}
 use mathlib.Core.Bool.{Bool, true, false}
-use mathlib.Core.List.{List, [], _∷_, _++_}
+use mathlib.Core.List.{List, _∷_, _++_}
 use mathlib.Core.Option.{Option, some, none}
 use Prim.Native.Nat.{ℕ, _+_, _*_, _/_, _%_, _≤_, _<_}
 use native.Mathlib.Omega.{arith}
@@ -28,7 +28,7 @@ use Rattle.controller.specs.declared.Controller.{Controller}
 use Rattle.controller.specs.declared.ReadAnswer.{ReadAnswer}
 use Rattle.controller.specs.declared.ReadAnswer.the-variants as read
 use Rattle.terminal.specs.Commands.{isWord, valueOf, commandIn}
-use Rattle.terminal.specs.Terminal.{valueText, replyText, presentValue, LineOutcome, LineReply, reply, number, refusedLine, replied}
+use Rattle.terminal.specs.Terminal.{valueText, replyText, presentValue, LineOutcome, reply, number, refusedLine, replied}
 use Rattle.terminal.specs.Terminal.{wroteOr}
 use Rattle.terminal.specs.Terminal.{answeredTo, answered, outcomeOf, replyOfLine}
 use Rattle.terminal.specs.TerminalLaws.{read-named, value-few, word-value, write-answer}

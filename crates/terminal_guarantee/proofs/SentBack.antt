@@ -1,19 +1,19 @@
 -- A parameter's decimal reply, sent back as a line, is answered the same and changes nothing.
 use mathlib.Core.Logic.{inl}
 use mathlib.Core.Path.{_≡_, refl, sym, ap, _∙_}
-use mathlib.Core.Bool.{Bool, true, false}
-use mathlib.Core.List.{List, [], _∷_, _++_}
+use mathlib.Core.Bool.{true, false}
+use mathlib.Core.List.{List, _++_}
 use mathlib.Core.Option.{Option, some, none}
-use Prim.Native.Nat.{ℕ, _≤_, _<_}
+use Prim.Native.Nat.{ℕ, _≤_}
 use native.Mathlib.Omega.{arith}
-use lib.Dec.{eqb, leb, ltb}
-use lib.IntN.{ℤ, natAbs}
+use lib.Dec.{eqb}
+use lib.IntN.{ℤ}
 use lib.ListN.{length, take, drop}
 use lib.Seq.{take-append-seam, drop-append-seam}
 use denote.Ref.{now}
 use borrow.Author.Tests.{eqb-true, eq-eqb, le-leb, le-ltb}
 use Rattle.integers.specs.Choice.{if_then_else_, by-cases}
-use Rattle.numerals.specs.Numerals.{decimal, integerOf}
+use Rattle.numerals.specs.Numerals.{decimal}
 use Rattle.numerals.specs.Shortest.{decimal-shortest}
 use Rattle.signals.specs.Refusals.{numberOf, refusedBy}
 use Rattle.modes.specs.declared.Mode.{Mode}
@@ -29,7 +29,7 @@ use Rattle.promises.specs.RefusalCauses.{setpointRefused}
 use Rattle.terminal.specs.Commands.{valueOf, commandIn}
 use Rattle.terminal.specs.MnemonicLaws.{names}
 use Rattle.terminal.specs.Mnemonics.{named}
-use Rattle.terminal.specs.Terminal.{valueText, replyText, presentValue, LineOutcome, LineReply, reply, number, refusedLine, replied}
+use Rattle.terminal.specs.Terminal.{valueText, replyText, presentValue, LineOutcome, reply, number, refusedLine, replied}
 use Rattle.terminal.specs.Terminal.{wroteOr}
 use Rattle.terminal.specs.Terminal.{answeredTo, answered, outcomeOf, replyOfLine}
 use Rattle.terminal.specs.TerminalLaws.{value-few}
@@ -38,8 +38,8 @@ use Rattle.terminal.specs.declared.command.Command.{Command}
 use Rattle.terminal.specs.declared.command.Command.the-variants.{Read, Write, NoMnemonic, NoValue}
 use Rattle.terminal_guarantee.specs.Forms.{letters, InTable, Asked, a-read, a-write, Asks, reads, writes}
 use Rattle.terminal_guarantee.specs.Lines.{RefusedWith}
-use Rattle.terminal_guarantee.specs.SentBack.{SameAgain, SendingBack, ReplySentBack}
-use Rattle.terminal_guarantee.specs.Visits.{Visited, typed}
+use Rattle.terminal_guarantee.specs.SentBack.{ReplySentBack}
+use Rattle.terminal_guarantee.specs.Visits.{typed}
 use Rattle.terminal_guarantee.proofs.Forms.{apart, decimal-is, value-form}
 use Rattle.terminal_guarantee.proofs.Lines.{is-reply, refused-right, by-room}
 use Rattle.terminal_guarantee.proofs.Meaning.{letters-are, asked-command, Meaning, names-none, asks-nothing, asks-read}

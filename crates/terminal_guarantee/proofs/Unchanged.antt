@@ -1,25 +1,23 @@
 -- A parameter that is written with the value that it has leaves everything as it was.
 use mathlib.Core.Path.{_≡_, refl, sym, ap, subst, _∙_}
-use mathlib.Core.Bool.{Bool, true, false, not, _&&_, _||_}
-use mathlib.Core.List.{List, [], _∷_, _++_}
+use mathlib.Core.Bool.{Bool, true, false, _&&_, _||_}
+use mathlib.Core.List.{List, [], _∷_}
 use mathlib.Core.Option.{Option, some, none}
 use Prim.Native.Nat.{ℕ, _≤_}
 use native.Mathlib.Omega.{arith}
 use lib.Dec.{eqb}
-use lib.IntN.{ℤ, pos, _*ℤ_}
+use lib.IntN.{ℤ, pos}
 use lib.ListN.{set}
 use lib.Seq.{set-getD}
 use lib.Signed.{_≤ℤ_}
-use borrow.Author.Tests.{eqb-true, ne-eqb}
+use borrow.Author.Tests.{ne-eqb}
 use Rattle.integers.specs.Choice.{if_then_else_, by-cases, both}
-use Rattle.integers.specs.Limit.{limited, limited-same}
+use Rattle.integers.specs.Limit.{limited-same}
 use Rattle.integers.specs.Listed.{listed, listed-same}
 use Rattle.signals.specs.Refusals.{refusedBy}
-use Rattle.signals.specs.Signals.{switchesOf}
-use Rattle.modes.specs.Modes.{setsSetpoint}
 use Rattle.modes.specs.declared.Mode.{Mode}
 use Rattle.modes.specs.declared.Mode.the-variants.{Hold, Track, Forced, Manual, Auto, Remote, Ratio, Fallback}
-use Rattle.parameters.specs.Legal.{Legal, unknownRefusal, readOnlyRefusal, inRange, pairInOrder}
+use Rattle.parameters.specs.Legal.{Legal, readOnlyRefusal, inRange}
 use Rattle.parameters.specs.LegalLaws.{ranges}
 use Rattle.parameters.specs.Table.{value, withValue, ruleOf, isFrom}
 use Rattle.parameters.specs.Written.{limitedAnew, written}

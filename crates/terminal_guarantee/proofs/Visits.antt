@@ -1,23 +1,15 @@
 -- A list with lines leads where the same list without them leads, each line that writes being that write.
 use mathlib.Core.Path.{_≡_, refl, sym, ap, subst, _∙_}
 use mathlib.Core.List.{List, []}
-use mathlib.Core.Option.{Option, some}
-use mathlib.Core.Option as option
-use Prim.Native.Nat.{ℕ, _≤_, _<_}
-use native.Mathlib.Omega.{arith}
+use Prim.Native.Nat.{ℕ, _<_}
 use lib.IntN.{ℤ}
 use lib.ListN.{length, take}
 use denote.Ref.{now}
-use Rattle.signals.specs.Refusals.{numberOf, refusedBy}
-use Rattle.signals.specs.declared.Refusal.{Refusal}
-use Rattle.controller.specs.Answers as answers
-use Rattle.controller.specs.Answers.{Response, responseOfVerdict}
-use Rattle.controller.specs.Valid.{Valid}
-use Rattle.controller.specs.Write as writes
+use Rattle.controller.specs.Answers.{Response}
 use Rattle.controller.specs.declared.CallResult.{CallResult}
 use Rattle.controller.specs.declared.Controller.{Controller}
 use Rattle.guarantee.specs.Exact as calls
-use Rattle.guarantee.specs.Exact.{Calls, scan, write, restart}
+use Rattle.guarantee.specs.Exact.{Calls, write}
 use Rattle.guarantee.specs.Linked as linked
 use Rattle.guarantee.specs.Linked.{Linked, WriteEnsures}
 use Rattle.guarantee.proofs.Existence.{write-exists}
@@ -27,8 +19,8 @@ use Rattle.terminal.specs.declared.LineResult.{LineResult}
 use Rattle.terminal_guarantee.specs.Forms.{letters, InTable, a-read, a-write, Asks, writes}
 use Rattle.terminal_guarantee.specs.Lines.{Written, refused-write, accepted-write, LineClaim, no-mnemonic, no-value, short-buffer}
 use Rattle.terminal_guarantee.specs.Lines.{a-reading, a-writing}
-use Rattle.terminal_guarantee.specs.Visits.{Events, none, _then_, call, line, Visited, started, scanned, wrote, restarted, typed}
-use Rattle.terminal_guarantee.specs.Visits.{Turned, nothing, a-call, a-write-of, no-call, VisitClaim, LinesAreWrites}
+use Rattle.terminal_guarantee.specs.Visits.{Events, none, _then_, line, Visited, started, scanned, wrote, restarted, typed}
+use Rattle.terminal_guarantee.specs.Visits.{Turned, nothing, a-call, a-write-of, no-call, LinesAreWrites}
 use Rattle.terminal_guarantee.proofs.Forms.{apart}
 use Rattle.terminal_guarantee.proofs.Lines.{lines-right}
 use Rattle.terminal_guarantee.proofs.Meaning.{one-meaning}

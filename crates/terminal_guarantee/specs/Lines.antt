@@ -3,7 +3,7 @@
 -- valid controller is, and the paper's numbers for the answers of a read and a write, whose refusals are promised by
 -- themselves (promises). What a line asks and how a value is displayed are told apart from the rules (Forms.antt).
 use mathlib.Core.Path.{_≡_}
-use mathlib.Core.List.{List, [], _∷_, _++_}
+use mathlib.Core.List.{List, _∷_, _++_}
 use Prim.Native.Nat.{ℕ, _%_, _≤_, _<_}
 use lib.IntN.{ℤ, pos}
 use lib.ListN.{length, take, drop}

@@ -1,5 +1,4 @@
 -- Lines among the calls: what is promised of every list of scans, writes and restarts is promised of lists with lines.
-use mathlib.Core.Path.{_≡_}
 use mathlib.Core.List.{List}
 use Prim.Native.Nat.{ℕ, _≤_, _<_}
 use lib.IntN.{ℤ}

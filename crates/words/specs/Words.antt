@@ -1,5 +1,5 @@
 -- Document 01, "Words (004, 4.3.5, 4.3.6)": MD and DS, bit by bit.
-use mathlib.Core.Bool.{Bool, true, false, not}
+use mathlib.Core.Bool.{Bool, false, not}
 use mathlib.Core.List.{[], _∷_}
 use Prim.Native.Nat.{ℕ, _+_, _*_}
 use lib.Dec.{eqb}

@@ -14,7 +14,6 @@ use Rattle.signals.specs.Refusals.{refusedBy, scanTests}
 use Rattle.signals.specs.Signals.{buttonsOf, pinsOf, switchesOf, adjustmentOf}
 use Rattle.fields.specs.Fields as f
 use Rattle.modes.specs.Modes as m
-use Rattle.modes.specs.declared.Mode.the-variants.{Auto}
 use Rattle.modes.specs.Modes.{counted, openCountAfter}
 use Rattle.words.specs.Words.{byteOf, mdHigh, mdLow, MD, dsLow, DS}
 use Rattle.words.specs.Written.{mdTests}
@@ -32,7 +31,7 @@ use Rattle.outputs.specs.History as h
 use Rattle.outputs.specs.Instruction as o
 use Rattle.outputs.specs.Outputs as u
 use Rattle.controller.specs.Answers as a
-use Rattle.controller.specs.Answers.{words, number}
+use Rattle.controller.specs.Answers.{number}
 use Rattle.controller.specs.Save as c
 use Rattle.controller.specs.Save.{savedImage}
 use Rattle.controller.specs.Scan as s

@@ -1,10 +1,8 @@
 -- `controller::start_readings` meets its contract.
 use mir.Syntax.{w64}
-use mir.Syntax.{w64}
 use borrow.Author.Needs.{needs}
 use Rattle.integers.specs.Machine.{back}
 use Rattle.controller.specs.State.{startReadings}
-use Rattle.integers.specs.Machine.{back}
 use Rattle.setpoints.specs.ComputationLaws.{reading-small, low-reading, setpoint-small}
 use Rattle.controller.proofs.start_readings.Statement.{statement}
 use Rattle.controller.proofs.start_readings.Tie as tie

@@ -1,5 +1,5 @@
 -- `handheld::line_answer` meets its contract.
-use mathlib.Core.Path.{_≡_, sym, ap, _∙_}
+use mathlib.Core.Path.{ap, _∙_}
 use native.Mathlib.Nat.{sub-zero}
 use native.Mathlib.Omega.{arith}
 use Prim.Native.Nat.{_≤_}
@@ -8,7 +8,7 @@ use Rattle.formatting.specs.Buffer.{buffer, appendAll}
 use Rattle.lines.specs.Lines.{startOf}
 use Rattle.lines.specs.LinesLaws.{start-most}
 use Rattle.terminal.specs.Terminal.{LineOutcome}
-use Rattle.handheld.specs.Answers.{lineOutcome, answerLine}
+use Rattle.handheld.specs.Answers.{answerLine}
 use Rattle.handheld.specs.AnswerLaws.{answer-fits}
 use Rattle.handheld.specs.PlantLaws.{valid-typed}
 use borrow.Author.Needs.{needs}

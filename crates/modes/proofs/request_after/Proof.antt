@@ -1,6 +1,5 @@
 -- `modes::request_after` meets its contract.
 use borrow.Author.Needs.{needs}
-use Rattle.modes.specs.Modes.{requestAfter}
 use Rattle.modes.proofs.request_after.Statement.{statement}
 use Rattle.modes.proofs.request_after.Tie as tie
 

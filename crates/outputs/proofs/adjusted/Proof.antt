@@ -2,13 +2,10 @@
 use native.Mathlib.Omega.{arith}
 use mir.Facts.{toZ-ofZ}
 use mir.Syntax.{w64}
-use mir.Facts.{toZ-ofZ}
-use mir.Syntax.{w64}
 use borrow.Author.Needs.{needs}
 use Rattle.terms.specs.Fraction.{storedUnits}
 use Rattle.outputs.specs.OutputLaws.{stored-small}
 use Rattle.outputs.specs.Instruction.{changed, storedArithmetic}
-use Rattle.integers.specs.Machine.{back}
 use Rattle.integers.specs.Machine.{back}
 use Rattle.outputs.proofs.adjusted.Statement.{statement}
 use Rattle.outputs.proofs.adjusted.Tie as tie

@@ -4,11 +4,9 @@ use Prim.Native.Nat.{ℕ}
 use lib.Dec.{eqb}
 use lib.IntN.{natAbs}
 use mir.Syntax.{w64}
-use mir.Syntax.{w64}
 use borrow.Author.Needs.{needs}
 use Rattle.scaling.specs.Root.{root-most}
 use Rattle.parameters.specs.Table.{IC}
-use Rattle.integers.specs.Machine.{back}
 use Rattle.integers.specs.Machine.{back}
 use Rattle.setpoints.specs.Setpoints.{firstSample}
 use Rattle.setpoints.proofs.first_sample.Statement.{statement}

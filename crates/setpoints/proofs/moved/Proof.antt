@@ -1,10 +1,7 @@
 -- `setpoints::moved` meets its contract.
 use mir.Facts.{toZ-ofZ}
 use mir.Syntax.{w64}
-use mir.Facts.{toZ-ofZ}
-use mir.Syntax.{w64}
 use borrow.Author.Needs.{needs}
-use Rattle.integers.specs.Machine.{back}
 use Rattle.integers.specs.Machine.{back}
 use Rattle.setpoints.proofs.moved.Statement.{statement}
 use Rattle.setpoints.proofs.moved.Tie as tie

@@ -2,13 +2,7 @@
 use mathlib.Core.Path.{sym, _∙_}
 use mir.Facts.{toZ-ofZ}
 use mir.Syntax.{w64}
-use mir.Facts.{toZ-ofZ}
-use mir.Syntax.{w64}
-use mir.Facts.{toZ-ofZ}
-use mir.Syntax.{w64}
 use borrow.Author.Needs.{needs}
-use Rattle.integers.specs.Machine.{back}
-use Rattle.integers.specs.Machine.{back}
 use Rattle.integers.specs.Machine.{back}
 use Rattle.setpoints.specs.Setpoints.{setpointIn}
 use Rattle.setpoints.proofs.setpoint_in.Statement.{statement}

@@ -1,5 +1,5 @@
 -- `terminal::answer` meets its contract.
-use mathlib.Core.Path.{_≡_, refl, sym, ap, _∙_}
+use mathlib.Core.Path.{refl, sym, ap, _∙_}
 use mir.Syntax.{w32}
 use Rattle.integers.specs.Machine.{back}
 use Rattle.terminal.specs.Terminal.{answered, answeredTo}

@@ -1,5 +1,4 @@
 -- `terminal::read` meets its contract.
-use mathlib.Core.Path.{_≡_, sym, ap, _∙_}
 use borrow.Author.Tests.{lt-ltb, le-ltb}
 use Rattle.terminal.specs.Terminal.{answeredTo}
 use borrow.Author.Needs.{needs}

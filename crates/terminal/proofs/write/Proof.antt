@@ -1,11 +1,11 @@
 -- `terminal::write` meets its contract.
-use mathlib.Core.Path.{_≡_, refl, sym, ap, _∙_}
+use mathlib.Core.Path.{refl, sym, ap, _∙_}
 use mir.Facts.{toZ-ofZ}
 use borrow.Author.Tests.{lt-ltb, le-ltb}
 use Rattle.controller.specs.Answers.{Response, replyOfVerdict}
 use Rattle.controller.specs.Valid.{Valid}
 use Rattle.controller.specs.WriteLaws.{valid-write}
-use Rattle.terminal.specs.Terminal.{wroteOr, answeredTo}
+use Rattle.terminal.specs.Terminal.{answeredTo}
 use Rattle.terminal.specs.TerminalLaws.{write-accepted, write-refused}
 use borrow.Author.Needs.{needs}
 use Rattle.terminal.proofs.write.Statement.{statement}

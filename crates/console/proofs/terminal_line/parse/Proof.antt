@@ -1,6 +1,5 @@
 -- `console::terminal_line::parse` meets its contract.
-use mathlib.Core.Path.{_≡_, refl, sym, ap, _∙_}
-use Rattle.console.specs.Commands.{terminalBytes, terminalOf, terminalCommand}
+use Rattle.console.specs.Commands.{terminalBytes, terminalCommand}
 use borrow.Author.Needs.{needs}
 use Rattle.console.proofs.terminal_line.parse.Statement.{statement}
 use Rattle.console.proofs.terminal_line.parse.Tie as tie

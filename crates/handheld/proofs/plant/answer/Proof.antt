@@ -1,6 +1,6 @@
 -- `handheld::plant::answer` meets its contract.
-use mathlib.Core.Path.{_≡_, refl, sym, ap, _∙_}
-use Rattle.handheld.specs.Plant.{pinsIn, outcomeOfLine, outcomeFor}
+use mathlib.Core.Path.{sym, ap, _∙_}
+use Rattle.handheld.specs.Plant.{outcomeOfLine, outcomeFor}
 use Rattle.handheld.specs.declared.plant.PlantLine.{PlantLine}
 use borrow.Author.Needs.{needs}
 use Rattle.handheld.proofs.plant.answer.Statement.{statement}

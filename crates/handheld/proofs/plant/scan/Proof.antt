@@ -1,5 +1,5 @@
 -- `handheld::plant::scan` meets its contract.
-use mathlib.Core.Path.{_≡_, refl, sym, ap, _∙_}
+use mathlib.Core.Path.{_≡_, sym, ap, _∙_}
 use Rattle.signals.specs.declared.clock.ClockReading.{ClockReading}
 use Rattle.controller.specs.Answers.{Reply, Response, replyOf, responseOf}
 use Rattle.controller.specs.Scan.{scan}

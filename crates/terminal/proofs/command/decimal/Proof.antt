@@ -1,5 +1,5 @@
 -- `terminal::command::decimal` meets its contract. Five digits fit 32 bits.
-use mathlib.Core.Path.{_≡_, refl, sym, ap, _∙_}
+use mathlib.Core.Path.{_≡_, sym, ap, _∙_}
 use Prim.Native.Nat.{_<_}
 use native.Mathlib.Omega.{arith}
 use mathlib.Core.Option.{some}

@@ -1,5 +1,5 @@
 -- `terminal::command::word` meets its contract.
-use mathlib.Core.Path.{refl, sym, ap, _∙_}
+use mathlib.Core.Path.{sym, ap, _∙_}
 use mir.Syntax.{w32}
 use borrow.Author.Needs.{needs}
 use Rattle.integers.specs.Machine.{cast-back}

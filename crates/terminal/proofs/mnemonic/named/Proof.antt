@@ -1,15 +1,13 @@
 -- `terminal::mnemonic::named` meets its contract. No mnemonic before the number has the two bytes, so the search of
 -- those from the number on finds what the search of all of them finds.
-use mathlib.Core.Path.{_≡_, refl, sym, ap, _∙_}
-use mathlib.Core.List.{List, []}
-use mathlib.Core.Option.{Option, some, none}
-use Prim.Native.Nat.{ℕ, _+_, _-_, _≤_}
+use mathlib.Core.Path.{_≡_, sym, ap, _∙_}
+use Prim.Native.Nat.{_+_, _-_, _≤_}
 use native.Mathlib.Numerals.{add-one}
 use native.Mathlib.Omega.{arith}
 use lib.ListN.{length, drop, getD}
 use borrow.Author.Needs.{needs}
-use borrow.Author.Tests.{lt-ltb, le-ltb}
-use Rattle.terminal.specs.Mnemonics.{mnemonics, mnemonic, numbered, named, numberOr}
+use borrow.Author.Tests.{lt-ltb}
+use Rattle.terminal.specs.Mnemonics.{mnemonics, numbered, named, numberOr}
 use Rattle.terminal.specs.MnemonicLaws.{search-found, search-on, search-ends, search-begins}
 use Rattle.terminal.proofs.mnemonic.named.Statement.{statement}
 use Rattle.terminal.proofs.mnemonic.named.Tie as tie
