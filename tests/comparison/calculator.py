@@ -5,7 +5,8 @@ Usage: python3 -B -m tests.comparison.calculator [--seed N] PROGRAM
 The program reads one call a line and writes one answer line for each: a
 number, or "error" for a line that is no call or has a number out of range.
 The last line printed is "N passed, M failed", one count for each comparison.
-As failed counts also each kind of call of which too few were found, and a
+As failed counts also each kind of call of which too few were found, among them
+every exact half of a ratio's quotients within some areas of q and s, and a
 program that doesn't end with status 0.
 """
 
@@ -17,24 +18,26 @@ import subprocess
 import sys
 
 from tests.lists import calculator as calculator_calls
+from tests.lists import exact_halves
 from tests.lists.calculator import RANGES, expected_answer, is_legal, line_of
 
 DEFAULT_SEED = 6360
 RANDOM_CALLS_A_WORD = 5500
-LEAST_PASSED = 20000
+LEAST_PASSED = 100000
 DIFFERENCES_PRINTED = 10
 PROGRAM_SECONDS = 300
 FAR = 999999999
 
-# Document 01, "Worked by hand".  The last four are ties, 39,062.5 and
-# 117,187.5 steps, worked by hand for our decision on the exact half.
+# Document 01, "Worked by hand", the ratios by document 02, request 5.  The last
+# four are ties, 39,062.5 and 117,187.5 steps, worked by hand for our decision on
+# a term's exact half.
 BY_HAND = (
     ("proportional 1000 1000 1", "655360"),
     ("integral 1000 1000 10 0 1", "23593"),
     ("derivative 1000 1000 10 0 0 1", "-18204444"),
     ("derivative 1000 1000 10 0 0 100", "-655360000"),
     ("scale 0 1 4999", "0"), ("scale 0 1 5000", "1"),
-    ("ratio 101 200", "51"), ("ratio -101 200", "-51"), ("inverse 5 150", "8"),
+    ("ratio 101 200", "50"), ("ratio 103 200", "52"), ("ratio -101 200", "-50"), ("inverse 5 150", "8"),
     ("proportional 4096 4096 1", "39062"), ("proportional 4096 4096 -1", "-39062"),
     ("proportional 4096 4096 3", "117188"), ("proportional 4096 4096 -3", "-117188"),
 )
@@ -157,9 +160,20 @@ def check_model():
             raise ValueError("the model is wrong at " + line)
 
 
+def every_half():
+    """For each quotient of a ratio and each kind of half: its name, every call
+    of it, and how many there are, counted by trying every q with every s."""
+    for word, areas in exact_halves.CALCULATOR_AREAS.items():
+        calls = {kind: [] for kind in calculator_calls.TIES}
+        for arguments in sorted(exact_halves.listed(word, areas)):
+            calls[calculator_calls.tie_kind(word, arguments)].append((word, arguments))
+        counts = exact_halves.kinds_tried(word, areas)
+        yield from ((f"{word}, every {kind}", found, counts[kind]) for kind, found in calls.items())
+
+
 def all_comparisons(generator):
-    """Pairs of a line and its expected answer, in random order; and how many
-    different calls of each hard kind are among them."""
+    """Pairs of a line and its expected answer, in random order; and for each
+    hard kind how many different calls of it are among them, and must be."""
     asked = [*corner_calls(), *random_calls(generator),
              *(("root", (sample,)) for sample in range(10001)),
              *((word, (*settings, sign * moving))
@@ -167,7 +181,10 @@ def all_comparisons(generator):
     kinds = {}
     for kind, found in calculator_calls.hard_calls(generator):
         asked += found
-        kinds[kind] = len(found)
+        kinds[kind] = len(found), calculator_calls.LEAST_OF_A_KIND
+    for kind, found, least in every_half():
+        asked += found
+        kinds[kind] = len(found), max(least, calculator_calls.LEAST_OF_A_KIND)
     comparisons = [*BY_HAND, *OTHER_FORMS, *((line_of(*call), expected_answer(*call)) for call in asked)]
     comparisons += [(line_of(*call, blanks), expected_answer(*call))
                     for call in generator.sample(asked, 200) for blanks in ("  ", "     ")]
@@ -226,9 +243,8 @@ def print_counts(seed, comparisons, kinds):
         print(f"{words[word]:6} {word}")
     errors = sum(expected == "error" for _, expected in comparisons)
     print(f"{errors:6} lines to be answered error")
-    for kind, count in kinds.items():
-        short = "" if count >= calculator_calls.LEAST_OF_A_KIND else "   TOO FEW"
-        print(f"{count:6} {kind}{short}")
+    for kind, (count, least) in kinds.items():
+        print(f"{count:6} {kind}{'' if count >= least else '   TOO FEW'}")
 
 
 def main():
@@ -244,7 +260,7 @@ def main():
     different = list(differences(comparisons, answers))
     for line, answer, expected in different[:DIFFERENCES_PRINTED]:
         print(f"call {line!r}: answer {answer!r}, expected {expected!r}")
-    too_few = sum(count < calculator_calls.LEAST_OF_A_KIND for count in kinds.values())
+    too_few = sum(count < least for count, least in kinds.values())
     wrong_inputs = wrong_whole_inputs(given.program)
     passed = max(len(comparisons), len(answers)) - len(different) + len(WHOLE_INPUTS) - wrong_inputs
     failed = len(different) + too_few + wrong_inputs + (not ended_well)

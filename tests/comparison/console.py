@@ -22,6 +22,7 @@ from tests.coverage.coverage import print_counts
 from tests.coverage.images import ImageCoverage
 from tests.coverage.parameters import ParameterCoverage
 from tests.coverage.power_cuts import PowerCutCoverage
+from tests.coverage.ratio_halves import RatioHalfCoverage
 from tests.coverage.roots import RootCoverage
 from tests.coverage.scans import ScanCoverage
 from tests.coverage.sheets import SheetCoverage
@@ -33,6 +34,7 @@ from tests.lists import clock as clock_lists
 from tests.lists import power_cuts
 from tests.lists import images as image_lists
 from tests.lists import parameters as parameter_lists
+from tests.lists import ratio_halves
 from tests.lists import restarts as restart_lists
 from tests.lists import roots as root_lists
 from tests.lists import scans as scan_lists
@@ -46,10 +48,11 @@ from tests.model.pair import Pair, answers_of
 DEFAULT_SEED = 6360
 INPUTS, AT_ONCE = 4, 2     # the lists are shared out among so many runs of the program, so many of them at once
 COVERAGES = (ScanCoverage, ParameterCoverage, WriteCoverage, ImageCoverage, PowerCutCoverage, SheetCoverage, ClockCoverage,
-             RootCoverage, TerminalCoverage)
+             RootCoverage, TerminalCoverage, RatioHalfCoverage)
 KINDS = ((scan_lists, ScanCoverage), (parameter_lists, ParameterCoverage), (write_lists, WriteCoverage), (image_lists, ImageCoverage),
          (restart_lists, ImageCoverage), (power_cuts, PowerCutCoverage), (sheet_lists, SheetCoverage),
-         (clock_lists, ClockCoverage), (root_lists, RootCoverage), (terminal_lists, TerminalCoverage))
+         (clock_lists, ClockCoverage), (root_lists, RootCoverage), (terminal_lists, TerminalCoverage),
+         (ratio_halves, RatioHalfCoverage))
 FAULTS_PRINTED = 10
 
 

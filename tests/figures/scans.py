@@ -1,4 +1,4 @@
-"""Scans worked by hand: document 01's own figures, and others for each rule.
+"""Scans worked by hand: the figures of documents 01 and 02, and others for each rule.
 
 A case gives the switch word, the parameters and other items written after a fresh start, the calls, and what the last
 call must leave in the controller or answer.  Outputs are in steps of 1/65,536 units.
@@ -48,6 +48,7 @@ def ratio(name, SW, set_before, calls, setpoint):
 OPEN_IN_AUTO = [track(2500), scan(), *[scan(sensors=1)] * 84]
 UP_BY_ONE = [track(5000), track(5000), scan(first=10)]   # PV 0, 0, 1: c - c1 = -1, D = 1
 LIMITS = {"HO": 3000, "LO": 2000}
+BELOW_ZERO = {"channel_2L": -1000, "channel_2H": 0}
 
 CASES = (
     Case("fresh: electrical output with S2.2 ON", S2_2, {}, [scan()],
@@ -137,14 +138,26 @@ CASES = (
     Case("S2.6, open: SL stays", S2_6, {"SL": 5}, [scan(sensors=1, buttons=SP | LOWER)], {"SL": 5}),
     Case("S2.6 in Auto: SL is moved", S2_6, {"SL": 5}, [scan(first=9000, buttons=SP | LOWER | A)], {"SL": 4}),
     Case("Remote: SL isn't moved", 0, {}, [scan(0xA0, 0, 500, 0, R | SP | RAISE)], {"SL": 50, "RS": 100}),
-    # Ratio: "q 101, s 200 gives 51; -101 gives -51; S2.3 ON, q 5, s 150 gives 8"
-    ratio("q 101, s 200", 0, {"RS": 200}, [scan(0xA0, 0, 1010, 0, R)], 51),
-    ratio("q -101, s 200", 0, {"RS": 200, "channel_2L": -1000, "channel_2H": 0}, [scan(0xA0, 0, 8990, 0, R)], -51),
+    # Ratio: "q 101 with s 200 is 50, q 103 is 52, and q -101 is -50"; "S2.3 ON, q 5, s 150 gives 8"; RB is added behind
+    # the rounding: before it, it would make the other neighbour the even one
+    ratio("q 101, s 200", 0, {"RS": 200}, [scan(0xA0, 0, 1010, 0, R)], 50),
+    ratio("q 103, s 200", 0, {"RS": 200}, [scan(0xA0, 0, 1030, 0, R)], 52),
+    ratio("q -101, s 200", 0, {"RS": 200, **BELOW_ZERO}, [scan(0xA0, 0, 8990, 0, R)], -50),
+    ratio("q -103, s 200", 0, {"RS": 200, **BELOW_ZERO}, [scan(0xA0, 0, 8970, 0, R)], -52),
+    ratio("q 1, s 200: one half is 0", 0, {"RS": 200}, [scan(0xA0, 0, 10, 0, R)], 0),
+    ratio("q -1, s 200: minus one half is 0", 0, {"RS": 200, **BELOW_ZERO}, [scan(0xA0, 0, 9990, 0, R)], 0),
     ratio("q 5, s 150, S2.3 ON", S2_3, {"RS": 150}, [scan(0xA0, 0, 50, 0, R)], 8),
-    ratio("RB is added behind the rounding", 0, {"RS": 200, "RB": -100}, [scan(0xA0, 0, 1010, 0, R)], -49),
-    ratio("trim inside s", 0, {"RS": 199}, [scan(0xA0, 0, 1010, 5000, R)], 51),
-    ratio("s limited to HR", 0, {"RS": 200, "HR": 200, "channel_3H": 9000}, [scan(0xA0, 0, 1010, 5000, R)], 51),
-    ratio("s limited to LR", 0, {"RS": 200, "LR": 200, "channel_3L": -9000}, [scan(0xA0, 0, 1010, 0, R)], 51),
+    ratio("q 3, s 150, S2.3 ON", S2_3, {"RS": 150}, [scan(0xA0, 0, 30, 0, R)], 4),
+    ratio("q -5, s 150, S2.3 ON", S2_3, {"RS": 150, **BELOW_ZERO}, [scan(0xA0, 0, 9950, 0, R)], -8),
+    ratio("q -3, s 150, S2.3 ON", S2_3, {"RS": 150, **BELOW_ZERO}, [scan(0xA0, 0, 9970, 0, R)], -4),
+    ratio("RB 1 behind the rounding", 0, {"RS": 200, "RB": 1}, [scan(0xA0, 0, 1010, 0, R)], 51),
+    ratio("RB -1 behind the rounding", 0, {"RS": 200, "RB": -1, **BELOW_ZERO}, [scan(0xA0, 0, 8990, 0, R)], -51),
+    ratio("RB 1 behind the rounding, S2.3 ON", S2_3, {"RS": 150, "RB": 1}, [scan(0xA0, 0, 50, 0, R)], 9),
+    ratio("RB 1 behind the rounding, S2.3 ON, below zero", S2_3, {"RS": 150, "RB": 1, **BELOW_ZERO}, [scan(0xA0, 0, 9970, 0, R)], -3),
+    ratio("channel 2 keeps halves up: 2.5 gives q 3", 0, {}, [scan(0xA0, 0, 25, 0, R)], 3),
+    ratio("trim inside s", 0, {"RS": 199}, [scan(0xA0, 0, 1010, 5000, R)], 50),
+    ratio("s limited to HR", 0, {"RS": 200, "HR": 200, "channel_3H": 9000}, [scan(0xA0, 0, 1010, 5000, R)], 50),
+    ratio("s limited to LR", 0, {"RS": 200, "LR": 200, "channel_3L": -9000}, [scan(0xA0, 0, 1010, 0, R)], 50),
     Case("Ratio: SP and Raise move RS", S2_1, {}, [scan(0xA0, 0, 1120, 0, R | SP | RAISE)], {"RS": 112, "SP": 100, "SL": 100}),
     Case("RS limited to HR", S2_1, {"RS": 9995}, [scan(0xA0, buttons=R | SP | RAISE)], {"RS": 9999}),
     Case("RS limited to LR", S2_1, {"RS": 5}, [scan(0xA0, buttons=R | SP | LOWER)], {"RS": 1}),

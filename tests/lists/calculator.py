@@ -93,11 +93,9 @@ def tie_kind(word, arguments):
         return None
     lower = (exact.numerator - 1) // 2
     if word == "scale":
-        answer = arguments[0] + lower + 1            # step 1: halves up
-    elif word in TERMS:
-        answer = lower + lower % 2                   # our decision: to even
+        answer = arguments[0] + lower + 1  # step 1: halves up
     else:
-        answer = lower + 1 if exact > 0 else lower   # step 5: away from zero
+        answer = lower + lower % 2         # a ratio by document 02, request 5, a term by our decision: to even
     if str(answer) != expected_answer(word, arguments):
         raise ValueError("the model is wrong at " + line_of(word, arguments))
     return f"half {side_of(word, arguments, exact)}, lower neighbour {('even', 'odd')[lower % 2]}"

@@ -1,7 +1,7 @@
-"""The formulas of document 01, computed exactly.
+"""The formulas of documents 01 and 02, computed exactly.
 
-Made from document 01 and our decision on the exact half, never from the code, so that a comparison of the two is a
-comparison with the paper.  Whole numbers and fractions only; nothing here is a floating-point number.
+Made from documents 01 and 02 and our decision on a term's exact half, never from the code, so that a comparison of the
+two is a comparison with the papers.  Whole numbers and fractions only; nothing here is a floating-point number.
 
 Switches are given as True or 1 for ON, False or 0 for OFF.
 """
@@ -20,15 +20,8 @@ def nearest_halves_up(exact):
     return floor(exact + Fraction(1, 2))
 
 
-def nearest_halves_away_from_zero(exact):
-    """The nearest whole number; a half goes away from zero."""
-    if exact < 0:
-        return -nearest_halves_up(-exact)
-    return nearest_halves_up(exact)
-
-
 def nearest_halves_to_even(exact):
-    """The nearest whole number; a half goes to the even neighbour."""
+    """The nearest whole number; a half goes to the even neighbour, above and below zero alike."""
     lower = floor(exact)
     above_lower = exact - lower
     if above_lower == Fraction(1, 2):
@@ -57,15 +50,16 @@ def root(sample):
 
 
 # One scan, step 5: the quotients of Ratio ----------------------------------
+# Document 02, request 5: "Both quotients of the ratio now go, at an exact half, to the even neighbour"
 
 def ratio(q, s):
-    """Step 5, S2.3 OFF: 100 x q / s, nearest, halves away from zero."""
-    return nearest_halves_away_from_zero(Fraction(100 * q, s))
+    """Step 5, S2.3 OFF: 100 x q / s, nearest, halves to even."""
+    return nearest_halves_to_even(Fraction(100 * q, s))
 
 
 def inverse_ratio(q, s):
-    """Step 5, S2.3 ON: q x s / 100, nearest, halves away from zero."""
-    return nearest_halves_away_from_zero(Fraction(q * s, 100))
+    """Step 5, S2.3 ON: q x s / 100, nearest, halves to even."""
+    return nearest_halves_to_even(Fraction(q * s, 100))
 
 
 # Terms: exact, in units, not yet limited -----------------------------------

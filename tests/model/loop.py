@@ -133,7 +133,10 @@ def moved_parameters(now, mode, is_open):
 
 
 def ratio_setpoint(SW, parameters, trim, sample_2):
-    """Step 5, in Ratio: "100 x q / s + RB, or with S2.3 ON q x s / 100 + RB"; the sum s is limited to LR..HR."""
+    """Step 5, in Ratio: "100 x q / s + RB, or with S2.3 ON q x s / 100 + RB"; the sum s is limited to LR..HR.
+
+    Document 02, request 5, rounds the quotient, so RB is added behind the rounding and SP may be odd at a half.
+    """
     s = limit(parameters.LR, parameters.HR, parameters.RS + trim)
     q = scale(parameters.channel_2L, parameters.channel_2H, sample_2)
     quotient = formulas.inverse_ratio(q, s) if SW & S2_3 else formulas.ratio(q, s)

@@ -21,7 +21,7 @@ from tests.lists.image_source import WIDE, ImageSource, values_in, with_values
 from tests.model import loop
 from tests.model.state import OPEN_CAUSE, Stored
 from tests.model.table import NAMES, NUMBER, PAIRS, ROWS, partner_of, range_of
-from tests.model.words import S2_2, S2_5
+from tests.model.words import S2_1, S2_2, S2_3, S2_5
 from tests.statements.text import HEAD, statement
 
 FILE = ROOT / "crates/worked/specs/ModelCalls.antt"
@@ -47,6 +47,10 @@ KEPT = {
         1: "the same at 42 ms: three terms, two scans remembered",
         2: "the same at 29 ms: 16",
         3: "30 ms before the end of 64 bits, then 6: it lies before, 16",
+    },
+    "ratio": {
+        0: "S2.3 OFF, channel 2 at an exact half, which goes up, to q 305: 762.5 goes to 762, and RB 7 is added after",
+        1: "S2.3 ON, channel 2 at an exact half, which goes up, to q -93: -46.5 goes to -46, and RB -9 is added after",
     },
     "write": {
         55: "HR limits RS anew, in Hold",
@@ -74,6 +78,10 @@ KEPT = {
 
 GAPS = {2370: 5_000_000, 4953: 43}  # scans of which another interval is stated than the one drawn
 IN_AUTO = 11597  # a scan in which forgetting PV alone, SP alone or the PV before alone each gives another output
+# Ratio at an exact half: switches, sample 2, sample 3 and parameters.  The first has q 305 and s 40, the second q -93
+# and s 50.  Halves away from zero or to odd, RB added before the rounding and channel 2 to even each give another SP.
+AT_A_HALF = ((0, 5045, 2000, {"channel_2H": 800, "channel_2L": -200, "channel_3H": 20, "channel_3L": -20, "RS": 52, "RB": 7}),
+             (S2_3, 4130, 3000, {"channel_2H": 200, "channel_2L": -300, "channel_3H": 40, "channel_3L": 0, "RS": 38, "RB": -9}))
 
 
 # The calls drawn, as the state before and the call ------------------------------------
@@ -106,6 +114,18 @@ def clock_scans():
     before, call = next(itertools.islice(scans(), IN_AUTO, None))
     yield from (with_gap(before, call, milliseconds) for milliseconds in (43, 42, 29))
     yield before._replace(clock=MOST - 29), (*call[:-1], 6)
+
+
+def ratio_scans():
+    """Scans in Ratio at an exact half, in drawn states with limits that s, SP and the output are within."""
+    generator = random.Random(SEED)
+    for switches, sample_2, sample_3, given in AT_A_HALF:
+        state = drawn_state(generator)
+        parameters = state.parameters._replace(channel_1H=2000, channel_1L=-2000, HR=9999, LR=1, HS=2000, LS=-2000, HO=9999, LO=0,
+                                               XP=9000, SL=0, IC=0, **given)
+        before = state._replace(SW=state.SW & ~S2_3 | S2_1 | switches, parameters=parameters, request="R", pins=0xA0, open_count=0,
+                                measured_power=False, PV=20, SP=30, ER=-10, previous_PV=20, previous_SP=30)
+        yield before, ("scan", 0xA5, generator.randint(0, 10000), sample_2, sample_3, 0, 0, before.clock + 36)
 
 
 def drawn_state(generator):
@@ -179,8 +199,8 @@ def saves():
 
 def statements():
     """Each statement that is kept, with what it shows."""
-    drawn = {"scan": scans, "clock": clock_scans, "write": drawn_writes, "write under the fault": writes_under_the_fault, "read": reads,
-             "restart": restarts, "save": saves}
+    drawn = {"scan": scans, "clock": clock_scans, "ratio": ratio_scans, "write": drawn_writes,
+             "write under the fault": writes_under_the_fault, "read": reads, "restart": restarts, "save": saves}
     for kind, kept in KEPT.items():
         for number, call in enumerate(itertools.islice(drawn[kind](), max(kept) + 1)):
             if number in kept:

@@ -22,10 +22,6 @@ halfEven n d = cond (ltb (2 * (n % d)) d) (n / d) (cond (ltb d (2 * (n % d))) (n
 abbrev pub nearestBy : (ℕ → ℕ → ℕ) → ℤ → ℕ → ℤ
 nearestBy rounding z d = fromSign (isNegative z) (rounding (natAbs z) d)
 
--- z / d nearest, an exact half going away from zero
-unfoldable pub nearestAway : ℤ → ℕ → ℤ
-nearestAway z d = nearestBy halfUp z d
-
 -- z / d nearest, an exact half going to the even neighbour
 unfoldable pub nearestEven : ℤ → ℕ → ℤ
 nearestEven z d = nearestBy halfEven z d

@@ -8,7 +8,7 @@ ghost use Rattle.integers.specs.Choice.{if_then_else_};
 ghost use Rattle.integers.specs.Machine.{Small};
 ghost use Rattle.integers.specs.Sign.{fromSign, isNegative};
 ghost use Rattle.integers.specs.Limit.{atLeast, atMost, limited};
-ghost use Rattle.integers.specs.Rounding.{halfUp, halfEven};
+ghost use Rattle.integers.specs.Rounding.{halfEven};
 ghost use Rattle.integers.specs.TwosComplement.{asWord, fromWord};
 
 // Whether x lies below zero. The contract rules out taking zero for negative.
@@ -111,18 +111,9 @@ pub fn limit(low: i64, high: i64, value: i64) -> i64
     at_most(high, at_least(low, value))
 }
 
-// n / d to the nearest whole number, an exact half going up. Twice the remainder might not fit, so it is
-// compared with what it lacks of d. The contract rules out a quotient that is cut and a half that goes down.
-pub fn nearest_up(n: u64, d: u64) -> u64
-    requires { ⌜ 0 < d ⌝ }
-    ensures { λ r. ⌜ r ≡ halfUp n d ⌝ }
-{
-    let rest = n % d;
-    if rest < d - rest { n / d } else { n / d + 1 }
-}
-
-// n / d to the nearest whole number, an exact half going to the even neighbour. The contract rules out
-// a quotient that is cut and a half that goes up or down whatever its neighbours are.
+// n / d to the nearest whole number, an exact half going to the even neighbour. Twice the remainder might not fit, so
+// it is compared with what it lacks of d. The contract rules out a quotient that is cut and a half that goes up or down
+// whatever its neighbours are.
 pub fn nearest_even(n: u64, d: u64) -> u64
     requires { ⌜ 0 < d ⌝ }
     ensures { λ r. ⌜ r ≡ halfEven n d ⌝ }

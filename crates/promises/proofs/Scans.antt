@@ -32,7 +32,7 @@ use Rattle.controller.specs.Scan.{modeNow, contextOf, computedIn, indicationsAf
 use Rattle.controller.specs.declared.Core.{Core}
 use Rattle.guarantee.specs.Modes.{modeIn, trackMode}
 use Rattle.guarantee.proofs.Modes.{mode-is-first}
-use Rattle.promises.specs.Scans.{Scaled, NearestAway, expectedRatio, expectedSetpoint, ScanEffect}
+use Rattle.promises.specs.Scans.{Scaled, NearestEven, expectedRatio, expectedSetpoint, ScanEffect}
 use Rattle.promises.specs.Words.{ShowsMD, ShowsDS, remoteOrRatio}
 use Rattle.signals.specs.Refusals.{refusedBy, scanTests}
 use Rattle.controller.specs.Answers.{Reply, words, reading, acceptance, number, replyOf, Response}
@@ -46,7 +46,7 @@ use Rattle.guarantee.specs.Claim.{OwnOutput}
 use Rattle.guarantee.proofs.Answers.{own-output}
 use Rattle.promises.specs.Scans.{ScanAnswer, ScanEffects}
 use Rattle.promises.proofs.RefusalCauses.{scan-tests, accepted-scan}
-use Rattle.promises.proofs.Setpoints.{scaled-is, root-found, nearest-away, by-hand, setpoint-in, local-one, stays-local}
+use Rattle.promises.proofs.Setpoints.{scaled-is, root-found, nearest-even, by-hand, setpoint-in, local-one, stays-local}
 use Rattle.promises.proofs.Setpoints.{track-is, ratio-is, same-mode}
 use Rattle.promises.proofs.Words.{shows-md, shows-ds}
 
@@ -199,14 +199,14 @@ module _ (c : Core) (i : Input) (legal : Legal (c .parameters)) (sampled : Sampl
   sum-some = ratio-range (c .parameters) legal i sampled (rs +ℤ trim) .s-some
 
   quotient-is : bit (c .sw) 13 ≡ false →
-      NearestAway (pos 100 *ℤ second-channel) ratio-sum (quotientOf (bit (c .sw) 13) second-channel ratio-sum)
+      NearestEven (pos 100 *ℤ second-channel) ratio-sum (quotientOf (bit (c .sw) 13) second-channel ratio-sum)
   unfolding ratioQuotient
-  quotient-is e = rw e (nearest-away (pos 100 *ℤ second-channel) ratio-sum sum-some)
+  quotient-is e = rw e (nearest-even (pos 100 *ℤ second-channel) ratio-sum sum-some)
 
   inverse-is : bit (c .sw) 13 ≡ true →
-      NearestAway (second-channel *ℤ pos ratio-sum) 100 (quotientOf (bit (c .sw) 13) second-channel ratio-sum)
+      NearestEven (second-channel *ℤ pos ratio-sum) 100 (quotientOf (bit (c .sw) 13) second-channel ratio-sum)
   unfolding inverseQuotient
-  inverse-is e = rw e (nearest-away (second-channel *ℤ pos ratio-sum) 100 (omega arith))
+  inverse-is e = rw e (nearest-even (second-channel *ℤ pos ratio-sum) 100 (omega arith))
 
   -- ---- the whole
 
@@ -237,6 +237,7 @@ module _ (c : Core) (i : Input) (legal : Legal (c .parameters)) (sampled : Sampl
         q-scaled = scaled-is (value p 4) (value p 3) (i .sample2);
         s = ratio-sum;
         s-is = sum-is;
+        s-positive = sum-some;
         quotient = quotientOf (bit (c .sw) 13) second-channel ratio-sum;
         quotient-is = λ e. quotient-is;
         inverse-is = λ e. inverse-is;

@@ -3,12 +3,16 @@ use mathlib.Core.Path.{_≡_, refl, sym, ap}
 use mathlib.Core.Bool.{Bool, true, false, not, _&&_, _||_}
 use mathlib.Core.Option.{Option, some, none}
 use Prim.Native.Nat.{ℕ, suc, _+_, _*_, _<_, _≤_}
+use native.Mathlib.Nat.{le-antisymm, mul-le-mul-right}
 use native.Mathlib.Omega.{arith, by-contra}
-use lib.IntN.{ℤ, pos, negℤ, natAbs, _+ℤ_, _-ℤ_}
+use lib.IntN.{ℤ, pos, natAbs, _+ℤ_, _-ℤ_, _*ℤ_}
 use Rattle.integers.specs.Choice.{if_then_else_, never}
 use Rattle.integers.specs.Limit.{limited}
-use Rattle.integers.specs.Sign.{fromSign, isNegative}
-use Rattle.integers.specs.Rounding.{halfUp, halfUp-nearest, halfUp-up, nearestAway}
+use Rattle.integers.specs.Operations.{number}
+use Rattle.integers.specs.Parts.{above, below, to-≡}
+use Rattle.integers.specs.Rounding.{halfUp, halfUp-nearest, halfUp-up, nearestEven}
+use Rattle.integers.specs.RoundingLaws.{nearestEven-off, nearestEven-even}
+use Rattle.integers.specs.Split.{split-self, split-difference, split-times, size-out}
 use Rattle.signals.specs.Bits.{bit}
 use Rattle.signals.specs.Signals.{buttonsOf, adjustmentOf}
 use Rattle.signals.specs.declared.Adjustment.the-variants.{Raise, Lower, Neither}
@@ -22,7 +26,7 @@ use Rattle.scaling.specs.Scale.{scaled}
 use Rattle.setpoints.specs.Setpoints as setpoints
 use Rattle.setpoints.specs.Setpoints.{movedByHand}
 use Rattle.guarantee.specs.Modes.{automaticMode, trackMode}
-use Rattle.promises.specs.Scans.{NearestUp, Scaled, RootOf, NearestAway, moved}
+use Rattle.promises.specs.Scans.{NearestUp, Scaled, RootOf, NearestEven, OneQuotient, moved}
 use Rattle.promises.specs.Words.{remoteOrRatio, ratioMode}
 
 -- ---- quotients
@@ -44,13 +48,29 @@ root-found s h =
       greatest = by-contra (suc (10000 * s)) ((r + 1) * (r + 1)) (λ k. absurd (omega (arith, g .greatest (r + 1) (omega arith))));
     }
 
-signed-is : (minus : Bool) (m : ℕ) → fromSign minus m ≡ (if minus then negℤ (pos m) else pos m)
-signed-is true m = refl
-signed-is false m = refl
+pub nearest-even : (z : ℤ) (d : ℕ) → 0 < d → NearestEven z d (nearestEven z d)
+nearest-even z d h = record { near = nearestEven-off z d h; even = nearestEven-even z d h }
 
-pub nearest-away : (z : ℤ) (d : ℕ) → 0 < d → NearestAway z d (nearestAway z d)
-unfolding nearestAway
-nearest-away z d h = record { size = halfUp (natAbs z) d; nearest = nearest-up (natAbs z) d h; sign = signed-is (isNegative z) _ }
+-- two that are nearest lie at most one apart, and then both are off by one half, so that both would be even
+module _ (z : ℤ) (d : ℕ) (a b : ℤ) (positive : 0 < d) (h : NearestEven z d a) (k : NearestEven z d b) where
+  off : (x : ℤ) → (above x * d + below z ≤ below x * d + above z + natAbs (x *ℤ pos d -ℤ z)) ×
+      (below x * d + above z ≤ above x * d + below z + natAbs (x *ℤ pos d -ℤ z))
+  off x = size-out (x *ℤ pos d -ℤ z) (split-difference (x *ℤ pos d) z (split-times x d (split-self x)) (split-self z))
+
+  next : above a + below b < above b + below a → above b + below a ≤ suc (above a + below b)
+  next l =
+      by-contra (above b + below a) (suc (above a + below b))
+      (λ far. absurd (omega (arith, h .near, k .near, off a, off b, mul-le-mul-right d far)))
+
+  not-less : above a + below b < above b + below a → ⊥
+  not-less l =
+      let both-half : (2 * natAbs (a *ℤ pos d -ℤ z) ≡ d) × (2 * natAbs (b *ℤ pos d -ℤ z) ≡ d) =
+      omega (arith, h .near, k .near, off a, off b, mul-le-mul-right d l) in
+      absurd (omega (arith, next l, h .even (both-half .0), k .even (both-half .1), number a, number b))
+
+pub one-quotient : OneQuotient
+one-quotient z d a b positive h k =
+    to-≡ (le-antisymm (by-contra _ _ (not-less z d b a positive k h)) (by-contra _ _ (not-less z d a b positive h k)))
 
 -- ---- steps 4 and 5, of the mode m
 

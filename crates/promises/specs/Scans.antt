@@ -5,7 +5,7 @@
 use mathlib.Core.Path.{_≡_}
 use mathlib.Core.Bool.{true, false, not, _&&_, _||_}
 use mathlib.Core.Option.{some, none}
-use Prim.Native.Nat.{ℕ, _+_, _*_, _≤_, _<_, min}
+use Prim.Native.Nat.{ℕ, _+_, _*_, _%_, _≤_, _<_, min}
 use lib.Dec.{leb}
 use lib.IntN.{ℤ, pos, negℤ, natAbs, _+ℤ_, _-ℤ_, _*ℤ_}
 use lib.Signed.{ltZ}
@@ -48,12 +48,16 @@ pub record RootOf (s r : ℕ) : Type 0 where
   pub fits : r * r ≤ 10000 * s
   pub greatest : 10000 * s < (r + 1) * (r + 1)
 
--- step 5: "the quotient is nearest, halves away from zero": its size is nearest, halves up, and it has the
--- numerator's sign
-pub record NearestAway (numerator : ℤ) (divisor : ℕ) (quotient : ℤ) : Type 0 where
-  pub size : ℕ
-  pub nearest : NearestUp (natAbs numerator) divisor size
-  pub sign : quotient ≡ (if ltZ numerator (pos 0) then negℤ (pos size) else pos size)
+-- step 5: "the quotient is nearest"; document 02, request 5: "at an exact half, to the even neighbour": off by at most
+-- one half, and where it is off by a half, even
+pub record NearestEven (numerator : ℤ) (divisor : ℕ) (quotient : ℤ) : Type 0 where
+  pub near : 2 * natAbs (quotient *ℤ pos divisor -ℤ numerator) ≤ divisor
+  pub even : 2 * natAbs (quotient *ℤ pos divisor -ℤ numerator) ≡ divisor → natAbs quotient % 2 ≡ 0
+
+-- that is one number and no other
+abbrev pub OneQuotient : Type 0
+OneQuotient =
+    (numerator : ℤ) (divisor : ℕ) (a b : ℤ) → 0 < divisor → NearestEven numerator divisor a → NearestEven numerator divisor b → a ≡ b
 
 -- ---- step 4, the setpoint moved by hand
 
@@ -121,14 +125,16 @@ pub record ScanEffect (before now : Core) (i : Input) : Type 0 where
   pub sp-remote : modeIn now ≡ some Remote →
       now .readings .sp ≡ limited (value (before .parameters) 10) (value (before .parameters) 9) (channel2 +ℤ trim)
   -- "In Ratio s is the sum RS + trim, that sum limited to LR..HR, q is channel 2 scaled by 2L, 2H, and SP is 100 × q
-  -- / s + RB, or with S2.3 ON q × s / 100 + RB", SW bit 13: 2H is parameter 3, 2L 4, RB 22; s lies above zero
+  -- / s + RB, or with S2.3 ON q × s / 100 + RB", SW bit 13: 2H is parameter 3, 2L 4, RB 22. s lies above zero, so the
+  -- quotient is one number (`OneQuotient`); RB is added once it is rounded
   pub q : ℤ
   pub q-scaled : Scaled (value (before .parameters) 4) (value (before .parameters) 3) (i .sample2) q
   pub s : ℕ
   pub s-is : s ≡ natAbs (limited (value (before .parameters) 8) (value (before .parameters) 7) (value (now .parameters) 21 +ℤ trim))
+  pub s-positive : 0 < s
   pub quotient : ℤ
-  pub quotient-is : modeIn now ≡ some Ratio → bit (now .sw) 13 ≡ false → NearestAway (pos 100 *ℤ q) s quotient
-  pub inverse-is : modeIn now ≡ some Ratio → bit (now .sw) 13 ≡ true → NearestAway (q *ℤ pos s) 100 quotient
+  pub quotient-is : modeIn now ≡ some Ratio → bit (now .sw) 13 ≡ false → NearestEven (pos 100 *ℤ q) s quotient
+  pub inverse-is : modeIn now ≡ some Ratio → bit (now .sw) 13 ≡ true → NearestEven (q *ℤ pos s) 100 quotient
   pub sp-ratio : modeIn now ≡ some Ratio →
       now .readings .sp ≡ limited (value (before .parameters) 10) (value (before .parameters) 9) (quotient +ℤ value (before .parameters) 22)
   -- "ER = PV - SP."

@@ -1,7 +1,7 @@
 // Document 01's scaling of samples: a channel's range, the root of channel 1, and the quotients of a ratio setpoint.
 ghost use mathlib.Core.Path.{_≡_};
 ghost use Prim.Native.Nat.{_≤_};
-ghost use Rattle.integers.specs.Rounding.{halfUp};
+ghost use Rattle.integers.specs.Rounding.{halfEven};
 ghost use Rattle.integers.specs.Sign.{fromSign, isNegative};
 ghost use Rattle.scaling.specs.Scale.{scaled, ChannelRange};
 ghost use Rattle.scaling.specs.Root.{rootOf};
@@ -27,18 +27,17 @@ pub fn root(sample: u16) -> u16
     roots::entry(sample)
 }
 
-// n / d nearest, halves up, with the sign of q: halves away from zero. Only magnitudes far below the
-// type's end are asked for.
+// n / d nearest, halves to even, with the sign of q. Only magnitudes far below the type's end are asked for.
 fn with_sign(q: i64, n: u64, d: u64) -> i64
     requires { ⌜ (n ≤ 100000000) × (1 ≤ d) ⌝ }
-    ensures { λ r. ⌜ r ≡ fromSign (isNegative q) (halfUp n d) ⌝ }
+    ensures { λ r. ⌜ r ≡ fromSign (isNegative q) (halfEven n d) ⌝ }
 {
-    let size = integers::nearest_up(n, d);
+    let size = integers::nearest_even(n, d);
     integers::signed(integers::negative(q), size)
 }
 
-// 100 × q / s, nearest, halves away from zero. The contract rules out a half toward zero and one that
-// goes up below zero.
+// 100 × q / s, nearest, halves to even. The contract rules out a half that goes away from zero, or toward it, whatever
+// its neighbours are.
 pub fn ratio(q: i64, s: u64) -> i64
     requires { ⌜ RatioRange q s ⌝ }
     ensures { λ r. ⌜ r ≡ ratioQuotient q s ⌝ }
@@ -46,8 +45,7 @@ pub fn ratio(q: i64, s: u64) -> i64
     with_sign(q, 100 * integers::magnitude(q), s)
 }
 
-// q × s / 100, nearest, halves away from zero: the quotient with S2.3 ON. The contract rules out what
-// that of `ratio` does.
+// q × s / 100, nearest, halves to even: the quotient with S2.3 ON. The contract rules out what that of `ratio` does.
 pub fn inverse_ratio(q: i64, s: u64) -> i64
     requires { ⌜ RatioRange q s ⌝ }
     ensures { λ r. ⌜ r ≡ inverseQuotient q s ⌝ }

@@ -14,7 +14,7 @@ use Rattle.integers.specs.Choice.{by-cases}
 use Rattle.integers.specs.Operations.{negation, bounded}
 use Rattle.integers.specs.Parts.{integers}
 use Rattle.integers.specs.Rounding.{halfEven, halfEven-nearest, nearestEven}
-use Rattle.integers.specs.RoundingLaws.{halfEven-whole, halfEven-zero, nearestBy-fromSign}
+use Rattle.integers.specs.RoundingLaws.{halfEven-whole, nearestEven-fromSign}
 use Rattle.integers.specs.Sign.{fromSign, isNegative, fromSign-times, natAbs-fromSign, sign-and-size, negate-fromSign, times-is}
 use Rattle.terms.specs.Fraction.{Fraction, Positive, whole, atLeast, atMost, limited, stored, storedUnits}
 use Rattle.terms.specs.Near.{Near}
@@ -58,8 +58,8 @@ module _ (n d : ℕ) where
       simp (kept, high)
 
   stored-parts : (minus : Bool) → 0 < d → fromSign minus (halfEven (n * 65536) d) ≡ stored (over (fromSign minus n) d)
-  unfolding stored storedUnits nearestEven
-  stored-parts minus some = rw fromSign-times (sym (nearestBy-fromSign halfEven minus (n * 65536) d (halfEven-zero d some)))
+  unfolding stored storedUnits
+  stored-parts minus some = rw fromSign-times (sym (nearestEven-fromSign minus (n * 65536) d some))
 
   pub term-within : (minus : Bool) → 0 < d → n ≤ 10000 * d →
       fromSign minus (halfEven (n * 65536) d) ≡ storedTerm (over (fromSign minus n) d)

@@ -3,7 +3,7 @@
 use mathlib.Core.Path.{refl}
 use Rattle.integers.specs.Limit as Limit
 use Rattle.integers.specs.Listed.{listed}
-use Rattle.integers.specs.Rounding.{halfUp, halfEven, nearestAway, nearestEven}
+use Rattle.integers.specs.Rounding.{halfUp, halfEven, nearestEven}
 use Rattle.integers.specs.TwosComplement.{asWord, fromWord}
 use Rattle.signals.specs.Refusals.{refusedBy, scanTests}
 use Rattle.signals.specs.Signals.{buttonsOf, pinsOf, switchesOf, adjustmentOf}
@@ -51,7 +51,7 @@ unfolding modelCalls s.scan s.scanCore s.accepted s.earlierScans h.historyBefore
     o.storedArithmetic o.changed o.limitedTo o.executed u.termsOf u.byTerms u.byHand u.minimumOf u.limitsIn
     u.limitsWritten u.instructionOf u.restartedTo u.restartInstruction proportionalTerm integralTerm derivativeTerm
     limitedTerm storedTerm whole atLeast atMost limited stored storedUnits limitedStored nearestEven halfEven
-    nearestAway ratioQuotient inverseQuotient greatestTo rootOf w.write w.writeCore w.writeAccepted w.writeTests
+    ratioQuotient inverseQuotient greatestTo rootOf w.write w.writeCore w.writeAccepted w.writeTests
     w.stateTests w.setpointTests w.coreWith w.coreWritten w.mdWritten w.dsWritten w.parameterWritten read readIn
     valueIn limitedAnew written ruleOf conditionsWritten powerWritten userBitsWritten mdTests r.restart r.restartCore
     r.restartTests r.restartAccepted r.restoredSettings r.repairedSettings r.isLegal v.savedImage v.settingsNow
@@ -63,6 +63,7 @@ unfolding modelCalls s.scan s.scanCore s.accepted s.earlierScans h.historyBefore
 model-calls-hold =
     refl and refl and refl and refl and refl and refl and refl and refl and
     refl and refl and refl and refl and refl and refl and refl and refl and
+    refl and refl and
     refl and refl and refl and refl and refl and refl and refl and refl and refl and
     refl and
     refl and refl and refl and refl and refl and

@@ -8,7 +8,7 @@ use lib.IntN.{pos}
 use lib.ListN.{drop}
 use Rattle.integers.specs.Limit as Limit
 use Rattle.integers.specs.Listed.{listed}
-use Rattle.integers.specs.Rounding.{halfUp, halfEven, nearestAway, nearestEven}
+use Rattle.integers.specs.Rounding.{halfUp, halfEven, nearestEven}
 use Rattle.integers.specs.TwosComplement.{asWord}
 use Rattle.signals.specs.Refusals.{refusedBy, scanTests}
 use Rattle.signals.specs.Signals.{buttonsOf, pinsOf, switchesOf, adjustmentOf}
@@ -18,6 +18,7 @@ use Rattle.modes.specs.Modes.{counted, openCountAfter}
 use Rattle.words.specs.Words.{byteOf, mdHigh, mdLow, MD, dsLow, DS}
 use Rattle.words.specs.Written.{mdTests}
 use Rattle.parameters.specs.Table.{value, withValue, ruleOf}
+use Rattle.parameters.specs.Written.{written, limitedAnew}
 use Rattle.settings.specs.Settings as t
 use Rattle.scaling.specs.Ratio.{ratioQuotient, inverseQuotient}
 use Rattle.scaling.specs.Root.{rootOf, root-from, root-is, root-same}
@@ -41,14 +42,14 @@ use Rattle.controller.specs.State.{freshController}
 use Rattle.controller.specs.Write as w
 use Rattle.controller.specs.Write.{write}
 use Rattle.controller.specs.declared.Controller.{Controller}
-use Rattle.worked.specs.Figures.{AllHold, figures, furtherFigures, onceScanned, scanFigures}
+use Rattle.worked.specs.Figures.{AllHold, figures, furtherFigures, onceScanned, biased, scanFigures}
 
 infixr 5 _and_
 pub _and_ : {A B : Type 0} → A → B → A × B
 a and b = (a, b)
 
 pub scan-figures-hold : AllHold scanFigures
-unfolding scanFigures onceScanned s.refused h.historyAfter s.scan s.scanCore s.accepted s.earlierScans h.historyBefore s.responseFrom
+unfolding scanFigures onceScanned biased s.refused h.historyAfter s.scan s.scanCore s.accepted s.earlierScans h.historyBefore s.responseFrom
     s.controllerAfter s.contextOf s.computedIn s.indicationsAfter s.coreAfter s.statusOf s.modeNow State.freshController
     State.freshCore State.startReadings a.opOf a.electricalOf refusedBy scanTests buttonsOf pinsOf switchesOf
     adjustmentOf m.counted m.openCountAfter m.conditionsAfter m.modeOf m.goesToMinimum byteOf mdHigh mdLow MD dsLow DS
@@ -57,8 +58,9 @@ unfolding scanFigures onceScanned s.refused h.historyAfter s.scan s.scanCore s.a
     scaled halfUp Limit.limited Limit.atLeast Limit.atMost d.controlDifference d.earlierSetpoint d.changeOfDifference
     d.secondDifference d.tuningOf o.storedArithmetic o.changed o.limitedTo o.executed u.termsOf u.byTerms u.limitsIn
     u.instructionOf proportionalTerm integralTerm derivativeTerm limitedTerm storedTerm whole atLeast atMost limited
-    stored storedUnits limitedStored nearestEven halfEven
-scan-figures-hold = refl and refl and refl and refl and refl and refl and tt
+    stored storedUnits limitedStored nearestEven halfEven w.write w.writeCore w.writeAccepted w.writeTests w.stateTests w.coreWith
+    w.coreWritten w.parameterWritten ruleOf written limitedAnew u.limitsWritten p.ratioSetpoint ratioQuotient inverseQuotient
+scan-figures-hold = refl and refl and refl and refl and refl and refl and refl and refl and tt
 
 -- each word is refused with 9 whatever else the state is
 write-figures : (c : Controller) → (write c 24 (pos 0x0000) ≡ record { next = c; answer = number 9 }) ×
@@ -75,7 +77,7 @@ image-figure sw = refl
 
 pub worked : AllHold figures
 unfolding figures proportionalTerm integralTerm derivativeTerm limitedTerm storedTerm whole atLeast atMost limited stored
-    storedUnits nearestEven nearestAway halfEven halfUp scaled ratioQuotient inverseQuotient counted openCountAfter
+    storedUnits nearestEven halfEven halfUp scaled ratioQuotient inverseQuotient counted openCountAfter
     byteOf mdHigh mdLow MD dsLow DS buttonsOf pinsOf switchesOf
 worked =
     (lit< tt, lit< tt, refl) and
@@ -83,7 +85,7 @@ worked =
     refl and
     (lit< tt, lit< tt, refl) and
     refl and refl and
-    refl and refl and
+    refl and refl and refl and
     refl and
     refl and refl and
     refl and
@@ -98,9 +100,10 @@ root-figure s r sample fits next = root-same (root-is s (lit≤ sample)) (root-f
 
 pub further-figures-hold : AllHold furtherFigures
 unfolding furtherFigures o.changed o.exactArithmetic plus proportionalTerm integralTerm derivativeTerm limitedTerm
-    storedTerm whole atLeast atMost limited stored storedUnits nearestEven halfEven
+    storedTerm whole atLeast atMost limited stored storedUnits nearestEven halfEven inverseQuotient
 further-figures-hold =
     refl and refl and (lit< tt, lit< tt, refl) and
     root-figure 0 0 tt tt tt and root-figure 400 2000 tt tt tt and root-figure 1600 4000 tt tt tt and root-figure 10000 10000 tt tt tt and
     root-figure 2 141 tt tt tt and root-figure 9998 9998 tt tt tt and
+    refl and refl and
     tt

@@ -1,5 +1,6 @@
--- Document 01, "Worked by hand (all to be proved)": one list of statements about the rules, in the paper's order.
--- Further figures, which are ours, stand in two lists of their own behind it. proofs/Worked.antt proves them all.
+-- Document 01, "Worked by hand (all to be proved)": one list of statements about the rules, in the paper's order, with
+-- what document 02 makes of them. Further figures, which are ours, stand in two lists of their own behind it.
+-- proofs/Worked.antt proves them all.
 use mathlib.Core.Path.{_≡_}
 use mathlib.Core.Bool.{true, false}
 use mathlib.Core.List.{List, [], _∷_}
@@ -64,9 +65,11 @@ figures =
     -- "Range 0..1: sample 4999 is 0, 5000 is 1."
     ∷ (scaled (pos 0) (pos 1) 4999 ≡ pos 0)
     ∷ (scaled (pos 0) (pos 1) 5000 ≡ pos 1)
-    -- "q 101, s 200 gives 51; -101 gives -51"
-    ∷ (ratioQuotient (pos 101) 200 ≡ pos 51)
-    ∷ (ratioQuotient (negℤ (pos 101)) 200 ≡ negℤ (pos 51))
+    -- "q 101, s 200 gives 51; -101 gives -51", of which document 02, request 5: "the hand-worked 51 and -51 of document
+    -- 01 become 50 and -50", and "q 103 is 52"
+    ∷ (ratioQuotient (pos 101) 200 ≡ pos 50)
+    ∷ (ratioQuotient (negℤ (pos 101)) 200 ≡ negℤ (pos 50))
+    ∷ (ratioQuotient (pos 103) 200 ≡ pos 52)
     -- "S2.3 ON, q 5, s 150 gives 8"
     ∷ (inverseQuotient (pos 5) 150 ≡ pos 8)
     -- "Open scan 84 isn't a cause, 85 is."
@@ -103,6 +106,9 @@ furtherFigures =
     -- document 02, request 3: 141 × 141 is 19,881 and 142 × 142 is 20,164; 9999 × 9999 is 99,980,001, one too great
     ∷ (rootOf 2 ≡ 141)
     ∷ (rootOf 9998 ≡ 9998)
+    -- document 02, request 5, with S2.3 ON: 2.5 goes to 2, and -3.5 to -4
+    ∷ (inverseQuotient (pos 5) 50 ≡ pos 2)
+    ∷ (inverseQuotient (negℤ (pos 7)) 50 ≡ negℤ (pos 4))
     ∷ []
 
 abbrev pub firstScan : Input
@@ -115,6 +121,14 @@ onceScanned = scan (freshController 0) firstScan .next
 abbrev pub nextScan : ℕ → Input
 nextScan milliseconds =
     record { pins = 0x91; sample1 = 5100; sample2 = 0; sample3 = 0; buttons = 0; sensors = 0; milliseconds = milliseconds }
+
+-- started fresh, RS written, and RB 1; a scan in Ratio, R pressed and the Remote pin at 1, whose q is a tenth of the
+-- sample
+unfoldable pub biased : ℕ → ℕ → Controller
+biased sw rs = write (write (freshController sw) 21 (pos rs) .next) 22 (pos 1) .next
+
+abbrev pub ratioScan : ℕ → Input
+ratioScan sample = record { pins = 0xA0; sample1 = 0; sample2 = sample; sample3 = 0; buttons = 4; sensors = 0; milliseconds = 36 }
 
 -- whole scans, which are ours too
 unfoldable pub scanFigures : List (Type 0)
@@ -129,4 +143,7 @@ scanFigures =
     ∷ (scan onceScanned (nextScan 1043) .next .core .history ≡ One (pos 510) (pos 0))
     -- and its reading is the last
     ∷ (scan onceScanned (nextScan 1043) .next .core .clock ≡ At 1043)
+    -- document 02, request 5: q 101 with s 200 is 50, and with S2.3 ON q 103 with s 50 is 52; RB is added after
+    ∷ (scan (biased 0x8000 200) (ratioScan 1010) .next .core .readings .sp ≡ pos 51)
+    ∷ (scan (biased 0xA000 50) (ratioScan 1030) .next .core .readings .sp ≡ pos 53)
     ∷ []

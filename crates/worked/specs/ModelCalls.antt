@@ -109,6 +109,10 @@ modelCalls =
     ∷ Scans (state 29074 (negℤ (pos 4414) ∷ negℤ (pos 6419) ∷ pos 0 ∷ negℤ (pos 1499) ∷ pos 118 ∷ negℤ (pos 9216) ∷ pos 9999 ∷ pos 1 ∷ pos 9999 ∷ negℤ (pos 9999) ∷ negℤ (pos 4415) ∷ negℤ (pos 6419) ∷ pos 3710 ∷ pos 8 ∷ pos 8192 ∷ pos 0 ∷ pos 4306 ∷ pos 91 ∷ pos 8 ∷ negℤ (pos 4840) ∷ pos 9999 ∷ pos 0 ∷ pos 1 ∷ []) request.Auto false true false false 0 158 (readings (negℤ (pos 4419)) (negℤ (pos 9966)) (pos 5547) (pos 0)) 128 false false true (Two (negℤ (pos 4419)) (negℤ (pos 9966)) (negℤ (pos 4418))) (At 4294964035) (pos 334171852)) (input 158 9958 6564 4380 128 0 4294964064) (state 29074 (negℤ (pos 4414) ∷ negℤ (pos 6419) ∷ pos 0 ∷ negℤ (pos 1499) ∷ pos 118 ∷ negℤ (pos 9216) ∷ pos 9999 ∷ pos 1 ∷ pos 9999 ∷ negℤ (pos 9999) ∷ negℤ (pos 4415) ∷ negℤ (pos 6419) ∷ pos 3710 ∷ pos 8 ∷ pos 8192 ∷ pos 0 ∷ pos 4306 ∷ pos 91 ∷ pos 8 ∷ negℤ (pos 4840) ∷ pos 9999 ∷ pos 0 ∷ pos 1 ∷ []) request.Auto false true false false 0 158 (readings (negℤ (pos 4419)) (negℤ (pos 9966)) (pos 5547) (pos 0)) 128 false false true (Two (negℤ (pos 4419)) (negℤ (pos 9966)) (negℤ (pos 4418))) (At 4294964035) (pos 334171852)) (number 16)
     -- clock: 30 ms before the end of 64 bits, then 6: it lies before, 16
     ∷ Scans (state 29074 (negℤ (pos 4414) ∷ negℤ (pos 6419) ∷ pos 0 ∷ negℤ (pos 1499) ∷ pos 118 ∷ negℤ (pos 9216) ∷ pos 9999 ∷ pos 1 ∷ pos 9999 ∷ negℤ (pos 9999) ∷ negℤ (pos 4415) ∷ negℤ (pos 6419) ∷ pos 3710 ∷ pos 8 ∷ pos 8192 ∷ pos 0 ∷ pos 4306 ∷ pos 91 ∷ pos 8 ∷ negℤ (pos 4840) ∷ pos 9999 ∷ pos 0 ∷ pos 1 ∷ []) request.Auto false true false false 0 158 (readings (negℤ (pos 4419)) (negℤ (pos 9966)) (pos 5547) (pos 0)) 128 false false true (Two (negℤ (pos 4419)) (negℤ (pos 9966)) (negℤ (pos 4418))) (At 18446744073709551586) (pos 334171852)) (input 158 9958 6564 4380 128 0 6) (state 29074 (negℤ (pos 4414) ∷ negℤ (pos 6419) ∷ pos 0 ∷ negℤ (pos 1499) ∷ pos 118 ∷ negℤ (pos 9216) ∷ pos 9999 ∷ pos 1 ∷ pos 9999 ∷ negℤ (pos 9999) ∷ negℤ (pos 4415) ∷ negℤ (pos 6419) ∷ pos 3710 ∷ pos 8 ∷ pos 8192 ∷ pos 0 ∷ pos 4306 ∷ pos 91 ∷ pos 8 ∷ negℤ (pos 4840) ∷ pos 9999 ∷ pos 0 ∷ pos 1 ∷ []) request.Auto false true false false 0 158 (readings (negℤ (pos 4419)) (negℤ (pos 9966)) (pos 5547) (pos 0)) 128 false false true (Two (negℤ (pos 4419)) (negℤ (pos 9966)) (negℤ (pos 4418))) (At 18446744073709551586) (pos 334171852)) (number 16)
+    -- ratio: S2.3 OFF, channel 2 at an exact half, which goes up, to q 305: 762.5 goes to 762, and RB 7 is added after
+    ∷ Scans (state 54507 (pos 2000 ∷ negℤ (pos 2000) ∷ pos 800 ∷ negℤ (pos 200) ∷ pos 20 ∷ negℤ (pos 20) ∷ pos 9999 ∷ pos 1 ∷ pos 2000 ∷ negℤ (pos 2000) ∷ pos 31 ∷ pos 0 ∷ pos 0 ∷ pos 3134 ∷ pos 9999 ∷ pos 0 ∷ pos 9000 ∷ pos 3946 ∷ pos 3 ∷ pos 0 ∷ pos 52 ∷ pos 7 ∷ pos 0 ∷ []) request.Remote false false true false 0 160 (readings (pos 20) (pos 30) (negℤ (pos 10)) (negℤ (pos 4809))) 75 false true false (One (pos 20) (pos 30)) (At 581940) (pos 636816643)) (input 165 4757 5045 2000 0 0 581976) (state 54507 (pos 2000 ∷ negℤ (pos 2000) ∷ pos 800 ∷ negℤ (pos 200) ∷ pos 20 ∷ negℤ (pos 20) ∷ pos 9999 ∷ pos 1 ∷ pos 2000 ∷ negℤ (pos 2000) ∷ pos 31 ∷ pos 0 ∷ pos 0 ∷ pos 3134 ∷ pos 9999 ∷ pos 0 ∷ pos 9000 ∷ pos 3946 ∷ pos 3 ∷ pos 769 ∷ pos 52 ∷ pos 7 ∷ pos 0 ∷ []) request.Remote false false true false 0 165 (readings (negℤ (pos 97)) (pos 769) (negℤ (pos 866)) (pos 0)) 0 false true false (Two (negℤ (pos 97)) (pos 769) (pos 20)) (At 581976) (pos 603482868)) (words 3072 42413 9208 791 Ratio (negℤ (pos 97)))
+    -- ratio: S2.3 ON, channel 2 at an exact half, which goes up, to q -93: -46.5 goes to -46, and RB -9 is added after
+    ∷ Scans (state 42609 (pos 2000 ∷ negℤ (pos 2000) ∷ pos 200 ∷ negℤ (pos 300) ∷ pos 40 ∷ pos 0 ∷ pos 9999 ∷ pos 1 ∷ pos 2000 ∷ negℤ (pos 2000) ∷ negℤ (pos 7243) ∷ negℤ (pos 8046) ∷ pos 3152 ∷ pos 512 ∷ pos 9999 ∷ pos 0 ∷ pos 9000 ∷ pos 814 ∷ pos 2 ∷ pos 0 ∷ pos 38 ∷ negℤ (pos 9) ∷ pos 0 ∷ []) request.Remote false false true false 0 160 (readings (pos 20) (pos 30) (negℤ (pos 10)) (negℤ (pos 6820))) 4 true true false (One (pos 20) (pos 30)) (At 648828) (pos 156374226)) (input 165 2247 4130 3000 0 0 648864) (state 42609 (pos 2000 ∷ negℤ (pos 2000) ∷ pos 200 ∷ negℤ (pos 300) ∷ pos 40 ∷ pos 0 ∷ pos 9999 ∷ pos 1 ∷ pos 2000 ∷ negℤ (pos 2000) ∷ negℤ (pos 7243) ∷ negℤ (pos 8046) ∷ pos 3152 ∷ pos 512 ∷ pos 9999 ∷ pos 0 ∷ pos 9000 ∷ pos 814 ∷ pos 2 ∷ negℤ (pos 55) ∷ pos 38 ∷ negℤ (pos 9) ∷ pos 0 ∷ []) request.Remote false false true false 0 165 (readings (negℤ (pos 1101)) (negℤ (pos 55)) (negℤ (pos 1046)) (pos 0)) 0 false true true (Two (negℤ (pos 1101)) (negℤ (pos 55)) (pos 20)) (At 648864) (pos 288615686)) (words 3072 42412 4403 4403 Ratio (negℤ (pos 1101)))
     -- write: HR limits RS anew, in Hold
     ∷ Writes (state 47606 (pos 3784 ∷ negℤ (pos 6468) ∷ pos 3161 ∷ negℤ (pos 9029) ∷ pos 64 ∷ pos 0 ∷ pos 9999 ∷ pos 1 ∷ pos 3784 ∷ negℤ (pos 6468) ∷ pos 3783 ∷ negℤ (pos 6468) ∷ pos 16 ∷ pos 2958 ∷ pos 9999 ∷ pos 0 ∷ pos 4096 ∷ pos 4381 ∷ pos 0 ∷ negℤ (pos 6468) ∷ pos 6077 ∷ pos 6 ∷ pos 0 ∷ []) request.Auto false true true false 0 0 (readings (pos 6131) (negℤ (pos 2332)) (pos 8463) (negℤ (pos 3954))) 66 true true true (Two (pos 6131) (negℤ (pos 2332)) (negℤ (pos 2332))) (At 580716) (pos 155424984)) 7 (pos 4299) (state 47606 (pos 3784 ∷ negℤ (pos 6468) ∷ pos 3161 ∷ negℤ (pos 9029) ∷ pos 64 ∷ pos 0 ∷ pos 4299 ∷ pos 1 ∷ pos 3784 ∷ negℤ (pos 6468) ∷ pos 3783 ∷ negℤ (pos 6468) ∷ pos 16 ∷ pos 2958 ∷ pos 9999 ∷ pos 0 ∷ pos 4096 ∷ pos 4381 ∷ pos 0 ∷ negℤ (pos 6468) ∷ pos 4299 ∷ pos 6 ∷ pos 0 ∷ []) request.Auto false true true false 0 0 (readings (pos 6131) (negℤ (pos 2332)) (pos 8463) (negℤ (pos 3954))) 66 true true true (Two (pos 6131) (negℤ (pos 2332)) (negℤ (pos 2332))) (At 580716) (pos 155424984)) acceptance
     -- write: 3H not above 3L: 7
