@@ -2,8 +2,8 @@
 use mathlib.Core.Path.{_≡_, refl, sym, ap, _∙_}
 use mathlib.Core.Bool.{Bool, true, false}
 use Prim.Native.Nat.{ℕ, zero, suc, _+_, _-_, _*_, _/_, _%_, _≤_, _<_, zero-le}
-use native.Mathlib.Nat.{mul-le-mul-left, zero-div, zero-mod, div-eq-of-lt-le, div-le-self, mul-mod-left, mul-div-cancel}
-use native.Mathlib.Omega.{arith}
+use native.Mathlib.Nat.{mul-le-mul-left, mul-le-mul-right, zero-div, zero-mod, div-eq-of-lt-le, div-le-self, mul-mod-left, mul-div-cancel}
+use native.Mathlib.Omega.{arith, by-contra}
 use lib.IntN.{ℤ, pos, negsuc, negℤ, natAbs, _-ℤ_, _*ℤ_}
 use borrow.Author.Tests.{lt-ltb, le-ltb}
 use Rattle.integers.specs.Operations.{difference, negation}
@@ -22,6 +22,10 @@ module _ (n d : ℕ) (some : 0 < d) where
   halfEven-most =
       halfEven-by n d some (λ r. r ≤ n + 1) (λ l. omega (arith, div-le-self n d)) (λ h. omega (arith, div-le-self n d))
       (λ e. omega (arith, div-le-self n d))
+
+  pub halfEven-within : (most : ℕ) → n ≤ most * d → halfEven n d ≤ most
+  halfEven-within most h =
+      by-contra (halfEven n d) most (λ l. absurd (omega (arith, some, halfEven-nearest n d some, mul-le-mul-right d l)))
 
   -- ---- the tests as the code makes them: the remainder against what it lacks of d
 

@@ -1,11 +1,11 @@
 // Document 01's scaling of samples: a channel's range, the root of channel 1, and the quotients of a ratio setpoint.
 ghost use mathlib.Core.Path.{_≡_};
 ghost use Prim.Native.Nat.{_≤_};
-ghost use Rattle.integers.specs.Rounding.{halfEven};
-ghost use Rattle.integers.specs.Sign.{fromSign, isNegative};
+ghost use lib.IntN.{pos, _*ℤ_};
+ghost use Rattle.integers.specs.Rounding.{nearestEven};
 ghost use Rattle.scaling.specs.Scale.{scaled, ChannelRange};
 ghost use Rattle.scaling.specs.Root.{rootOf};
-ghost use Rattle.scaling.specs.Ratio.{ratioQuotient, inverseQuotient, RatioRange};
+ghost use Rattle.scaling.specs.Ratio.{ratioQuotient, inverseQuotient, RatioRange, QuotientRange};
 
 mod roots;
 
@@ -27,22 +27,23 @@ pub fn root(sample: u16) -> u16
     roots::entry(sample)
 }
 
-// n / d nearest, halves to even, with the sign of q. Only magnitudes far below the type's end are asked for.
-fn with_sign(q: i64, n: u64, d: u64) -> i64
-    requires { ⌜ (n ≤ 100000000) × (1 ≤ d) ⌝ }
-    ensures { λ r. ⌜ r ≡ fromSign (isNegative q) (halfEven n d) ⌝ }
+// q × m / d, nearest, halves to even, of numbers as a ratio has them. The contract rules out a half that goes away from
+// zero, or toward it, whatever its neighbours are.
+fn quotient(q: i64, m: u64, d: u64) -> i64
+    requires { ⌜ QuotientRange q m d ⌝ }
+    ensures { λ r. ⌜ r ≡ nearestEven (q *ℤ pos m) d ⌝ }
 {
-    let size = integers::nearest_even(n, d);
+    let size = integers::nearest_even(integers::magnitude(q) * m, d);
     integers::signed(integers::negative(q), size)
 }
 
-// 100 × q / s, nearest, halves to even. The contract rules out a half that goes away from zero, or toward it, whatever
-// its neighbours are.
+// 100 × q / s, nearest, halves to even. The contract rules out what that of `quotient` does, and the factor and the
+// divisor exchanged.
 pub fn ratio(q: i64, s: u64) -> i64
     requires { ⌜ RatioRange q s ⌝ }
     ensures { λ r. ⌜ r ≡ ratioQuotient q s ⌝ }
 {
-    with_sign(q, 100 * integers::magnitude(q), s)
+    quotient(q, 100, s)
 }
 
 // q × s / 100, nearest, halves to even: the quotient with S2.3 ON. The contract rules out what that of `ratio` does.
@@ -50,5 +51,5 @@ pub fn inverse_ratio(q: i64, s: u64) -> i64
     requires { ⌜ RatioRange q s ⌝ }
     ensures { λ r. ⌜ r ≡ inverseQuotient q s ⌝ }
 {
-    with_sign(q, integers::magnitude(q) * s, 100)
+    quotient(q, s, 100)
 }
