@@ -64,13 +64,13 @@ def before_the_cut(program):
     """
     console = Dryer(program, 0, BEFORE)
     for number, value in SETTINGS.items():
-        console.ask(f"write {number} {value}")
+        console.ask(f"write engineer {number} {value}")
     console.scan(4800, A_BUTTON)
     dry(console, range(4800, 5200, 10))
     older = standing(console), console.save()
-    console.ask(f"write {SL} 700")
-    console.ask(f"write {XP} 350")
-    console.ask(f"write {TI} 1200")
+    console.ask(f"write operator {SL} 700")
+    console.ask(f"write engineer {XP} 350")
+    console.ask(f"write engineer {TI} 1200")
     dry(console, range(5200, 5600, 10))
     newer, sheet = (standing(console), console.save()), console.sheet()
     console.end()
@@ -127,8 +127,8 @@ def main():
     print("\n".join(f"  {count:4}  {name}" for name, count in counts.items()))
     console, answer = after_the_cut(program, 0, mixture)
     show(f"one with the fault: {answer}", standing(console))
-    console.ask(f"write {MD} {MANUAL}")
-    show("MD 2000h is written", standing(console))
+    console.ask(f"write operator {MD} {MANUAL}")
+    show("the operator writes MD 2000h", standing(console))
     return 0 if survived and not counts["UNSEEN by the sumcheck"] else 1
 
 

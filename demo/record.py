@@ -23,14 +23,15 @@ HEADS = {
 # The leading dryer, call by call: what the console is given. Text behind a # is a comment. Made with a simple drum, not
 # measured. PV is in tenths of a degree; that of each scan's answer feeds channel 2 of the following dryer, in
 # following.txt. A scan is PINS S1 S2 S3 BUTTONS SENSORS MS; pins: 128 Hold at 15 V, 64 Track, 1 unit address; buttons:
-# 2 A; MS: the host's milliseconds, 36 from scan to scan. Parameters: 1 1H, 2 1L, 9 HS, 17 XP, 18 TI, 20 SL, 29 SP.
+# 2 A; MS: the host's milliseconds, 36 from scan to scan. A write names its writer: the engineer sets the dryer up, the
+# operator writes the setpoint. Parameters: 1 1H, 2 1L, 9 HS, 17 XP, 18 TI, 20 SL, 29 SP.
 """,
     FOLLOWING: """\
 # The following dryer, call by call: what the console is given. Text behind a # is a comment. Made with a simple drum,
 # not measured. Sample 2 of each scan is the sample that gives the PV of the leading dryer, leading.txt, in the same
 # scan. Pins: 128 Hold at 15 V, 64 Track, 32 Remote, 2 unit address; buttons: 64 Raise, 8 SP, 4 R. The last number is
-# that of another host's milliseconds, 36 from scan to scan too. Parameters: 1 1H, 3 2H, 7 HR, 8 LR, 9 HS, 17 XP, 18 TI,
-# 20 SL, 21 RS, 22 RB, 29 SP.
+# that of another host's milliseconds, 36 from scan to scan too. A write names its writer. Parameters: 1 1H, 3 2H, 7 HR,
+# 8 LR, 9 HS, 17 XP, 18 TI, 20 SL, 21 RS, 22 RB, 29 SP.
 """}
 SCANS, DISPLAY_EVERY, APART = 120, 6, 36  # the last in milliseconds
 RANGE = 1200            # 0 to 120.0 degrees on channels 1 and 2
@@ -57,7 +58,7 @@ class Dryer:
 
     def write(self, **parameters):
         for name, value in parameters.items():
-            self.call("write", NUMBER[name], value)
+            self.call("write", "engineer", NUMBER[name], value)
 
     def read(self, name):
         self.call("read", NUMBER[name])
@@ -102,7 +103,7 @@ def lead(dryer, number):
     if number in LEADING_WRITES:
         note, parameters = LEADING_WRITES[number]
         (name, value), = parameters.items()
-        dryer.call("write", NUMBER[name], value, note=note)
+        dryer.call("write", "operator", NUMBER[name], value, note=note)
     if number <= 3:
         PV = dryer.scan(TRACK | 1, third=4500, note="Track: the output follows the preset on channel 3" if number == 1 else "")
     else:
@@ -118,11 +119,11 @@ def before_scan(dryer, number):
         dryer.call("fresh", SW, note=note)
         dryer.write(channel_1H=RANGE, channel_2H=RANGE, HS=900, XP=250, TI=4, LR=50, HR=200, **parameters)
     if number == SL_REFUSED:
-        dryer.call("write", NUMBER["SL"], 500, note="SL can't be written in Ratio")
+        dryer.call("write", "operator", NUMBER["SL"], 500, note="SL can't be written in Ratio")
     if number == SL_WRITTEN:
-        dryer.call("write", NUMBER["SL"], 480, note="SL can be written in Fall-back: 48 degrees")
+        dryer.call("write", "operator", NUMBER["SL"], 480, note="SL can be written in Fall-back: 48 degrees")
     if number == RS_WRITTEN:
-        dryer.call("write", NUMBER["RS"], 110, note="RS is written: 1.10")
+        dryer.call("write", "operator", NUMBER["RS"], 110, note="RS is written: 1.10")
         dryer.read("RS")
 
 

@@ -33,7 +33,8 @@ def root_scans(generator):
     lines = []
     for _ in range(STARTS):
         low, high = generator.randint(-9999, 0), generator.randint(1, 9999)
-        lines += [f"fresh {generator.getrandbits(16)}", "write 24 4096", "write 23 1", f"write 2 {low}", f"write 1 {high}"]
+        writes = ((24, 4096), (23, 1), (2, low), (1, high))
+        lines += [f"fresh {generator.getrandbits(16)}", *(f"write engineer {number} {value}" for number, value in writes)]
         beginning = generator.getrandbits(40)
         for number in range(SCANS_A_START):
             samples = " ".join(str(generator.randrange(10001)) for _ in range(3))

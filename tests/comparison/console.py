@@ -23,6 +23,7 @@ from tests.coverage.images import ImageCoverage
 from tests.coverage.parameters import ParameterCoverage
 from tests.coverage.power_cuts import PowerCutCoverage
 from tests.coverage.ratio_halves import RatioHalfCoverage
+from tests.coverage.rights import RightsCoverage
 from tests.coverage.roots import RootCoverage
 from tests.coverage.scans import ScanCoverage
 from tests.coverage.sheets import SheetCoverage
@@ -36,23 +37,24 @@ from tests.lists import images as image_lists
 from tests.lists import parameters as parameter_lists
 from tests.lists import ratio_halves
 from tests.lists import restarts as restart_lists
+from tests.lists import rights as rights_lists
 from tests.lists import roots as root_lists
 from tests.lists import scans as scan_lists
 from tests.lists import sheets as sheet_lists
 from tests.lists import terminal as terminal_lists
 from tests.lists import writes as write_lists
-from tests.lists.line_forms import LINE_ERRORS
+from tests.lists.line_errors import LINE_ERRORS
 from tests.model.lines import call_of, line_of
 from tests.model.pair import Pair, answers_of
 
 DEFAULT_SEED = 6360
 INPUTS, AT_ONCE = 4, 2     # the lists are shared out among so many runs of the program, so many of them at once
 COVERAGES = (ScanCoverage, ParameterCoverage, WriteCoverage, ImageCoverage, PowerCutCoverage, SheetCoverage, ClockCoverage,
-             RootCoverage, TerminalCoverage, RatioHalfCoverage)
+             RootCoverage, TerminalCoverage, RatioHalfCoverage, RightsCoverage)
 KINDS = ((scan_lists, ScanCoverage), (parameter_lists, ParameterCoverage), (write_lists, WriteCoverage), (image_lists, ImageCoverage),
          (restart_lists, ImageCoverage), (power_cuts, PowerCutCoverage), (sheet_lists, SheetCoverage),
          (clock_lists, ClockCoverage), (root_lists, RootCoverage), (terminal_lists, TerminalCoverage),
-         (ratio_halves, RatioHalfCoverage))
+         (ratio_halves, RatioHalfCoverage), (rights_lists, RightsCoverage))
 FAULTS_PRINTED = 10
 
 

@@ -1,5 +1,5 @@
-"""Compare the answers of `handheld`, line by line, with the model: lines as a mechanic types them, and lines that bring
-the plant's pins.
+"""Compare the answers of `handheld`, line by line, with the model: lines as a mechanic types them, lines that bring the
+plant's pins, and lines that tell who types.
 
 Usage: python3 -B -m tests.comparison.handheld [--seed N] PROGRAM
 
@@ -9,38 +9,37 @@ of the buffer.
 """
 
 import argparse
-import collections
 import random
 import sys
 
 from demo.visit import read_visit
 from tests import ROOT
 from tests.comparison.program import PROGRAM_SECONDS, run, run_in_pieces
+from tests.coverage.handheld import LEAST, counts_of
 from tests.gate import tally
 from tests.lists import handheld as handheld_lists
 from tests.lists.terminal import TerminalSource
 from tests.model import loop
-from tests.model.handheld import answer_typed, answers_to, pins_in, typed_lines
+from tests.model.handheld import answers_to, typed_lines
+from tests.model.rights import WRITERS
 from tests.model.state import Stored
-from tests.model.terminal import NUMBER_OF, answer_line
-from tests.model.words import mode_of
+from tests.model.terminal import answer_line
 
 DEFAULT_SEED = 6360
 BUFFERS = 3000
-DIFFERENCES_PRINTED, LINES_BEFORE = 5, 10
-# By pins from one mode to another or the same: a request doesn't change, and so from Manual and Auto three each, from
-# Remote and Fall-back four each, from Hold and Track to all six
-CHANGES = "kinds of change by pins"
-# Worked by hand, from the controller that is fresh with SW 0
+DIFFERENCES_PRINTED, LINES_BEFORE, COUNTS_PRINTED = 5, 10, 40
+# Worked by hand, from the controller that is fresh with SW 0 and the operator
+WHO = b"who engineer\n"
 WHOLE_INPUTS = (
     (b"", b""), (b"\n", b"? 17 no mnemonic\n"), (b"\n\n", b"? 17 no mnemonic\n" * 2), (b"XP", b"XP>1000\n"), (b"XP\n", b"XP>1000\n"),
     (b"XP\nXP", b"XP>1000\nXP>1000\n"), (b"X\nP", b"? 17 no mnemonic\n" * 2), (b"XP\r\n", b"? 18 no value\n"),
     (b"\r", b"? 17 no mnemonic\n"), (b"XP\0", b"? 18 no value\n"),
-    (b"\0", b"? 17 no mnemonic\n"), (b"\xff", b"? 17 no mnemonic\n"), (b"XP>00500\nXP", b"XP>500\nXP>500\n"),
-    (b"xp\nXP>\nXP>0\nPV>1\n1L>1000\nMD>0000\nMD>0800\nSL>1001\n",
-     b"? 17 no mnemonic\n? 18 no value\n? 6 out of range\n? 5 read only\n? 7 pair out of order\n? 9 request bits\n? 10 Remote pin\n"
+    (b"\0", b"? 17 no mnemonic\n"), (b"\xff", b"? 17 no mnemonic\n"), (WHO + b"XP>00500\nXP", b"ok\nXP>500\nXP>500\n"),
+    (WHO + b"xp\nXP>\nXP>0\nPV>1\n1L>1000\nMD>0000\nMD>0800\nSL>1001\n",
+     b"ok\n? 17 no mnemonic\n? 18 no value\n? 6 out of range\n? 5 read only\n? 7 pair out of order\n? 9 request bits\n? 10 Remote pin\n"
      b"? 6 out of range\n"),
-    (b"MD\nMD>1010\nDS>00C0\nSW\nSW>0001\nSW>1\nII\n", b"MD>2000\nMD>1010\nDS>80FF\nSW>0000\n? 5 read only\n? 18 no value\nII>3608\n"),
+    (b"who engineer\nMD\nMD>1010\nDS>00C0\nSW\nSW>0001\nSW>1\nII\n",
+     b"ok\nMD>2000\nMD>1010\nDS>80FF\nSW>0000\n? 5 read only\n? 18 no value\nII>3608\n"),
     *((b"XP>".ljust(length, b"0") + end, b"? 18 no value\n") for length in (300, 301, 302, 5000) for end in (b"", b"\n")),
     *((b"xp".ljust(length, b"0") + b"\nXP", b"? 17 no mnemonic\nXP>1000\n") for length in (300, 301, 302, 5000)),
     (b"XP>5" + b" " * 296 + b"\nXP", b"? 18 no value\nXP>1000\n"), (b"XP>5" + b" " * 297 + b"\nXP", b"? 18 no value\nXP>1000\n"),
@@ -56,20 +55,29 @@ WHOLE_INPUTS = (
      b"PV>0\nok\nMD>4400\nPV>500\nok\nMD>2400\nMD>0C00\nDS>B02F\n? 8 setpoint\n? 6 out of range\nok\nMD>1000\nSL>5\n"
      b"? 10 Remote pin\nok\n? 10 Remote pin\n"),
     # In Auto PV goes from 500 to 250 of 500: 10,000,000 x 250 / (1000 x 500) units.  Track takes sample 3
-    (b"MD>1000\npins 128\n1H>500\nOP\npins 128\nOP\npins 128\nOP\npins 192\nOP\n",
-     b"MD>1000\nok\n1H>500\nOP>0\nok\nOP>5000\nok\nOP>5000\nok\nOP>0\n"),
+    (WHO + b"MD>1000\npins 128\n1H>500\nOP\npins 128\nOP\npins 128\nOP\npins 192\nOP\n",
+     b"ok\nMD>1000\nok\n1H>500\nOP>0\nok\nOP>5000\nok\nOP>5000\nok\nOP>0\n"),
     # In Auto 10,000,000 x 500 x 9 / (1000 x 1000 x 25 x 100) units in each scan
-    (b"SL>1000\nTI>100\nMD>1000\n" + b"pins 128\nOP\n" * 3 + b"pins 128\n" * 97 + b"OP\n",
-     b"SL>1000\nTI>100\nMD>1000\nok\nOP>18\nok\nOP>36\nok\nOP>54\n" + b"ok\n" * 97 + b"OP>1800\n"),
+    (WHO + b"SL>1000\nTI>100\nMD>1000\n" + b"pins 128\nOP\n" * 3 + b"pins 128\n" * 97 + b"OP\n",
+     b"ok\nSL>1000\nTI>100\nMD>1000\nok\nOP>18\nok\nOP>36\nok\nOP>54\n" + b"ok\n" * 97 + b"OP>1800\n"),
+    # Document 02, request 6: the operator at the start; 18 goes before 20, and 20 before 5; reading stays free
+    (b"XP>500\nXP\nXP>\nPV>1\nSL>5\nRS>7\nMD>1000\nDS>00C0\nRB>1\nIC>1\n",
+     b"? 20 no right\nXP>1000\n? 18 no value\n? 20 no right\nSL>5\nRS>7\nMD>1000\nDS>80FF\n? 20 no right\n? 20 no right\n"),
+    # 19 goes before 20 and 5, not before 17 and 18; pins 90h have the Computer pin, and other pins don't bring it
+    (b"who computer\nSL>5\nXP>5\nPV>1\nSL\nxp\nSL>\npins 144\nSL>5\nRB>5\nXP>5\nPV>1\nSL>1001\npins 128\nRB>6\npins 239\nRB>6\nRB\n"
+     b"pins 16\nRB>6\n",
+     b"ok\n? 19 Computer pin\n? 19 Computer pin\n? 19 Computer pin\nSL>0\n? 17 no mnemonic\n? 18 no value\nok\nSL>5\nRB>5\n"
+     b"? 20 no right\n? 20 no right\n? 6 out of range\nok\n? 19 Computer pin\nok\n? 19 Computer pin\nRB>5\nok\nRB>6\n"),
+    # Each behind the others; pins leave who types, and who types leaves the pins
+    (b"who engineer\nXP>5\nwho operator\nXP>6\npins 144\nXP>6\nwho computer\nXP>6\nRB>6\nwho engineer\npins 0\nXP>6\n"
+     b"who computer\nRB\nRB>7\n",
+     b"ok\nXP>5\nok\n? 20 no right\nok\n? 20 no right\nok\n? 20 no right\nRB>6\nok\nok\nXP>6\nok\nRB>6\n? 19 Computer pin\n"),
+    *((line + b"\nXP>5", b"? 17 no mnemonic\n? 20 no right\n") for line in (
+        b"who", b"who ", b"who Engineer", b"who  engineer", b"who engineer ", b" who engineer", b"who engineers", b"who enginee",
+        b"who engineer\r", b"who engineer\0", b"WHO engineer", b"Who engineer", b"who\tengineer", b"whoengineer", b"who>engineer",
+        b"who engineer engineer", b"who engineer" + b" " * 400, b"engineer", b"who 1", b"who mechanic")),
+    (b"who engineer", b"ok\n"), (b"who engineer\nXP>5", b"ok\nXP>5\n"), (b"who engineer\n\nXP>5\n", b"ok\n? 17 no mnemonic\nXP>5\n"),
 )
-# How often each must be met at least, in all lists
-LEAST = {"reply": 2500, **{f"? {number}": 25 for number in (5, 6, 7, 8, 9, 10)}, "? 17": 1500, "? 18": 2000, "empty": 20,
-         "carriage return": 50, "NUL": 50, "above 127": 200, "more than 300 bytes": 60, "more than 300 bytes, a mnemonic": 100,
-         "of 300 bytes": 5, "of 301 bytes": 5, "sent back": 300, "pins": 3000, "nearly pins": 4000,
-         **{f"in {mode}": 250 for mode in ("Hold", "Track", "Manual", "Auto", "Remote", "Fall-back")}, "pins that move the output": 1000,
-         "pins, earlier PV or SP matters": 40, CHANGES: 26}
-
-
 def wrong_buffers(generator):
     """Lines after which the model's buffer isn't the reply and the bytes behind it as they were, and how many were
     looked at; a refused line leaves controller and buffer.
@@ -79,51 +87,12 @@ def wrong_buffers(generator):
     for _ in range(BUFFERS):
         _, line, length = source.any_line()
         buffer, before = generator.randbytes(generator.choice((length, 8, 9, 10, 300))), source.controller
-        source.controller, answer, after = answer_line(before, line, buffer, Stored)
+        source.controller, answer, after = answer_line(before, generator.choice(("engineer", *WRITERS)), line, buffer, Stored)
         reply = answer[2] if answer[0] == "reply" else b""
         is_right = len(after) == len(buffer) and after.startswith(reply) and after[len(reply):] == buffer[len(reply):]
         if not is_right or not reply and source.controller != before or reply and (len(buffer) < 9 or answer[1] != len(reply)):
             wrong.append(f"the model is wrong: {line!r} leaves {after!r} of {buffer!r}")
     return wrong, BUFFERS
-
-
-def met_by(line, answer, reply):
-    """What a line and its answer meet; the reply is the last one before."""
-    yield "reply" if b">" in answer else " ".join(answer.decode("ascii").split()[:2])
-    yield from (name for name, byte in (("carriage return", b"\r"), ("NUL", b"\0")) if byte in line)
-    if line and max(line) > 127:
-        yield "above 127"
-    if len(line) > 300:
-        yield "more than 300 bytes, a mnemonic" if line[:2] in NUMBER_OF else "more than 300 bytes"
-    if len(line) in (0, 300, 301):
-        yield f"of {len(line)} bytes" if line else "empty"
-    if line == reply:
-        yield "sent back"
-
-
-def met_by_pins(before, line, after):
-    """What a line that brings pins meets, by the controllers before and after it; and one that nearly does."""
-    if pins_in(line) is None:
-        yield from ("nearly pins",) if line.lower().strip().startswith(b"pins") else ()
-        return
-    yield "pins"
-    yield mode_of(before), mode_of(after)
-    if before.output != after.output:
-        yield "pins that move the output"
-    if answer_typed(before._replace(**loop.NOTHING_EARLIER), line)[0].output != after.output:
-        yield "pins, earlier PV or SP matters"
-
-
-def met_in(lines):
-    """What the lines of a list meet in the model."""
-    controller, reply = loop.fresh(0, Stored), None
-    for line in lines:
-        before = controller
-        controller, answer = answer_typed(before, line)
-        yield from (*met_by(line, answer, reply), *met_by_pins(before, line, controller))
-        if line[:2] in NUMBER_OF:
-            yield f"in {mode_of(before)}"
-        reply = answer if b">" in answer else reply
 
 
 def compare(program, kind, lines):
@@ -171,15 +140,15 @@ def main():
     print("seed", given.seed, flush=True)
     generator = random.Random(given.seed)
     lists = handheld_lists.all_lists(generator)
-    counts = collections.Counter(met for _, lines in lists for met in met_in(lines))
-    counts[CHANGES] = sum(isinstance(met, tuple) for met in counts)
+    counts = counts_of(lines for _, lines in lists)
     some = [*lists[0][1][:300], *dict(lists)["in_every_mode"][:100]]
     found = [wrong_buffers(generator), wrong_whole_inputs(given.program, some)]
     found += [compare(given.program, kind, lines) for kind, lines in lists]
     too_few = [f"too few: {name}: {counts[name]}, at least {least} are expected" for name, least in LEAST.items() if counts[name] < least]
     found.append((too_few, len(LEAST)))
     faults, looked = [fault for each, _ in found for fault in each], sum(count for _, count in found)
-    print(f"{sum(len(lines) for _, lines in lists)} typed lines: " + ", ".join(f"{name} {counts[name]}" for name in LEAST))
+    print(f"{sum(len(lines) for _, lines in lists)} typed lines, {len(LEAST)} things to be met:",
+          ", ".join(f"{name} {counts[name]}" for name in [*LEAST][:COUNTS_PRINTED]))
     print("\n".join(faults[:DIFFERENCES_PRINTED]) or "every answer is as expected")
     return tally.close(looked - len(faults), len(faults))
 

@@ -7,7 +7,7 @@ import itertools
 import time
 
 from tests.lists.host_clock import MOST, USUAL
-from tests.lists.line_forms import with_number
+from tests.lists.line_parts import with_number
 from tests.model import loop
 from tests.model.images import IMAGE_BYTES, LAYOUT, TAGS, image_of
 from tests.model.lines import RANGES, call_of, line_of

@@ -17,11 +17,17 @@ NO_READINGS = ("18446744073709551616", "99999999999999999999", "0000000000000000
                "36ms")
 # XP of a fresh controller, asked for in twelve bytes, and what is no such line
 XP_LINE, XP_REPLY = typed("XP", "XP>1000")
-NO_LINES = ("line", "line 5850", "line 12", "line -", "line - -", "line 5850 12 12", "line 58 50 12", "line 12 5850", "line 585 12",
-            "line 58505 12", "line 5850 301", "line 5850 -1", "line 5850 65548", "line 5850 +12", "line 5850 12h", "line 5850 x",
-            "line XP 12", "line 0x5850 12", "line 5850h 12", "line -5850 12", "line 5850- 12", "line 585G 12", "line 58g0 12", "line -- 12",
-            "Line 5850 12", "LINE 5850 12", "line5850 12", "line 5850\t12", "line 5850 12\r", "line\t5850 12", "lines 5850 12",
-            "lin 5850 12", f"line {'30' * 301} 12", f"line {'30' * 340} 12", f"line 5850 {'0' * 19}")
+NO_LINES = tuple(text.replace("@", "engineer") for text in (
+    "line", "line @", "line @ 5850", "line @ 12", "line @ -", "line @ - -", "line @ 5850 12 12", "line @ 58 50 12", "line @ 12 5850",
+    "line @ 585 12", "line @ 58505 12", "line @ 5850 301", "line @ 5850 -1", "line @ 5850 65548", "line @ 5850 +12", "line @ 5850 12h",
+    "line @ 5850 x", "line @ XP 12", "line @ 0x5850 12", "line @ 5850h 12", "line @ -5850 12", "line @ 5850- 12", "line @ 585G 12",
+    "line @ 58g0 12", "line @ -- 12", "Line @ 5850 12", "LINE @ 5850 12", "line@ 5850 12", "line @ 5850\t12", "line @ 5850 12\r",
+    "line\t@ 5850 12", "line @\t5850 12", "lines @ 5850 12", "lin @ 5850 12", f"line @ {'30' * 301} 12", f"line @ {'30' * 340} 12",
+    f"line @ 5850 {'0' * 19}"))
+# In place of a writer, or of a blank behind one
+NO_WRITERS = ("", "Engineer", "ENGINEER", "engineeR", "engineers", "enginee", "eng", "e", "Operator", "operators", "operato", "Computer",
+              "computers", "compute", "mechanic", "engineer,", "engineer\t", "engineer\0", "engineer operator", "engineer engineer", "0",
+              "1", "-", "who", "who engineer", "20", "auto")
 BY_HAND = (
     ("no input", "", ""),
     ("no newline at the end", "fresh 0", "ok\n"),
@@ -45,17 +51,37 @@ BY_HAND = (
     ("one beyond the greatest", "fresh 65536\nscan 256 0 0 0 0 0 0\nscan 0 65536 0 0 0 0 0\n"
      "scan 0 0 0 0 0 0 18446744073709551616\nscan 0 65535 0 0 0 0 0\n",
      "error\n" * 4 + "refused 1\n"),
-    ("a write and reads", "write 20 5\nread 20\nread 29\n", "ok\nvalue 5\nvalue 0\n"),
-    ("a value below zero", "write 22 -5\nread 22\nwrite 022 -0006\nread 0022", "ok\nvalue -5\nok\nvalue -6\n"),
-    ("a fresh start ends what was written", "write 20 5\nfresh 0\nread 20\n", "ok\nok\nvalue 0\n"),
-    ("numbers outside 1 to 32", "write 0 0\nwrite 33 0\nwrite -5 0\nread 0\nread -1\nread 33\n", "refused 4\n" * 6),
-    ("the farthest numbers", f"read {'9' * 18}\nread -{'9' * 18}\nwrite {'9' * 18} 1\nread {'9' * 19}\nwrite -{'9' * 19} 1\n",
-     "refused 4\n" * 3 + "error\n" * 2),
-    ("the ends of 32 bits", "write 22 2147483647\nwrite 22 2147483648\nwrite 22 -2147483648\nwrite 22 -2147483649\nwrite 0 2147483648\n",
+    ("a write and reads", "write engineer 20 5\nread 20\nread 29\n", "ok\nvalue 5\nvalue 0\n"),
+    ("a value below zero", "write engineer 22 -5\nread 22\nwrite  engineer 022 -0006 \nread 0022", "ok\nvalue -5\nok\nvalue -6\n"),
+    ("a fresh start ends what was written", "write engineer 20 5\nfresh 0\nread 20\n", "ok\nok\nvalue 0\n"),
+    ("numbers outside 1 to 32", "write engineer 0 0\nwrite engineer 33 0\nwrite engineer -5 0\nread 0\nread -1\nread 33\n",
+     "refused 4\n" * 6),
+    ("the farthest numbers", f"read {'9' * 18}\nread -{'9' * 18}\nwrite engineer {'9' * 18} 1\naccess engineer -{'9' * 18}\n"
+     f"read {'9' * 19}\nwrite engineer -{'9' * 19} 1\naccess engineer {'9' * 19}\n", "refused 4\n" * 4 + "error\n" * 3),
+    ("the ends of 32 bits", "".join(f"write engineer {each}\n" for each in (
+        "22 2147483647", "22 2147483648", "22 -2147483648", "22 -2147483649", "0 2147483648")),
      "refused 6\nerror\nrefused 6\nerror\nerror\n"),
-    ("no writes and no reads", "write\nread\nwrite 20\nwrite 20 5 5\nread 20 5\nread\t20\nwrite 20 +5\nWrite 20 5\nwrite20 5\nread 20\n",
-     "error\n" * 9 + "value 0\n"),
-    ("a save, and a restart from it", f"save 137\nwrite 20 5\nrestart {IMAGE}\nread 20\nrestart {IMAGE.lower()}\n",
+    ("no writes and no reads", "write\nread\nwrite engineer\nwrite engineer 20\nwrite 20 5\nwrite engineer 20 5 5\nread 20 5\nread\t20\n"
+     "write engineer 20 +5\nWrite engineer 20 5\nwriteengineer 20 5\nwrite engineer20 5\nwrite 20 engineer 5\nread engineer 20\nread 20\n",
+     "error\n" * 14 + "value 0\n"),
+    # Document 02, request 6; pins 80h at the start, 90h with the Computer pin
+    ("each writer before any scan", "".join(f"write {writer} {number} 5\n" for writer in ("operator", "engineer", "computer")
+                                            for number in (20, 17, 30, 33)) + "read 20\nread 17\n",
+     "ok\nrefused 20\nrefused 20\nrefused 4\nok\nok\nrefused 5\nrefused 4\nrefused 19\nrefused 19\nrefused 19\nrefused 4\n"
+     "value 5\nvalue 5\n"),
+    ("the computer with its pin", "scan 144 0 0 0 0 0 36\n" + "".join(f"write computer {number} 5\n" for number in (20, 22, 17, 30, 33))
+     + "read 20\nread 22\nread 17\n",
+     "scan 8192 36895 0 0 manual 0\nok\nok\nrefused 20\nrefused 20\nrefused 4\nvalue 5\nvalue 5\nvalue 1000\n"),
+    ("access", "".join(f"access {writer} {number}\n" for writer in ("operator", "engineer", "computer") for number in (20, 17, 30, 33))
+     + "  access   operator  0020 \naccess operator -20\naccess operator 276\nread 20\n",
+     "ok\nrefused 20\nrefused 20\nrefused 4\nok\nok\nrefused 5\nrefused 4\nrefused 19\nrefused 19\nrefused 19\nrefused 4\n"
+     "ok\nrefused 4\nrefused 4\nvalue 0\n"),
+    ("no writers", "".join(f"write {writer} 20 5\naccess {writer} 20\nline {writer} 5850 12\n" for writer in NO_WRITERS) + "read 20\n",
+     "error\n" * 3 * len(NO_WRITERS) + "value 0\n"),
+    ("no questions for access", "access\naccess operator\naccess 20\naccess 20 operator\naccess operator 20 5\naccess operator x\n"
+     "access operator +20\naccess operator 20.\nAccess operator 20\nacces operator 20\naccessoperator 20\naccess operator20\n"
+     "access\toperator 20\n", "error\n" * 13),
+    ("a save, and a restart from it", f"save 137\nwrite engineer 20 5\nrestart {IMAGE}\nread 20\nrestart {IMAGE.lower()}\n",
      f"image {IMAGE}\nok\nok\nvalue 0\nok\n"),
     ("the ends of a buffer's length", "save 136\nsave 0\nsave -0\nsave 300\nsave 0000137\nsave 301\nsave -1\nsave 65673\n",
      "refused 15\n" * 3 + f"image {IMAGE}\n" * 2 + "error\n" * 3),
@@ -99,7 +125,7 @@ BY_HAND = (
      f"{FIRST_ANSWER}\nrefused 1\nrefused 2\nrefused 3\nrefused 16\nrefused 16\nclock 36\n"),
     ("29 ms, then 30, 42 and 43", f"{FIRST_SCAN}\nscan 128 0 0 0 0 0 65\nscan 128 0 0 0 0 0 66\nscan 128 0 0 0 0 0 108\n"
      "scan 128 0 0 0 0 0 151\nclock\n", f"{FIRST_ANSWER}\nrefused 16\n" + f"{FIRST_ANSWER}\n" * 3 + "clock 151\n"),
-    ("the clock before any scan", "clock\nscan 0 10001 0 0 0 0 5\nclock\nwrite 20 5\nclock\n",
+    ("the clock before any scan", "clock\nscan 0 10001 0 0 0 0 5\nclock\nwrite engineer 20 5\nclock\n",
      "clock none\nrefused 1\nclock none\nok\nclock none\n"),
     ("the clock behind starts and restarts", f"{FIRST_SCAN}\nclock\nrestart -\nclock\nrestart {IMAGE}\nclock\n{FIRST_SCAN}\nclock\n"
      f"fresh 0\nclock\nscan 128 0 0 0 0 0 0\nclock\n",
@@ -112,12 +138,14 @@ BY_HAND = (
      f"{FIRST_ANSWER}\nclock 7\n{FIRST_ANSWER}\nclock 18446744073709551615\n"),
     ("no readings", "".join(f"scan 128 0 0 0 0 0 {reading}\n" for reading in NO_READINGS) + "clock\n",
      "error\n" * len(NO_READINGS) + "clock none\n"),
-    ("a line of the terminal, in other forms", f"{XP_LINE}\n  line   5850  0012 \nline 5850 12\nline 58503E30303530 300\n"
-     "line 58503e3135 9\nline 58503E35 000000000000000009\nread 17\n",
+    ("a line of the terminal, in other forms", f"{XP_LINE}\n  line   operator   5850  0012 \nline computer 5850 12\n"
+     "line engineer 58503E30303530 300\nline engineer 58503e3135 9\nline engineer 58503E35 000000000000000009\nread 17\n",
      f"{XP_REPLY}\n" * 3 + "reply 5 58503E3530\nreply 5 58503E3135\nreply 4 58503E35\nvalue 5\n"),
-    ("the ends of a reply's buffer", "line 5850 300\nline 5850 9\nline 5850 8\nline 5850 0\nline 5850 -0\nline - 0\nline - 300\n",
+    ("the ends of a reply's buffer", "".join(f"line engineer {each}\n" for each in (
+        "5850 300", "5850 9", "5850 8", "5850 0", "5850 -0", "- 0", "- 300")),
      f"{XP_REPLY}\n" * 2 + "refused 15\n" * 3 + "refused 17\n" * 2),
-    ("the longest lines of the terminal", f"line {'30' * 300} 12\nline 5850{'00' * 298} 0\nline 58503E{'30' * 297} 300\n",
+    ("the longest lines of the terminal", f"line engineer {'30' * 300} 12\nline engineer 5850{'00' * 298} 0\n"
+     f"line engineer 58503E{'30' * 297} 300\n",
      "refused 17\nrefused 18\nrefused 18\n"),
     ("no lines of the terminal", "".join(f"{line}\n" for line in NO_LINES) + f"{XP_LINE}\n", "error\n" * len(NO_LINES) + f"{XP_REPLY}\n"),
     ("no calls of the clock", "clock 0\nclock none\nclock -\nClock\nCLOCK\nclocks\ncloc\nclock\t\n clock \n",
@@ -147,11 +175,13 @@ def overlong():
 
 def cut_short(answers_of):
     """An input that ends after any byte of its last line; of an image after some bytes only."""
-    for text in ("fresh 1024\nscan 192 4990 20 5000 4 0 0\nscan 0160  1001 -0 070 66 03  000036", "write 22 -7\nwrite 0022  -2147483649",
-                 "write 22 -7\nread 0022", "write 22 -7\nsave  0000000137 ", f"write 22 -7\nrestart {IMAGE} ",
+    RB = "write engineer 22 -7\n"
+    for text in ("fresh 1024\nscan 192 4990 20 5000 4 0 0\nscan 0160  1001 -0 070 66 03  000036", f"{RB}write engineer 0022  -2147483649",
+                 f"{RB}write  computer 22  -5 ", f"{RB}access operator  0022 ", f"{RB}read 0022", f"{RB}save  0000000137 ",
+                 f"{RB}restart {IMAGE} ",
                  "sheet-feed ratio -7 1 9\nsheet-feed forced  -32768 65535 065535 ", "sheet-feed ratio -7 1 9\nsheet-last  ",
                  "sheet-feed ratio -7 1 9\nsheet-new ", "sheet-feed ratio -7 1 9\n sheet 0", "scan 128 0 0 0 0 0 9\nclock 9",
-                 "write 22 -7\nline 52423E2D30303939 0012 ", "write 22 -7\nline 5242  009", "write 22 -7\nline -  300"):
+                 f"{RB}line engineer 52423E2D30303939 0012 ", f"{RB}line operator 5242  009", f"{RB}line computer -  300"):
         first = text.index("\n") + 1
         lengths = range(first, len(text) + 1)
         for length in lengths if len(lengths) < 100 else (*lengths[:14], *lengths[14:-6:25], *lengths[-6:]):

@@ -89,7 +89,7 @@ class ClockCoverage(Coverage):
         name = "a scan" if answer[0] == "scan" else call[0]
         if answer[0] == "refused":
             name = f"{name} refused {answer[1]}" if name in ("scan", "restart") else f"a refused {name}"
-        self.previous, self.written = name, NAMES[call[1] - 1] if name == "write" else None
+        self.previous, self.written = name, NAMES[call[2] - 1] if name == "write" else None
 
     def scan(self, call, before, after, answer):
         """A scan, its distance from the last accepted reading, and what came of it."""

@@ -100,7 +100,7 @@ class ImageCoverage(Coverage):
             self.counts[f"{NAMES[call[1] - 1]} read behind a restart"] += 1
 
     def written(self, call, before, after, answer):
-        if before.memory_fault and call[1] == 24:
+        if before.memory_fault and call[2] == 24:
             self.counts[f"fault {'kept' if after.memory_fault else 'cleared'} by MD" if answer == ("ok",)
                         else f"MD refused {answer[1]} with the fault"] += 1
 

@@ -48,6 +48,8 @@ def least_counts():
     """The least count of each thing, by name."""
     least = {"lines": 300000, "reply": 100000, **{f"different {name}": count for name, count in DIFFERENT.items()}}
     least.update({f"refused {number}": 300 for number in (15, 17, 18, *range(5, 12))})
+    least.update({"engineer written": 30000, "operator written": 6000, "computer written": 2500, "operator refused 20": 1000,
+                  "computer refused 19": 1500, "computer refused 20": 300})
     least.update({f"{name} read": 100 for name in NAMES})
     least.update({f"{name} read in {mode}": 2 for name in NAMES for mode in MODES})
     least.update({f"{name} written": 80 for name in NAMES[:READ_ONLY[0] - 1]})
@@ -119,7 +121,7 @@ class TerminalCoverage(Coverage):
 
     def call(self, call, before, after, answer, pair):
         if call[0] == "line":
-            self.line(call[1], call[2], before[0], after[0], answer)
+            self.line(call, before[0], after[0], answer)
             return
         if call[0] == "save":
             self.count(f"image behind {self.previous}")
@@ -138,19 +140,21 @@ class TerminalCoverage(Coverage):
         if call[0] not in ("read", "save"):
             self.unwritten = None
 
-    def line(self, text, length, before, after, answer):
+    def line(self, call, before, after, answer):
+        _, writer, text, length = call
         number, value, is_refused = NUMBER_OF.get(text[:2]), value_in(text), answer[0] == "refused"
-        tests = [*self.tests(number, value, before)]
+        tests = [*self.tests(writer, number, value, before)]
         kind, way = "word" if text[:2] in WORDS else "decimal", "read" if value is None else "written"
         outcome = f"refused {tests[0]}" if tests else f"{kind} {way}"
         names = ["lines", f"line of {len(text)} bytes", f"refused {answer[1]}" if is_refused else "reply"]
         names += [f"buffer of {length}, {outcome}"] if length < 13 else []
         if length < 9:
-            place = sum(each > 16 for each in tests)
+            place = sum(each in (17, 18) for each in tests)
             tests[place:place] = [15]
         names += [f"refusals {' '.join(map(str, tests))}"] if len(tests) > 1 else []
         if number and tests[:1] not in ([18], [15]):
             names += self.named(NAMES[number - 1], text, value, before, answer, mode_of(before))
+            names += [f"{writer} {f'refused {answer[1]}' if is_refused else 'written'}"] if value is not None else []
         if not is_refused:
             names += replied(answer, length, value, mode_of(before))
             self.written(NAMES[number - 1], before, after)
@@ -161,14 +165,14 @@ class TerminalCoverage(Coverage):
         self.reply, self.was_saved = (self.reply, self.was_saved) if is_refused else (answer[2], False)
 
     @staticmethod
-    def tests(number, value, controller):
+    def tests(writer, number, value, controller):
         """The refusals that apply but for 15, in the order in which they are tested."""
         if number is None:
             yield 17
         if value is False:
             yield 18
         elif number and value is not None:
-            yield from refusals(controller, number, value)
+            yield from refusals(controller, writer, number, value)
 
     def differ(self, text, value):
         """Lines of which each different one counts."""
@@ -196,7 +200,7 @@ class TerminalCoverage(Coverage):
             names += [f"{name} refused 5, beyond every range"] if abs(value) > 65535 else []
         elif outcome == "written" and name in DECIMAL_PARAMETERS:
             names += decimal_forms(name, text[3:], value)
-        if text == self.reply and name in DECIMAL_PARAMETERS:
+        if text == self.reply and name in DECIMAL_PARAMETERS and outcome not in ("refused 19", "refused 20"):
             names += [f"{name} sent back", f"sent back in {mode}", *(["sent back behind an image"] if self.was_saved else [])]
             names += ["SL sent back, refused 8"] if name == "SL" and answer == ("refused", 8) else []
         return names

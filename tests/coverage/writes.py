@@ -21,6 +21,8 @@ def least_counts():
     """The least count of each thing, by name."""
     least = {"calls": 200000, "write": 90000, "read": 180000, "scan": 35000, "different MD words": 65536}
     least.update({f"refusals {several}": 4 for several in TOGETHER})
+    least.update({"engineer accepted": 25000, "operator accepted": 2500, "computer accepted": 1000, "operator refused 20": 300,
+                  "computer refused 19": 800, "computer refused 20": 100})
     least.update({f"{name} accepted": 300 for name in WRITABLE})
     least.update({f"{name} refused 6": 70 for name in WRITABLE})
     least.update({f"{name} {place}": 10 for name in WRITABLE for place in PLACES})
@@ -102,13 +104,13 @@ class WriteCoverage(Coverage):
             self.counts["read OP with a fraction"] += 1
 
     def written(self, call, before, after, answer):
-        _, number, value = call
+        _, writer, number, value = call
         outcome = "accepted" if answer == ("ok",) else f"refused {answer[1]}"
         if not 1 <= number <= 32:
             self.counts.update(kinds_of_number("write", number))
             return
         name, mode = NAMES[number - 1], mode_of(before)
-        names = [f"{name} {outcome}"]
+        names = [f"{name} {outcome}", f"{writer} {outcome}"]
         if number in READ_ONLY:
             self.count(*names)
             return
@@ -121,7 +123,7 @@ class WriteCoverage(Coverage):
             names.append(f"MD {outcome} in {mode}")
         names += about_partner(name, value, before.parameters)
         if outcome != "accepted":
-            names.append("refusals " + " ".join(map(str, refusals(before, number, value))))
+            names.append("refusals " + " ".join(map(str, refusals(before, writer, number, value))))
         names.append(f"write with {before.open_count} open scans before, {outcome.split()[0]}")
         self.count(*names)
         self.counts["different MD words"] = len(self.words)

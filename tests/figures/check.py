@@ -3,12 +3,14 @@
 from tests.figures import clock as clock_figures
 from tests.figures import images as image_figures
 from tests.figures import manual as manual_figures
+from tests.figures import rights as rights_figures
 from tests.figures import scans as scan_figures
 from tests.figures import sheets as sheet_figures
 from tests.figures import terminal as terminal_figures
 from tests.figures import writes as write_figures
 from tests.lists.host_clock import at_usual_steps
 from tests.lists.parameters import writes_of
+from tests.lists.writers import by_the_engineer
 from tests.model import loop
 from tests.model.lines import line_of, text_of
 from tests.model.state import Exact, Parameters, Stored
@@ -26,13 +28,15 @@ SCAN_WORDS = ("MD", "DS", "OP", "electrical", "mode", "PV")
 def calls_of(case):
     """A fresh start, the writes of what is set before, and the case's calls.
 
-    The memory fault, set alone, comes by a restart.  Scans that have no reading of their own are 36 ms apart.
+    The memory fault, set alone, comes by a restart.  Scans that have no reading of their own are 36 ms apart, and
+    writes that name no writer are the engineer's.
     """
     given = dict(case.set_before)
     if given == {"memory_fault": True}:
-        return [*at_usual_steps([("fresh", case.SW), image_figures.FAULT, *case.calls])]
+        return [*by_the_engineer(at_usual_steps([("fresh", case.SW), image_figures.FAULT, *case.calls]))]
     request, user_bits, power = given.pop("request", "M"), given.pop("user_bits", 0), given.pop("measured_power", False)
-    return [*at_usual_steps([("fresh", case.SW), *writes_of(Parameters(**given), request, user_bits, power), *case.calls])]
+    writes = writes_of(Parameters(**given), request, user_bits, power)
+    return [*by_the_engineer(at_usual_steps([("fresh", case.SW), *writes, *case.calls]))]
 
 
 def outcome(case, arithmetic):
@@ -113,7 +117,7 @@ def all_lines():
     """
     for case in CASES:
         yield from ((case.name, *line) for line in lines_of(case))
-    for name, steps in (*manual_figures.FIGURES, *sheet_figures.FIGURES, *terminal_figures.FIGURES):
+    for name, steps in (*manual_figures.FIGURES, *sheet_figures.FIGURES, *terminal_figures.FIGURES, *rights_figures.FIGURES):
         yield from ((name, *line) for line in timed((("fresh 0", "ok"), *steps)))
 
 

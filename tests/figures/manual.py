@@ -9,7 +9,7 @@ from tests.model.table import NUMBER
 
 
 def write(name, value, answer=None):
-    return f"write {NUMBER[name]} {value}", answer
+    return f"write engineer {NUMBER[name]} {value}", answer
 
 
 def read(name, value):

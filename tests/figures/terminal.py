@@ -19,10 +19,10 @@ NO_VALUES = ("SW>1", "MD>100", "MD>01000", "MD>1a00", "DS>00c0", "MD>-100", "II>
 NO_MNEMONICS = ("", "X", "xp", "Xp", "xP>5", "PX", "IF", "1h", "H1", "4H", " XP", ">XP", "XQ>5", "\0XP", "OO>")
 
 
-def typed(text, answer, length=12):
+def typed(text, answer, length=12, writer="engineer"):
     """The console's line for one that is typed, and the answer: the reply's text, or the refusal's number."""
     expected = f"refused {answer}" if isinstance(answer, int) else f"reply {len(answer)} {of_bytes(answer)}"
-    return f"line {of_bytes(text) or '-'} {length}", expected
+    return f"line {writer} {of_bytes(text) or '-'} {length}", expected
 
 
 def of_bytes(text):

@@ -7,7 +7,9 @@ start, except those that are to stand at the beginning of an input.
 
 from typing import NamedTuple
 
-from tests.lists.line_forms import LINE_ERRORS, OTHER_FORMS, line_errors_of, other_forms_of
+from tests.lists.line_errors import LINE_ERRORS
+from tests.lists.line_forms import OTHER_FORMS, line_errors_of, other_forms_of
+from tests.lists.writers import named
 from tests.model.lines import line_of
 
 USED_SWITCHES = (0x8000, 0x4000, 0x2000, 0x1000, 0x0800, 0x0400, 0x0100, 0x0080)  # S2.1 to S2.6, S2.8, S1.1
@@ -31,10 +33,10 @@ def switch_word(generator):
 def entries(operator, calls):
     """The calls as lines, some in other forms; some refused scans and lines that are no call among them.
 
-    Scans that have no reading get one here.
+    Scans that have no reading get one here, and writes and lines that have no writer theirs.
     """
     generator = operator.generator
-    for call in operator.clock.timed(calls):
+    for call in named(generator, operator.clock.timed(calls)):
         if generator.random() < 0.02:
             yield Entry(line_of(operator.clock.with_reading(operator.refused_scan())), "call", "scan")
         if generator.random() < 0.03:

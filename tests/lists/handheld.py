@@ -1,11 +1,11 @@
 """Lines as they are typed into the program `handheld`, drawn from a seed: bytes, none of them a newline."""
 
-from tests.lists import terminal_forms
+import itertools
+
+from tests.lists import terminal_forms, typed_rights
 from tests.lists.terminal import AUTOMATIC_ASKED, MNEMONIC_OF, TerminalSource
-from tests.model import loop
-from tests.model.handheld import answer_typed, pins_in
+from tests.model.handheld import answer_typed, at_the_start, pins_in
 from tests.model.lines import MOST_BYTES
-from tests.model.state import Stored
 from tests.model.table import NAMES
 
 LISTS, LINES_A_LIST = 4, 1500
@@ -29,11 +29,12 @@ NO_PINS = ("pins", "pins\t1", "pins\0001", "pins\xa01", "pins,1", "pins=1", "pin
 
 def followed(source, lines):
     """The lines, each answered in the model before the next is drawn; the last reply is kept."""
-    source.controller, source.last_reply = loop.fresh(0, Stored), None
+    station = at_the_start()
+    source.controller, source.last_reply = station.controller, None
     for line in lines:
         line = line.replace(b"\n", b"")
-        source.controller, answer = answer_typed(source.controller, line)
-        source.last_reply = answer if b">" in answer else source.last_reply
+        station, answer = answer_typed(station, line)
+        source.controller, source.last_reply = station.controller, answer if b">" in answer else source.last_reply
         yield line
 
 
@@ -144,6 +145,7 @@ def in_a_row(source):
     yield from (b"OP", b"DS", b"MD")
 
 
+# The engineer's: one line before them tells who types
 KINDS = (*[visit] * LISTS, wrong_forms, long_lines, pins_forms, *[in_every_mode] * LISTS, changes_of_mode,
          *[between_scans] * LISTS, in_a_row)
 
@@ -151,4 +153,6 @@ KINDS = (*[visit] * LISTS, wrong_forms, long_lines, pins_forms, *[in_every_mode]
 def all_lists(generator):
     """Pairs of a list's kind and its lines."""
     sources = ((kind, TerminalSource(generator)) for kind in KINDS)
-    return [(kind.__name__, [*followed(source, kind(source))]) for kind, source in sources]
+    engineers = [(kind.__name__, [*followed(source, itertools.chain([b"who engineer"], kind(source)))]) for kind, source in sources]
+    sources = ((kind, TerminalSource(generator)) for kind in typed_rights.KINDS)
+    return engineers + [(kind.__name__, [*followed(source, kind(source))]) for kind, source in sources]

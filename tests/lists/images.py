@@ -9,7 +9,7 @@ import operator
 from tests.lists.entries import INVERSION, POWER_FAIL, Entry, entries, switch_word
 from tests.lists.image_source import (FIELDS, FIELD_AT, SIZE, ImageSource, values_in, with_byte, with_right_sum,
                                       with_values)
-from tests.lists.line_forms import NO_BYTES, with_wrong_text
+from tests.lists.line_errors import NO_BYTES, with_wrong_text
 from tests.model.images import IMAGE_BYTES, LENGTHS, TAGS
 from tests.model.lines import MOST_BYTES, line_of, text_of
 from tests.model.state import Parameters

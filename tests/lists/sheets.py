@@ -8,7 +8,8 @@ import itertools
 from tests.lists import scans as scan_lists
 from tests.lists.entries import Entry, entries, switch_word
 from tests.lists.image_source import with_right_sum, with_values
-from tests.lists.line_forms import LINE_ERRORS, line_errors_of
+from tests.lists.line_errors import LINE_ERRORS
+from tests.lists.line_forms import line_errors_of
 from tests.lists.restarts import RestartSource
 from tests.lists.scan_source import HELD, MODES_ASKED
 from tests.model import loop

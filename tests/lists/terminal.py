@@ -13,6 +13,7 @@ from tests.lists.image_source import WIDE, with_right_sum, with_values
 from tests.lists.parameters import near_or_far
 from tests.lists.scan_source import HELD, MODES_ASKED, A
 from tests.lists.terminal_forms import MNEMONICS, USUAL_BUFFER, WORDS, padded
+from tests.lists.writers import ENGINEER, by, named
 from tests.lists.writes import SETPOINT_TRACKS
 from tests.model import loop
 from tests.model.lines import line_of
@@ -66,8 +67,8 @@ class TerminalSource(ClockSource):
                       generator.randint(0, 12))))
 
     def reply(self, call):
-        """The bytes that the model replies to a line now, or None."""
-        answer = loop.make(self.controller, call, Stored)[1]
+        """The bytes that the model replies now to a line of one who may make it, or None."""
+        answer = loop.make(self.controller, by(ENGINEER, call), Stored)[1]
         return answer[2] if answer[0] == "reply" else None
 
 
@@ -262,7 +263,7 @@ def plain_list(generator, lines):
         calls.append(("line", text, length))
         if place % 100 == 50:
             calls += [("save", 137), ("read", NUMBER[generator.choice(NAMES)])]
-    return [Entry(line_of(call), "call", call[0]) for call in calls]
+    return [Entry(line_of(call), "call", call[0]) for call in named(generator, calls)]
 
 
 def plain_lists(generator):

@@ -2,6 +2,7 @@
 
 from tests.lists.parameters import draw_parameters
 from tests.lists.scan_source import Operator
+from tests.lists.writers import named
 from tests.model import loop
 from tests.model.state import Stored
 from tests.model.table import NAMES, NUMBER, READ_ONLY, in_an_accepted_order, range_of
@@ -25,8 +26,8 @@ class Writer(Operator):
     controller = None
 
     def following(self, calls):
-        """The calls, with the clock's readings, each made in the model before the next is drawn."""
-        for call in self.clock.timed(calls):
+        """The calls, with the clock's readings and with writers, each made in the model before the next is drawn."""
+        for call in named(self.generator, self.clock.timed(calls), lambda: self.controller.pins):
             self.controller, _ = loop.make(self.controller, call, Stored)
             self.clock.last = self.controller.clock
             yield call

@@ -4,14 +4,16 @@ checked after every call, and what each call may change.
 It is written apart from the rules: the conditions of the modes, the causes, the accepted automatic scans and the
 outright settings are written out here again from the paper's words, and are read from the exact controller.  So is the
 clock of document 02, request 2: the reading that is remembered, and what a gap forgets, are told from the calls and
-their answers.  A line of request 4 is taken for the read or write that it names (`line_claim.py`).  Nothing of the
-rules is called, and of the model only the names of the state items are used.
+their answers.  A line of request 4 is taken for the read or write that it names (`line_claim.py`), and who may write
+what is told from the list by request 6 (`rights_claim.py`).  Nothing of the rules is called, and of the model only the
+names of the state items are used.
 """
 
 from functools import lru_cache
 from operator import itemgetter
 
 from tests.model.line_claim import LineClaim
+from tests.model.rights_claim import RightsClaim
 from tests.model.state import Controller
 
 STEPS_IN_A_UNIT = 65536
@@ -28,7 +30,7 @@ AFTER_START = {"pins": 0x80, "buttons": 0, "open_count": 0, "MP": 0, "battery_lo
 # What no write may touch: "of these only scans and restarts change any", the switch word and what scans remember
 UNTOUCHED = ("SW", "open_count", "pins", "buttons", "PV", "SP", "ER", "MP", "battery_low", "low_alarm", "high_alarm",
              "previous_PV", "PV_before_previous", "previous_SP", "clock")
-ASKING, TIMED = ("read", "save", "clock"), ("scan", "clock")  # calls that change nothing, and those that the clock is about
+ASKING, TIMED = ("read", "save", "clock", "access"), ("scan", "clock")  # calls that change nothing, and those that the clock is about
 
 
 # Compared: "all items but the output equal, open counts above 85 taken as 85"
@@ -95,7 +97,7 @@ class Claim:
         self.restart_brought_fault = False  # whether the last accepted restart brought the memory fault
         self.cleared_since = False          # an accepted write of MD with bit 8 zero came after that restart
         self.reading, self.remembered = None, 0
-        self.lines = LineClaim()
+        self.lines, self.rights = LineClaim(), RightsClaim()
 
     def broken(self, call, before, after, answers, mode_of):
         """The parts of the claim that this call has broken.
@@ -106,7 +108,8 @@ class Claim:
         stored, exact = after
         broken_line = []
         if call[0] == "line":
-            call, answers, broken_line = self.lines.taken_for(call, before, after, answers)
+            call, answers, broken_line = self.lines.taken_for(call, before, after, answers, self.rights.lacking)
+        broken_line = [*broken_line, *self.rights.broken(call, before, after, answers)]
         is_to_leave = call[0] in ASKING or answers[0][0] == "refused"
         untimely = [*self.broken_timing(call, answers[0])] if call[0] in TIMED else []
         if is_to_leave and stored is before[0] and exact is before[1]:  # all that was found of them still holds
@@ -122,6 +125,7 @@ class Claim:
         """The outright settings, "Track, minimum, start fresh and accepted restart", the accepted automatic scans:
         automatic mode, not open; the fault; the reading, and what is remembered.
         """
+        self.rights.follow(call, exact_answer)
         if call[0] == "fresh" or call[0] == "restart" and exact_answer == ("ok",):
             self.restart_brought_fault = call[0] == "restart" and brings_fault(call[1])
             self.automatic_scans, self.cleared_since, self.reading, self.remembered = 0, False, None, 0
@@ -131,7 +135,7 @@ class Claim:
                 self.automatic_scans = 0
             elif mode in AUTOMATIC_MODES and exact.open_count == 0:
                 self.automatic_scans += 1
-        elif call[0] == "write" and exact_answer == ("ok",) and call[1] == MD and bit(call[2], 8) == 0:
+        elif call[0] == "write" and exact_answer == ("ok",) and call[2] == MD and bit(call[3], 8) == 0:
             self.cleared_since = True
 
     def follow_clock(self, milliseconds, is_open):

@@ -24,8 +24,8 @@ def number_in(mnemonic, value):
     return int(value, 16 if mnemonic in WORDS else 10)
 
 
-def named_by(line, length):
-    """The read or write that a line names, with a buffer of so many bytes, or the refusal's number: 17, 18 or 15."""
+def named_by(writer, line, length):
+    """The read or write that a writer's line names, with a buffer of so many bytes, or the refusal: 17, 18 or 15."""
     text = line.decode("latin-1")
     mnemonic, sign, value = text[:2], text[2:3], text[3:]
     if mnemonic not in MNEMONICS:
@@ -35,7 +35,7 @@ def named_by(line, length):
     if length < 9:
         return 15
     number = MNEMONICS.index(mnemonic) + 1
-    return ("write", number, number_in(mnemonic, value)) if sign else ("read", number)
+    return ("write", writer, number, number_in(mnemonic, value)) if sign else ("read", number)
 
 
 def value_in(answer):
@@ -68,18 +68,23 @@ class LineClaim:
     def __init__(self):
         self.reply, self.controllers = None, None
 
-    def taken_for(self, call, before, after, answers):
-        """The call that a line is taken for, with its answers, and what is broken by the line as such."""
-        _, line, length = call
-        named, broken = named_by(line, length), []
+    def taken_for(self, call, before, after, answers, lacking):
+        """The call that a line is taken for, with its answers, and what is broken by the line as such.
+
+        Lacking tells the refusal of a write by a writer who hasn't the right to a number, or None.
+        """
+        _, writer, line, length = call
+        named, broken = named_by(writer, line, length), []
         if isinstance(named, int):
             broken = [] if answers[0] == ("refused", named) else [f"{line!r} is answered {answers[0]}, not refused with {named}"]
             named = "read", 0
         elif answers[0][0] == "refused":
-            broken = [f"{line!r} is refused with {answers[0][1]}"] if named[0] == "read" or not 5 <= answers[0][1] <= 11 else []
+            is_possible = named[0] == "write" and answers[0][1] in (19, 20, *range(5, 12))
+            broken = [] if is_possible else [f"{line!r} is refused with {answers[0][1]}"]
         else:
             broken = [*self.broken_reply(line, length, named, after, answers)]
-        broken += self.broken_sending_back(line, named, before, after, answers[0])
+        if named[0] == "read" or lacking(*named[1:3]) is None:
+            broken += self.broken_sending_back(line, named, before, after, answers[0])
         if answers[0][0] == answers[1][0] == "reply":
             self.reply, self.controllers = answers[0][2], after
             answers = (("ok",), ("ok",)) if named[0] == "write" else tuple(("value", value_in(answer)) for answer in answers)
@@ -95,12 +100,12 @@ class LineClaim:
             yield f"the reply to {line!r} is {answers[0]}, present is {item}"
         if named[0] == "write" and answers[0] != answers[1]:
             yield f"the reply to {line!r} is {answers[0]}, the exact controller's {answers[1]}"
-        if named[0] == "write" and named[1] <= LAST_DECIMAL and value != named[2]:
+        if named[0] == "write" and named[2] <= LAST_DECIMAL and value != named[3]:
             yield f"the reply to {line!r} is {answers[0]}"
 
     def broken_sending_back(self, line, named, before, after, answer):
         """"A mechanic who may write a parameter and sends its decimal reply back must get the same reply while nothing
-        comes between, unless it is SL and refusal 8 applies".
+        comes between, unless it is SL and refusal 8 applies"; one who may not isn't asked for here.
 
         Nor has "the present value" changed where nothing comes between, of MD and DS either: a read gives it again.
         """
@@ -108,7 +113,7 @@ class LineClaim:
             return
         if named[0] == "read" and named[1] and answer != ("reply", len(self.reply), self.reply):
             yield f"the reply to {line!r} is {answer}, {self.reply!r} came just before"
-        if line != self.reply or named[0] != "write" or named[1] > LAST_DECIMAL:
+        if line != self.reply or named[0] != "write" or named[2] > LAST_DECIMAL:
             return
         if (answer != ("reply", len(line), line) and not (line[:2] == b"SL" and answer == ("refused", 8))) or after != before:
             yield f"the reply {line!r}, sent back, is answered {answer}, or has changed a controller"

@@ -2,13 +2,15 @@
 
 A number is an optional minus and one to eighteen digits; the milliseconds of a scan are one to twenty digits without a
 sign.  Bytes are two hexadecimal digits each, of either case; a minus alone stands for none.  A mode is one of eight
-words in small letters.  One or more blanks, spaces only, stand between words and may stand before and behind.  A line
-has up to 700 bytes without its newline.  A line that isn't a call is answered error and changes nothing.  Texts here
-have one character for each byte of the line.
+words in small letters, a writer one of three.  One or more blanks, spaces only, stand between words and may stand
+before and behind.  A line has up to 700 bytes without its newline.  A line that isn't a call is answered error and
+changes nothing.  Texts here have one character for each byte of the line.
 """
 
 import re
 from functools import lru_cache
+
+from tests.model.rights import WRITERS
 
 LONGEST_LINE = 700
 NUMBER, MILLISECONDS = re.compile("-?[0-9]{1,18}"), re.compile("[0-9]{1,20}")
@@ -20,12 +22,14 @@ MODE_OF_WORD = {word: mode for mode, word in MODE_WORDS.items()}
 # The least and the greatest of each number: SW, samples, DS and OP have 16 bits, pins, buttons and sensors 8, a value
 # to be written 32 and a sign, a PV to be entered in a sheet 16 and a sign; a parameter number may be any; a save's
 # buffer and that of a line's reply have up to 300 bytes; milliseconds have 64 bits, and no sign even at 0.  A restart
-# has bytes in place of numbers, a line of the terminal begins with its own, up to 300, and an answer to be entered with
-# a mode.  Further kinds of call are to be added here.
+# has bytes in place of numbers, a line of the terminal its own, up to 300, an answer to be entered begins with a mode,
+# and what a writer makes or asks begins with the writer.  Further kinds of call are to be added here.
 BYTE, WORD, SIGNED_WORD, VALUE = (0, 255), (0, 65535), (-1 << 15, (1 << 15) - 1), (-1 << 31, (1 << 31) - 1)
 ANY, BUFFER, MODE, TYPED, READING = (1 - 10 ** 18, 10 ** 18 - 1), (0, 300), "mode", "typed", (0, (1 << 64) - 1)
-RANGES = {"fresh": (WORD,), "scan": (BYTE, WORD, WORD, WORD, BYTE, BYTE, READING), "write": (ANY, VALUE), "read": (ANY,),
-          "save": (BUFFER,), "clock": (), "line": (TYPED, BUFFER), "sheet-new": (), "sheet-last": (),
+WRITER = "writer"
+RANGES = {"fresh": (WORD,), "scan": (BYTE, WORD, WORD, WORD, BYTE, BYTE, READING), "write": (WRITER, ANY, VALUE),
+          "access": (WRITER, ANY), "read": (ANY,), "save": (BUFFER,), "clock": (), "line": (WRITER, TYPED, BUFFER), "sheet-new": (),
+          "sheet-last": (),
           "sheet-feed": (MODE, SIGNED_WORD, WORD, WORD), "sheet": ()}
 MOST_BYTES = 300  # of a line; of an image in the lists, what the console makes of more isn't decided
 
@@ -58,9 +62,11 @@ def call_by(ranges, word, texts):
 
 
 def part_of(text, kind):
-    """The number, the mode or the typed bytes that a text is, or None."""
+    """The number, the mode, the writer or the typed bytes that a text is, or None."""
     if kind == MODE:
         return MODE_OF_WORD.get(text)
+    if kind == WRITER:
+        return text if text in WRITERS else None
     if kind == TYPED:
         return bytes_of(text) if BYTES.fullmatch(text) and len(text) <= 2 * MOST_BYTES else None
     if not (MILLISECONDS if kind == READING else NUMBER).fullmatch(text):
@@ -74,7 +80,7 @@ def bytes_of(text):
 
 
 def text_of(part):
-    """A word, a mode, a number or bytes; the console answers bytes in capitals."""
+    """A word, a mode, a writer, a number or bytes; the console answers bytes in capitals."""
     if isinstance(part, bytes):
         return part.hex().upper() or "-"
     return MODE_WORDS.get(part) or str(part)

@@ -8,6 +8,7 @@ from functools import lru_cache
 from tests.model import formulas
 from tests.model.formulas import limit
 from tests.model.images import restart, save
+from tests.model.rights import access
 from tests.model.state import OPEN_CAUSE, Input, Parameters, started
 from tests.model.terminal import line
 from tests.model.words import (AUTOMATIC, A_BUTTON, BATTERY_SENSOR, LOWER, M_BUTTON, OPEN_SENSOR, RAISE, R_BUTTON,
@@ -17,7 +18,7 @@ from tests.model.writes import read, write
 
 # The same numbers come again and again: what was computed once is kept, to save time.
 scale = lru_cache(maxsize=1 << 17)(formulas.scale)
-OTHER_CALLS = {"write": write, "read": read, "save": save, "restart": restart, "line": line}
+OTHER_CALLS = {"write": write, "access": access, "read": read, "save": save, "restart": restart, "line": line}
 # Document 02, request 2: "From 30 to 42 ms is an ordinary scan"
 SHORTEST, LONGEST = 30, 42
 
@@ -53,7 +54,10 @@ def scan(controller, given, arithmetic):
 
 
 def make(controller, call, arithmetic):
-    """Any call, given as its word and numbers, a restart with the image's bytes, a line with its own."""
+    """Any call, given as its word and numbers, a restart with the image's bytes, a line with its own.
+
+    A write, a line and the question for access name their writer first.
+    """
     word, *given = call
     if word == "fresh":
         return fresh(*given, arithmetic), ("ok",)

@@ -6,6 +6,7 @@ from tests.model.lines import call_of, line_of
 from tests.model.session import SHEET_CALLS, Session
 from tests.model.state import Exact, Stored
 from tests.model.words import mode_of
+from tests.model.writes import write_of_before
 
 
 class Pair:
@@ -24,7 +25,17 @@ class Pair:
         exact, exact_answer = loop.make(before[1], call, Exact)
         self.controllers = stored, exact
         self.session.follow(answer)
-        return answer, self.claim.broken(call, before, self.controllers, (answer, exact_answer), mode_of)
+        return answer, [*otherwise_than_before(call, before[0], stored, answer),
+                        *self.claim.broken(call, before, self.controllers, (answer, exact_answer), mode_of)]
+
+
+def otherwise_than_before(call, before, after, answer):
+    """An engineer's write does what a write did before writers were named, and so does each that isn't refused with 19
+    or 20.
+    """
+    if call[0] == "write" and (call[1] == "engineer" or answer not in (("refused", 19), ("refused", 20))):
+        if (after, answer) != write_of_before(before, *call[2:], Stored):
+            yield f"{call} is answered {answer}, or leaves another controller, than before writers were named"
 
 
 def answers_of(lines):

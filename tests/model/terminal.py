@@ -17,12 +17,12 @@ HEXADECIMAL, DECIMAL = re.compile(rb">([0-9A-F]{4})"), re.compile(rb">(-?[0-9]{1
 LEAST_BUFFER = 9  # "a reply buffer under nine bytes", whatever the reply's length
 
 
-def answer_line(controller, line, buffer, arithmetic):
+def answer_line(controller, writer, line, buffer, arithmetic):
     """The next controller, the answer, and the buffer as it is afterwards; line and buffer are bytes.
 
     The answer is the reply with its length, or the refusal: "17 when the first two bytes are no mnemonic, before all
     others.  18 when what follows isn't nothing or > with such a value, next after 17.  15 .. right after 18 and before
-    any refusal of the read or write itself".
+    any refusal of the read or write itself".  Request 6: "Terminal lines carry a writer as well.  Reading stays free".
     """
     mnemonic, rest = line[:2], line[2:]
     number = NUMBER_OF.get(mnemonic)
@@ -34,7 +34,7 @@ def answer_line(controller, line, buffer, arithmetic):
     if len(buffer) < LEAST_BUFFER:
         return controller, ("refused", 15), buffer
     if found:  # "With no value it reads, with one it writes"
-        controller, answer = write(controller, number, int(found[1], 16 if mnemonic in WORDS else 10), arithmetic)
+        controller, answer = write(controller, writer, number, int(found[1], 16 if mnemonic in WORDS else 10), arithmetic)
         if answer[0] == "refused":
             return controller, answer, buffer
     reply = reply_of(mnemonic, read(controller, number, arithmetic)[1][1])
@@ -46,13 +46,13 @@ def reply_of(mnemonic, present):
     return b"%b>%04X" % (mnemonic, present) if mnemonic in WORDS else b"%b>%d" % (mnemonic, present)
 
 
-def line(controller, text, length, arithmetic):
+def line(controller, writer, text, length, arithmetic):
     """A line with a buffer of so many bytes, as the console makes the call.
 
     "its length is the answer and the bytes behind it stay": where one of those changes, or one of a buffer that was
     refused, the console answers error.
     """
     buffer = b"\xa5" * length
-    controller, answer, after = answer_line(controller, text, buffer, arithmetic)
+    controller, answer, after = answer_line(controller, writer, text, buffer, arithmetic)
     front = answer[2] if answer[0] == "reply" else b""
     return controller, answer if after == front + buffer[len(front):] else ("error",)

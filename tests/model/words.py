@@ -9,7 +9,7 @@ from tests.model.state import OPEN_CAUSE
 # "SW bits 15 to 8 are switches S2.1 to S2.8 and bit 7 is S1.1, 1 = ON"
 S2_1, S2_2, S2_3, S2_4, S2_5, S2_6, S2_8, S1_1 = (1 << bit for bit in (15, 14, 13, 12, 11, 10, 8, 7))
 # "a pin byte (7 Hold, 6 Track, 5 Remote, 4 Computer, 3..0 unit address; 1 is 15 V)"
-HOLD_PIN, TRACK_PIN, REMOTE_PIN = 0x80, 0x40, 0x20
+HOLD_PIN, TRACK_PIN, REMOTE_PIN, COMPUTER_PIN = 0x80, 0x40, 0x20, 0x10
 # "a button byte laid out as MD bits 7..0": "7 Lower, 6 Raise, 5 zero, 4 measured power, 3 SP, 2 R, 1 A, 0 M"
 LOWER, RAISE, SP_BUTTON, R_BUTTON, A_BUTTON, M_BUTTON = 0x80, 0x40, 0x08, 0x04, 0x02, 0x01
 # "a sensor byte (0 channel 1 open, 1 battery low)"

@@ -1,9 +1,10 @@
-"""The controller of document 01: write and read, one text of the rules for both arithmetics.
+"""The controller of documents 01 and 02: write and read, one text of the rules for both arithmetics.
 
-Made from document 01 and never from the code, so that a comparison of the two is a comparison with the paper.
+Made from these documents and never from the code, so that a comparison of the two is a comparison with the papers.
 """
 
 from tests.model.formulas import limit
+from tests.model.rights import refusals_of_access
 from tests.model.table import NAMES, NUMBER, READ_ONLY, is_in_order, range_of
 from tests.model.words import AUTOMATIC, DS, MD, REMOTE_PIN, S2_6, has_open_cause, mode_of
 
@@ -13,9 +14,17 @@ REQUESTS = {0x2000: "M", 0x1000: "A", 0x0800: "R"}
 MEMORY_FAULT, MEASURED_POWER = 0x0100, 0x0010
 
 
-def write(controller, number, value, arithmetic):
+def write(controller, writer, number, value, arithmetic):
     """Write: the next controller and the answer; "an accepted write ... says only that it was accepted"."""
-    refusal = next(refusals(controller, number, value), None)  # "the lowest number wins"
+    return unless_refused(next(refusals(controller, writer, number, value), None), controller, number, value, arithmetic)
+
+
+def write_of_before(controller, number, value, arithmetic):
+    """A write as it was before document 02, request 6, when it named no writer: what an engineer's must still do."""
+    return unless_refused(next(refusals_of_before(controller, number, value), None), controller, number, value, arithmetic)
+
+
+def unless_refused(refusal, controller, number, value, arithmetic):
     if refusal is not None:
         return controller, ("refused", refusal)
     if number == NUMBER["MD"]:
@@ -48,16 +57,27 @@ def value_of(controller, name, arithmetic):
 
 # Refusals -------------------------------------------------------------------
 
-def refusals(controller, number, value):
-    """Every refusal that applies, the lowest first: "Writer: 4 number outside 1..32 (reads too); 5 read only; 6 out of
-    range; 7 pair out of order".
+def refusals(controller, writer, number, value):
+    """Every refusal that applies, the first tested first: 4, the writer's 19 and 20, and then as before."""
+    yield from refusals_of_access(controller, writer, number)
+    if 1 <= number <= 32 and number not in READ_ONLY:
+        yield from refusals_of_value(controller, number, value)
+
+
+def refusals_of_before(controller, number, value):
+    """Every refusal that applies whoever writes, the lowest first: "Writer: 4 number outside 1..32 (reads too); 5 read
+    only; ..".
     """
     if not 1 <= number <= 32:
         yield 4
-        return
-    if number in READ_ONLY:
+    elif number in READ_ONLY:
         yield 5
-        return
+    else:
+        yield from refusals_of_value(controller, number, value)
+
+
+def refusals_of_value(controller, number, value):
+    """Of a parameter that isn't read only: "6 out of range; 7 pair out of order", and those of SL and MD."""
     name, (least, greatest) = NAMES[number - 1], range_of(controller.parameters, number)
     if not least <= value <= greatest:
         yield 6

@@ -18,6 +18,7 @@ from tests.gate import tally
 from tests.lists import parameters as parameter_lists
 from tests.lists.host_clock import MOST, HostClock
 from tests.lists.image_source import WIDE, ImageSource, values_in, with_values
+from tests.lists.writers import ENGINEER, by, by_the_engineer
 from tests.model import loop
 from tests.model.state import OPEN_CAUSE, Stored
 from tests.model.table import NAMES, NUMBER, PAIRS, ROWS, partner_of, range_of
@@ -65,6 +66,14 @@ KEPT = {
         10: "MD bit 12 with bit 8 zero clears the fault, and the request is Manual; bit 4 is taken",
         17: "MD bit 11 with bit 8 zero in an open cause: 11",
     },
+    "rights": {
+        0: "the operator, XP: 20",
+        1: "the operator, MD bit 13 with bit 8 zero: the fault is cleared, bit 4 taken",
+        2: "the computer, its pin at 0 and all others at 1, DS: 19",
+        3: "the computer, its pin at 1 and all others at 0, RB",
+        4: "the computer, its pin at 0, PV: 19 goes before 20 and 5",
+        5: "the engineer, PV: 5",
+    },
     "read": {29: "SP"},
     "restart": {
         0: "a sound image: request Auto, user bits and MD bit 4, OP limited to HO; PV is 1L, SP is SL",
@@ -94,7 +103,7 @@ def scans():
     generator, clock, number = random.Random(SEED), HostClock(random.Random(SEED)), itertools.count()
     for calls in parameter_lists.all_calls(generator):
         controller = None  # each list begins with a fresh start
-        for call in clock.timed(calls):
+        for call in by_the_engineer(clock.timed(calls)):
             if call[0] == "scan" and controller.parameters.IC and call[2] <= 10000:
                 call = (*call[:2], 9900 + call[2] % 100, *call[3:])  # the definition counts a root down from 10000
             after, answer = loop.make(controller, call, Stored)
@@ -145,18 +154,21 @@ def drawn_state(generator):
 
 
 def drawn_writes():
-    """Writes of every number in drawn states, with values about the ends of what is acceptable, without end."""
+    """The engineer's writes of every number in drawn states, with values about the ends of what is acceptable, without
+    end.
+    """
     generator = random.Random(SEED)
     while True:
         before, number = drawn_state(generator), generator.randint(0, 34)
         if not 1 <= number < NUMBER["SW"]:
-            yield before, ("write", number, generator.randint(-9999, 9999))
+            yield before, ("write", ENGINEER, number, generator.randint(-9999, 9999))
             continue
         partner = partner_of(NAMES[number - 1])
         about = [*range_of(before.parameters, number), *([getattr(before.parameters, partner)] if partner else [])]
         bits = generator.choice((0x2000, 0x1000, 0x0800)) | generator.getrandbits(16) & 0xC7FF
-        yield before, ("write", number, generator.choice([generator.choice(about) + generator.randint(-1, 1),
-                                                          bits if number == NUMBER["MD"] else generator.randint(0, 9999)]))
+        value = generator.choice([generator.choice(about) + generator.randint(-1, 1),
+                                  bits if number == NUMBER["MD"] else generator.randint(0, 9999)])
+        yield before, ("write", ENGINEER, number, value)
 
 
 def writes_under_the_fault():
@@ -164,7 +176,20 @@ def writes_under_the_fault():
     others = ((0, OPEN_CAUSE), (0xC6FF, 0))
     for bits, fault, (other, opens), pins in itertools.product((0x2000, 0x1000, 0x0800), (0, 0x0100), others, (0x80, 0xA0)):
         before = loop.fresh(0, Stored)._replace(memory_fault=True, open_count=opens, pins=pins)
-        yield before, ("write", NUMBER["MD"], bits | fault | other)
+        yield before, by(ENGINEER, ("write", NUMBER["MD"], bits | fault | other))
+
+
+def writes_by_right():
+    """Writes of each writer in one drawn state, with pins and the memory fault as given.
+
+    An engineer's with these values would be accepted, but those of PV.
+    """
+    state = drawn_state(random.Random(SEED))._replace(open_count=0)
+    for writer, pins, fault, name, value in (
+            ("operator", 0xBF, False, "XP", 1234), ("operator", 0x80, True, "MD", 0x2010),
+            ("computer", 0xEF, False, "DS", (state.user_bits ^ 3) << 6), ("computer", 0x10, False, "RB", -77),
+            ("computer", 0xAF, False, "PV", 5), (ENGINEER, 0x80, False, "PV", 5)):
+        yield state._replace(pins=pins, memory_fault=fault, request="M"), ("write", writer, NUMBER[name], value)
 
 
 def reads():
@@ -200,7 +225,7 @@ def saves():
 def statements():
     """Each statement that is kept, with what it shows."""
     drawn = {"scan": scans, "clock": clock_scans, "ratio": ratio_scans, "write": drawn_writes,
-             "write under the fault": writes_under_the_fault, "read": reads, "restart": restarts, "save": saves}
+             "write under the fault": writes_under_the_fault, "rights": writes_by_right, "read": reads, "restart": restarts, "save": saves}
     for kind, kept in KEPT.items():
         for number, call in enumerate(itertools.islice(drawn[kind](), max(kept) + 1)):
             if number in kept:

@@ -7,6 +7,7 @@ FILL = 0xA5  # what each byte of a buffer is before a save
 # The modes by the names that the rules have for them
 MODES = {"Hold": "Hold", "Track": "Track", "Forced Manual": "Forced", "Manual": "Manual", "Auto": "Auto", "Remote": "Remote",
          "Ratio": "Ratio", "Fall-back": "Fallback"}
+WRITERS = {"operator": "Operator", "engineer": "Engineer", "computer": "Computer"}
 HEAD = '''-- Calls of a reference model that was made apart from the rules, stated of the rules; proofs/ModelCalls.antt proves
 -- them. Made by tests/statements/calls.py, which the gate compares with this file.
 use mathlib.Core.Bool.{Bool, true, false}
@@ -23,6 +24,8 @@ use Rattle.fields.specs.Fields.{saveTests, savedIn}
 use Rattle.modes.specs.declared.Mode.the-variants.{Hold, Track, Forced, Manual, Auto, Remote, Ratio, Fallback}
 use Rattle.modes.specs.declared.Request.{Request}
 use Rattle.modes.specs.declared.Request.the-variants as request
+use Rattle.rights.specs.declared.Writer.{Writer}
+use Rattle.rights.specs.declared.Writer.the-variants.{Operator, Engineer, Computer}
 use Rattle.setpoints.specs.declared.Readings.{Readings}
 use Rattle.outputs.specs.declared.History.{History}
 use Rattle.outputs.specs.declared.History.the-variants.{Nothing, One, Two}
@@ -72,8 +75,8 @@ input pins sample1 sample2 sample3 buttons sensors milliseconds =
 abbrev pub Scans : Controller → Input → Controller → Reply → Type 0
 Scans before i after answer = scan before i ≡ record { next = after; answer = answer }
 
-abbrev pub Writes : Controller → ℕ → ℤ → Controller → Reply → Type 0
-Writes before n v after answer = write before n v ≡ record { next = after; answer = answer }
+abbrev pub Writes : Controller → Writer → ℕ → ℤ → Controller → Reply → Type 0
+Writes before w n v after answer = write before w n v ≡ record { next = after; answer = answer }
 
 abbrev pub Restarts : Controller → List ℕ → Controller → Reply → Type 0
 Restarts before image after answer = restart before image ≡ record { next = after; answer = answer }
@@ -138,7 +141,7 @@ def statement(before, call):
     if word == "scan":
         return f"Scans {state} (input {' '.join(map(str, given))}) {next_state} {reply}"
     if word == "write":
-        return f"Writes {state} {given[0]} {argument(given[1])} {next_state} {reply}"
+        return f"Writes {state} {WRITERS[given[0]]} {given[1]} {argument(given[2])} {next_state} {reply}"
     if word == "read":
         return f"(read {state} {given[0]} ≡ {reply})"
     if word == "restart":

@@ -16,6 +16,7 @@ use Rattle.signals.specs.Refusals.{numberOf, refusedBy}
 use Rattle.signals.specs.declared.Verdict.{Verdict}
 use Rattle.signals.specs.declared.Verdict.the-variants as verdict
 use Rattle.fields.specs.Fields.{saveTests, savedIn}
+use Rattle.rights.specs.declared.Writer.{Writer}
 use Rattle.controller.specs.Answers.{replyOfVerdict, replyBy, acceptance, number}
 use Rattle.controller.specs.ImageLaws.{saved-size}
 use Rattle.controller.specs.RestartLaws.{valid-restart}
@@ -27,7 +28,8 @@ use Rattle.controller.specs.ValidLaws.{valid-fresh, valid-scan}
 use Rattle.controller.specs.WriteLaws.{valid-write}
 use Rattle.controller.specs.declared.Controller.{Controller}
 use Rattle.terminal.specs.Commands.{commandIn}
-use Rattle.terminal.specs.Terminal.{replyText, presentValue, replied, wroteOr, answeredTo, answered, refusedLine, LineOutcome}
+use Rattle.terminal.specs.Terminal.{replyText, presentValue, replied, wroteOr, readTo, writtenTo, answeredTo, answered}
+use Rattle.terminal.specs.Terminal.{refusedLine, LineOutcome}
 use Rattle.terminal.specs.TerminalLaws.{valid-line}
 use Rattle.terminal.specs.declared.command.Command as terminal
 use Rattle.terminal.specs.declared.command.Command.the-variants as command
@@ -36,22 +38,23 @@ use Rattle.console.specs.Calls.{filled, terminalFits, terminalReply, ter
 use Rattle.console.specs.declared.call.Reply.the-variants.{Image, Refused, Error}
 use Rattle.console.specs.declared.call.Step.{Step}
 use Rattle.console.specs.declared.request.Call.{Call}
-use Rattle.console.specs.declared.request.Call.the-variants.{Fresh, Scan, Write, Read, Restart, Save, Line, Clock}
+use Rattle.console.specs.declared.request.Call.the-variants.{Fresh, Scan, Write, Access, Read, Restart, Save, Line, Clock}
 
 -- every call leaves a controller that the next call may take
 pub valid-performed : (c : Controller) (call : Call) (bytes : List ℕ) → Valid c → Valid (performed c call bytes .controller)
 unfolding performed terminalStep
 valid-performed c (Fresh sw) bytes v = valid-fresh sw
 valid-performed c (Scan input) bytes v = valid-scan c input v
-valid-performed c (Write n value) bytes v = valid-write c n value v
+valid-performed c (Write w n value) bytes v = valid-write c w n value v
+valid-performed c (Access w n) bytes v = v
 valid-performed c (Read n) bytes v = v
 valid-performed c (Restart count) bytes v =
     by-cases (λ (s : Step). Valid (s .controller)) (leb count (length bytes)) (stepOf (restart c (take count bytes)))
     (unchangedWith c Error) (λ e. valid-restart c (take count bytes) v) (λ e. v)
 valid-performed c (Save count) bytes v = v
-valid-performed c (Line count size) bytes v =
+valid-performed c (Line w count size) bytes v =
     by-cases (λ (s : Step). Valid (s .controller)) (terminalFits count size (length bytes)) _ (unchangedWith c Error)
-    (λ e. valid-line c (take count bytes) (take size (filled bytes)) v) (λ e. v)
+    (λ e. valid-line c w (take count bytes) (take size (filled bytes)) v) (λ e. v)
 valid-performed c Clock bytes v = v
 
 -- ---- filled buffers
@@ -173,21 +176,22 @@ module _ (part rest : List ℕ) (p : isFilled part ≡ true) (r : isFilled rest 
         filled-append (drop count part) rest (filled-drop count part p) r,
       )
 
-  unchanged-wrote : (d : Option ℕ) (c : Controller) (n : ℕ) (v : ℤ) → Unchanged (wroteOr d c n v part)
-  unchanged-wrote none c n v = unchanged-replied (write c n v .next) n
-  unchanged-wrote (some k) c n v = unchanged-refused c k
+  module _ (c : Controller) (w : Writer) where
+    unchanged-wrote : (d : Option ℕ) (n : ℕ) (v : ℤ) → Unchanged (wroteOr d c w n v part)
+    unchanged-wrote none n v = unchanged-replied (write c w n v .next) n
+    unchanged-wrote (some k) n v = unchanged-refused c k
 
-  unchanged-to : (c : Controller) (asked : terminal.Command) → Unchanged (answeredTo c part asked)
-  unfolding answeredTo
-  unchanged-to c command.NoMnemonic = unchanged-refused c 17
-  unchanged-to c command.NoValue = unchanged-refused c 18
-  unchanged-to c (command.Read n) =
-      by-cases Unchanged (ltb (length part) 9) (refusedLine c part 15) (replied c n part) (λ e. unchanged-refused c 15)
-      (λ e. unchanged-replied c n)
-  unchanged-to c (command.Write n v) =
-      by-cases Unchanged (ltb (length part) 9) (refusedLine c part 15) _ (λ e. unchanged-refused c 15)
-      (λ e. unchanged-wrote (refusedBy (writeTests (c .core) n v)) c n v)
+    unchanged-to : (asked : terminal.Command) → Unchanged (answeredTo c w part asked)
+    unfolding answeredTo readTo writtenTo
+    unchanged-to command.NoMnemonic = unchanged-refused c 17
+    unchanged-to command.NoValue = unchanged-refused c 18
+    unchanged-to (command.Read n) =
+        by-cases Unchanged (ltb (length part) 9) (refusedLine c part 15) (replied c n part) (λ e. unchanged-refused c 15)
+        (λ e. unchanged-replied c n)
+    unchanged-to (command.Write n v) =
+        by-cases Unchanged (ltb (length part) 9) (refusedLine c part 15) _ (λ e. unchanged-refused c 15)
+        (λ e. unchanged-wrote (refusedBy (writeTests (c .core) w n v)) n v)
 
-  pub checked-line : (c : Controller) (line : List ℕ) → Unchanged (answered c line part)
-  unfolding answered
-  checked-line c line = unchanged-to c (commandIn line)
+    pub checked-line : (line : List ℕ) → Unchanged (answered c w line part)
+    unfolding answered
+    checked-line line = unchanged-to (commandIn line)

@@ -11,14 +11,15 @@ use Rattle.signals.specs.Refusals.{numberOf, refusedBy}
 use Rattle.signals.specs.declared.Verdict.{Verdict}
 use Rattle.signals.specs.declared.Verdict.the-variants as verdict
 use Rattle.fields.specs.Fields.{saveTests, savedIn}
+use Rattle.rights.specs.declared.Writer.{Writer}
 use Rattle.controller.specs.Answers as answers
-use Rattle.controller.specs.Answers.{Response, words, reading, acceptance, number}
+use Rattle.controller.specs.Answers.{Response, words, reading, acceptance, number, replyBy}
 use Rattle.controller.specs.Read.{read}
 use Rattle.controller.specs.Restart.{restart}
 use Rattle.controller.specs.Save.{savedImage}
 use Rattle.controller.specs.Scan.{scan}
 use Rattle.controller.specs.State.{freshController}
-use Rattle.controller.specs.Write.{write}
+use Rattle.controller.specs.Write.{accessNow, write}
 use Rattle.controller.specs.declared.Controller.{Controller}
 use Rattle.terminal.specs.Terminal as terminal
 use Rattle.terminal.specs.Terminal.{LineReply, LineOutcome, answered}
@@ -27,7 +28,7 @@ use Rattle.console.specs.declared.call.Reply.the-variants as reply
 use Rattle.console.specs.declared.call.Reply.the-variants.{Accepted, Value, Answer, Image, Refused, Error}
 use Rattle.console.specs.declared.call.Step.{Step}
 use Rattle.console.specs.declared.request.Call.{Call}
-use Rattle.console.specs.declared.request.Call.the-variants.{Fresh, Scan, Write, Read, Restart, Save, Line, Clock}
+use Rattle.console.specs.declared.request.Call.the-variants.{Fresh, Scan, Write, Access, Read, Restart, Save, Line, Clock}
 
 -- the console's reply for each answer of the controller
 abbrev pub replyTo : answers.Reply → Reply
@@ -44,6 +45,10 @@ stepOf r = record { controller = r .next; reply = replyTo (r .answer) }
 -- a call that leaves the controller as it was
 abbrev pub unchangedWith : Controller → Reply → Step
 unchangedWith c reply = record { controller = c; reply = reply }
+
+-- whether a writer may write a parameter: accepted, or with the refusal that any value would get
+unfoldable pub accessReply : Controller → Writer → ℕ → answers.Reply
+accessReply c w n = replyBy (refusedBy (accessNow (c .core) w n))
 
 -- ---- filled buffers
 
@@ -83,9 +88,9 @@ savedBuffer c count bytes =
 abbrev pub terminalFits : ℕ → ℕ → ℕ → Bool
 terminalFits count size room = leb count 300 && leb count room && leb size room
 
--- what comes of the line that so many bytes of the buffer are, with so many filled bytes for the reply
-abbrev pub terminalOutcome : Controller → ℕ → ℕ → List ℕ → LineOutcome
-terminalOutcome c count size bytes = answered c (take count bytes) (take size (filled bytes))
+-- what comes of a writer's line that so many bytes of the buffer are, with so many filled bytes for the reply
+abbrev pub terminalOutcome : Controller → Writer → ℕ → ℕ → List ℕ → LineOutcome
+terminalOutcome c w count size bytes = answered c w (take count bytes) (take size (filled bytes))
 
 -- the reply to the terminal's answer, with the buffer as it left it: `error` where a byte changed that isn't of the
 -- reply
@@ -99,16 +104,16 @@ terminalReply (terminal.reply count) = reply.Line count
 terminalReply (terminal.number n) = Refused n
 
 -- the next controller and the reply
-unfoldable pub terminalStep : Controller → ℕ → ℕ → List ℕ → Step
-terminalStep c count size bytes =
-    let outcome = terminalOutcome c count size bytes in
+unfoldable pub terminalStep : Controller → Writer → ℕ → ℕ → List ℕ → Step
+terminalStep c w count size bytes =
+    let outcome = terminalOutcome c w count size bytes in
     if terminalFits count size (length bytes) then record { controller = outcome .next; reply = terminalReply (outcome .answer) } else
     unchangedWith c Error
 
 -- the buffer after it: filled, and the reply in front where there is one
-unfoldable pub terminalBuffer : Controller → ℕ → ℕ → List ℕ → List ℕ
-terminalBuffer c count size bytes =
-    if terminalFits count size (length bytes) then terminalOutcome c count size bytes .buffer ++ drop size (filled bytes) else bytes
+unfoldable pub terminalBuffer : Controller → Writer → ℕ → ℕ → List ℕ → List ℕ
+terminalBuffer c w count size bytes =
+    if terminalFits count size (length bytes) then terminalOutcome c w count size bytes .buffer ++ drop size (filled bytes) else bytes
 
 -- ---- every call
 
@@ -116,20 +121,22 @@ terminalBuffer c count size bytes =
 unfoldable pub performed : Controller → Call → List ℕ → Step
 performed c (Fresh sw) bytes = unchangedWith (freshController sw) Accepted
 performed c (Scan input) bytes = stepOf (scan c input)
-performed c (Write n v) bytes = stepOf (write c n v)
+performed c (Write w n v) bytes = stepOf (write c w n v)
+performed c (Access w n) bytes = unchangedWith c (replyTo (accessReply c w n))
 performed c (Read n) bytes = unchangedWith c (replyTo (read c n))
 performed c (Restart count) bytes = if leb count (length bytes) then stepOf (restart c (take count bytes)) else unchangedWith c Error
 performed c (Save count) bytes = unchangedWith c (replyToSave count bytes)
-performed c (Line count size) bytes = terminalStep c count size bytes
+performed c (Line w count size) bytes = terminalStep c w count size bytes
 performed c Clock bytes = unchangedWith c (reply.Clock (c .core .clock))
 
 -- the buffer afterwards: only a save and a terminal's line change it
 unfoldable pub bufferAfter : Controller → Call → List ℕ → List ℕ
 bufferAfter c (Save count) bytes = savedBuffer c count bytes
-bufferAfter c (Line count size) bytes = terminalBuffer c count size bytes
+bufferAfter c (Line w count size) bytes = terminalBuffer c w count size bytes
 bufferAfter c (Fresh sw) bytes = bytes
 bufferAfter c (Scan input) bytes = bytes
-bufferAfter c (Write n v) bytes = bytes
+bufferAfter c (Write w n v) bytes = bytes
+bufferAfter c (Access w n) bytes = bytes
 bufferAfter c (Read n) bytes = bytes
 bufferAfter c (Restart count) bytes = bytes
 bufferAfter c Clock bytes = bytes

@@ -12,9 +12,11 @@ use Rattle.integers.specs.Sign.{isNegative}
 use Rattle.numerals.specs.Parsed.{naturalOf}
 use Rattle.numerals.specs.declared.ParsedNatural.{ParsedNatural}
 use Rattle.numerals.specs.declared.ParsedNatural.the-variants as reading
+use Rattle.rights.specs.declared.Writer.{Writer}
 use Rattle.text.specs.Arguments.{part, argument, argumentsFrom, hasCount, isCall, naturalIn}
 use Rattle.text.specs.Hexadecimal.{bytesOf, countIn, bytesIn}
 use Rattle.text.specs.Words.{wordAt, onlyWord, afterWords, sameBytes}
+use Rattle.text.specs.declared.Span.{Span}
 use Rattle.text.specs.declared.arguments.Arguments.{Arguments}
 use Rattle.text.specs.declared.hexadecimal.Count.{Count}
 use Rattle.text.specs.declared.hexadecimal.Count.the-variants.{Bytes, Malformed}
@@ -22,11 +24,14 @@ use Rattle.formatting.specs.Ascii.{ascii}
 use Rattle.sheet_lines.specs.Answers.{answerFrom}
 use Rattle.sheet_lines.specs.declared.answer.ParsedAnswer.{ParsedAnswer}
 use Rattle.sheet_lines.specs.declared.answer.ParsedAnswer.the-variants as parsed
-use Rattle.console.specs.declared.request.Call.the-variants.{Fresh, Scan, Write, Read, Restart, Save, Line, Clock}
+use Rattle.console.specs.Writers.{writerAt}
+use Rattle.console.specs.declared.request.Call.the-variants.{Fresh, Scan, Write, Access, Read, Restart, Save, Line, Clock}
 use Rattle.console.specs.declared.request.Command.{Command}
 use Rattle.console.specs.declared.request.Command.the-variants as command
 use Rattle.console.specs.declared.sheet_call.SheetCall.the-variants as sheetcall
 use Rattle.console.specs.declared.sheet_call.SheetCall.the-variants.{New, Last, Feed}
+use Rattle.writer_lines.specs.declared.ParsedWriter.{ParsedWriter}
+use Rattle.writer_lines.specs.declared.ParsedWriter.the-variants as writer
 
 -- ---- the sheet
 
@@ -58,13 +63,6 @@ freshCommand values =
     let sw = naturalIn (argument values 0) 0 65535 in
     if sw .ok then command.Call (Fresh (sw .value)) else command.Invalid
 
--- write NUMBER VALUE: a value that 32 bits don't hold is no call
-unfoldable pub writeCommand : List ℤ → Command
-writeCommand values =
-    let v = argument values 1 in
-    if leZ (negℤ (pos 2147483648)) v && leZ v (pos 2147483647) then
-    command.Call (Write (parameterNumber (argument values 0)) v) else command.Invalid
-
 -- save LENGTH
 unfoldable pub saveCommand : List ℤ → Command
 saveCommand values =
@@ -74,11 +72,38 @@ saveCommand values =
 -- a command whose arguments are numbers
 unfoldable pub numbersCommand : List ℕ → Arguments → Command
 numbersCommand word a =
-    if isCall word (ascii "write") a 2 then writeCommand (a .values) else
     if isCall word (ascii "read") a 1 then command.Call (Read (parameterNumber (argument (a .values) 0))) else
     if isCall word (ascii "fresh") a 1 then freshCommand (a .values) else
     if isCall word (ascii "save") a 1 then saveCommand (a .values) else
     if isCall word (ascii "clock") a 0 then command.Call Clock else sheetCommand word a
+
+-- ---- a write, and whether one may be made
+
+-- by a writer with the numbers NUMBER and VALUE: a value that 32 bits don't hold is no call
+unfoldable pub writeOf : Writer → List ℤ → Command
+writeOf w values =
+    let v = argument values 1 in
+    if leZ (negℤ (pos 2147483648)) v && leZ v (pos 2147483647) then
+    command.Call (Write w (parameterNumber (argument values 0)) v) else command.Invalid
+
+-- by nobody, or with another count of numbers, it is no write
+unfoldable pub writeBy : ParsedWriter → Arguments → Command
+writeBy (writer.Writer w) a = if hasCount a 2 then writeOf w (a .values) else command.Invalid
+writeBy writer.Malformed a = command.Invalid
+
+-- write WRITER NUMBER VALUE: a writer's word, and the numbers behind it
+unfoldable pub writeCommand : List ℕ → ℕ → Command
+writeCommand line start = writeBy (writerAt line start) (argumentsFrom line (afterWords 1 line start))
+
+-- of nobody's right, or with another count of numbers, it is no question
+unfoldable pub accessBy : ParsedWriter → Arguments → Command
+accessBy (writer.Writer w) a =
+    if hasCount a 1 then command.Call (Access w (parameterNumber (argument (a .values) 0))) else command.Invalid
+accessBy writer.Malformed a = command.Invalid
+
+-- access WRITER NUMBER: a writer's word, and the number behind it
+unfoldable pub accessCommand : List ℕ → ℕ → Command
+accessCommand line start = accessBy (writerAt line start) (argumentsFrom line (afterWords 1 line start))
 
 -- ---- a scan
 
@@ -126,23 +151,41 @@ restartOf Malformed = command.Invalid
 
 -- ---- a line of the terminal
 
--- line HEX LENGTH: the bytes of the first word behind a place
+-- line WRITER HEX LENGTH: the second word behind a place
+unfoldable pub terminalWord : List ℕ → ℕ → Span
+terminalWord line start = wordAt line (afterWords 1 line start)
+
+-- its bytes
 unfoldable pub terminalBytes : List ℕ → ℕ → Option (List ℕ)
-terminalBytes line start = let word = wordAt line start in bytesOf (part line (word .from) (word .to))
+terminalBytes line start = let word = terminalWord line start in bytesOf (part line (word .from) (word .to))
 
 -- with that many bytes, at most 300, and the one number behind them; a malformed word asks nothing
-unfoldable pub terminalOf : Count → Arguments → Command
-terminalOf (Bytes n) a =
+unfoldable pub terminalOf : Writer → Count → Arguments → Command
+terminalOf w (Bytes n) a =
     let size = naturalIn (argument (a .values) 0) 0 300 in
-    if hasCount a 1 && size .ok && leb n 300 then command.Call (Line n (size .value)) else command.Invalid
-terminalOf Malformed a = command.Invalid
+    if hasCount a 1 && size .ok && leb n 300 then command.Call (Line w n (size .value)) else command.Invalid
+terminalOf w Malformed a = command.Invalid
+
+-- typed by nobody, it is no line
+unfoldable pub terminalBy : ParsedWriter → Count → Arguments → Command
+terminalBy (writer.Writer w) count a = terminalOf w count a
+terminalBy writer.Malformed count a = command.Invalid
 
 -- with a buffer of that length for the bytes
 unfoldable pub terminalCommand : List ℕ → ℕ → ℕ → Command
 terminalCommand line start size =
-    terminalOf (countIn (terminalBytes line start) size) (argumentsFrom line (wordAt line start .to))
+    terminalBy (writerAt line start) (countIn (terminalBytes line start) size) (argumentsFrom line (terminalWord line start .to))
 
 -- ---- a line
+
+-- a command that brings no bytes, by its name and what stands behind a place
+unfoldable pub namedCommand : List ℕ → List ℕ → ℕ → Command
+namedCommand word call start =
+    if sameBytes word (ascii "scan") then scanCommand call start else
+    if sameBytes word (ascii "sheet-feed") then feedCommand call start else
+    if sameBytes word (ascii "write") then writeCommand call start else
+    if sameBytes word (ascii "access") then accessCommand call start else
+    numbersCommand word (argumentsFrom call start)
 
 -- what a line asks, with a buffer of that length for a restart's bytes or a terminal's line
 unfoldable pub commandOf : List ℕ → ℕ → Command
@@ -151,9 +194,7 @@ commandOf call size =
     let word = part call (w .from) (w .to) in
     if sameBytes word (ascii "restart") then restartOf (countIn (restartImage call (w .to)) size) else
     if sameBytes word (ascii "line") then terminalCommand call (w .to) size else
-    if sameBytes word (ascii "scan") then scanCommand call (w .to) else
-    if sameBytes word (ascii "sheet-feed") then feedCommand call (w .to) else
-    numbersCommand word (argumentsFrom call (w .to))
+    namedCommand word call (w .to)
 
 -- and the buffer afterwards
 unfoldable pub commandBytes : List ℕ → List ℕ → List ℕ

@@ -1,5 +1,6 @@
 pub mod Replies
 pub mod ReplyLaws
+pub mod Writers
 pub mod Commands
 pub mod Calls
 pub mod CallLaws

@@ -5,12 +5,13 @@ ghost use Rattle.controller.specs.Read.{read};
 ghost use Rattle.controller.specs.Scan.{scan};
 ghost use Rattle.controller.specs.Valid.{Valid};
 ghost use Rattle.controller.specs.Write.{write};
-ghost use Rattle.console.specs.Calls.{replyTo, stepOf, performed, bufferAfter};
+ghost use Rattle.console.specs.Calls.{replyTo, stepOf, unchangedWith, accessReply, performed, bufferAfter};
 use crate::request::Call;
 use answers::ScanValues;
 use controller::Answer;
 use controller::Controller;
 use controller::ReadAnswer;
+use rights::Writer;
 use signals::Input;
 use signals::Verdict;
 use signals::clock::ClockReading;
@@ -86,11 +87,11 @@ fn scan(controller: Controller, input: Input) -> Step
 }
 
 // The contract rules out the same of a write.
-fn write(controller: Controller, number: u64, value: i32) -> Step
+fn write(controller: Controller, writer: Writer, number: u64, value: i32) -> Step
     requires { ⌜ Valid controller ⌝ }
-    ensures { λ r. ⌜ r ≡ stepOf (write controller number value) ⌝ }
+    ensures { λ r. ⌜ r ≡ stepOf (write controller writer number value) ⌝ }
 {
-    let r = controller.write(number, value);
+    let r = controller.write(writer, number, value);
     let next = r.controller;
     let verdict = r.verdict;
     Step {
@@ -99,10 +100,21 @@ fn write(controller: Controller, number: u64, value: i32) -> Step
     }
 }
 
+// The contract rules out what another writer or another parameter would be answered, and a change of the controller.
+fn access(controller: Controller, writer: Writer, number: u64) -> Step
+    ensures { λ r. ⌜ r ≡ unchangedWith controller (replyTo (accessReply controller writer number)) ⌝ }
+{
+    let verdict = controller.write_access(writer, number);
+    Step {
+        controller,
+        reply: reply_to_verdict(verdict),
+    }
+}
+
 // Performs a call, with the buffer that holds a restart's bytes or a terminal's line and takes a saved image or the
-// terminal's reply. The contract gives the next
-// controller, the reply and every byte of the buffer, so it rules out the reply of another call, a controller that
-// isn't handed on, and a call that is always an error; and a controller that the next call could not take.
+// terminal's reply. The contract gives the next controller, the reply and every byte of the buffer, so it rules out the
+// reply of another call, a controller that isn't handed on, and a call that is always an error; and a controller that
+// the next call could not take.
 pub fn perform(controller: Controller, call: Call, buffer: &mut [u8]) -> Step
     requires { ⌜ Valid controller ⌝ }
     ensures { λ r. ⌜ (r ≡ performed controller call (now (buffer .entry)))
@@ -115,7 +127,8 @@ pub fn perform(controller: Controller, call: Call, buffer: &mut [u8]) -> Step
             reply: Reply::Accepted,
         },
         Call::Scan(input) => scan(controller, input),
-        Call::Write(number, value) => write(controller, number, value),
+        Call::Write(writer, number, value) => write(controller, writer, number, value),
+        Call::Access(writer, number) => access(controller, writer, number),
         Call::Read(number) => {
             let answer = controller.read(number);
             Step {
@@ -128,7 +141,9 @@ pub fn perform(controller: Controller, call: Call, buffer: &mut [u8]) -> Step
             let reply = crate::image::save(controller, count, buffer);
             Step { controller, reply }
         }
-        Call::Line(count, size) => crate::terminal_line::perform(controller, count, size, buffer),
+        Call::Line(writer, count, size) => {
+            crate::terminal_line::perform(controller, writer, count, size, buffer)
+        }
         Call::Clock => Step {
             controller,
             reply: Reply::Clock(controller.last_reading()),

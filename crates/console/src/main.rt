@@ -2,11 +2,12 @@
 // calls of the controller:
 //     fresh SW                               ok
 //     scan PINS S1 S2 S3 BUTTONS SENSORS MS  scan MD DS OP ELECTRICAL MODE PV, or refused N
-//     write NUMBER VALUE                     ok, or refused N
+//     write WRITER NUMBER VALUE              ok, or refused N
+//     access WRITER NUMBER                   ok, or refused N: what any value of this writer's would get
 //     read NUMBER                            value V, or refused N
 //     restart HEX, or - for no bytes         ok, or refused N
 //     save LENGTH                            image HEX, or refused N
-//     line HEX LENGTH, with - for no bytes   reply N HEX, or refused N: a line of the hand-held terminal
+//     line WRITER HEX LENGTH, - for no bytes reply N HEX, or refused N: a line of the hand-held terminal
 //     clock                                  clock MS, the last accepted reading, or clock none
 // and those of the drying sheet:
 //     sheet-new                              ok
@@ -30,6 +31,8 @@ mod request;
 mod session;
 mod sheet_call;
 mod terminal_line;
+mod write_call;
+mod writer;
 
 // The session after a line, and how much of the output is used.
 struct Answered {

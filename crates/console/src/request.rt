@@ -3,11 +3,12 @@ ghost use mathlib.Core.Path.{_≡_};
 ghost use Prim.Native.Nat.{_≤_};
 ghost use lib.ListN.{length};
 ghost use Rattle.text.specs.Hexadecimal.{countIn, bytesIn};
-ghost use Rattle.console.specs.Commands.{parameterNumber, freshCommand, writeCommand, saveCommand};
-ghost use Rattle.console.specs.Commands.{scanOf, scanWith, scanCommand, numbersCommand};
+ghost use Rattle.console.specs.Commands.{parameterNumber, freshCommand, saveCommand};
+ghost use Rattle.console.specs.Commands.{scanOf, scanWith, scanCommand, numbersCommand, namedCommand};
 ghost use Rattle.console.specs.Commands.{restartImage, restartOf, commandIn, bytesAfter};
 use crate::sheet_call::SheetCall;
 use numerals::ParsedNatural;
+use rights::Writer;
 use signals::Input;
 use text::arguments::Arguments;
 use text::hexadecimal::Count;
@@ -17,14 +18,16 @@ pub enum Call {
     Fresh(u16),
     Scan(Input),
     // a parameter's number and a value
-    Write(u64, i32),
+    Write(Writer, u64, i32),
+    // whether the writer may write the parameter with this number
+    Access(Writer, u64),
     Read(u64),
     // with so many bytes at the front of the buffer
     Restart(usize),
     // into so many bytes
     Save(usize),
     // a line of the terminal, so many bytes at the front of the buffer, with so many bytes for the reply
-    Line(usize, usize),
+    Line(Writer, usize, usize),
     Clock,
 }
 
@@ -102,23 +105,11 @@ fn scan(line: &[u8], start: usize) -> Command
 }
 
 // The number of a parameter, as a line has it: one below zero is no parameter's, and 0 stands for it.
-fn number_in(value: i64) -> u64
+pub fn number_in(value: i64) -> u64
     ensures { λ r. ⌜ r ≡ parameterNumber value ⌝ }
 {
     let size = integers::magnitude(value);
     if integers::negative(value) { 0 } else { size }
-}
-
-// write NUMBER VALUE: a value that 32 bits don't hold is no call
-fn write(values: [i64; 6]) -> Command
-    ensures { λ r. ⌜ r ≡ writeCommand values ⌝ }
-{
-    let number = number_in(values[0]);
-    let v = values[1];
-    if integers::not_above(-2147483648, v) & integers::not_above(v, 2147483647) {
-        return Command::Call(Call::Write(number, integers::narrow(v)));
-    }
-    Command::Invalid
 }
 
 // save LENGTH
@@ -137,9 +128,6 @@ fn of_numbers(word: &[u8], a: Arguments) -> Command
     ensures { λ r. ⌜ r ≡ numbersCommand (now (word .entry)) a ⌝ }
 {
     let values = a.values;
-    if text::arguments::is_call(word, b"write", a, 2) {
-        return write(values);
-    }
     if text::arguments::is_call(word, b"read", a, 1) {
         return Command::Call(Call::Read(number_in(values[0])));
     }
@@ -153,6 +141,27 @@ fn of_numbers(word: &[u8], a: Arguments) -> Command
         return Command::Call(Call::Clock);
     }
     crate::sheet_call::of_word(word, a)
+}
+
+// A command that brings no bytes, by its name and what stands behind the name. The contract rules out the command of
+// another name.
+fn of_name(word: &[u8], call: &[u8], start: usize) -> Command
+    requires { ⌜ start ≤ length (now call) ⌝ }
+    ensures { λ r. ⌜ r ≡ namedCommand (now (word .entry)) (now (call .entry)) start ⌝ }
+{
+    if text::same(word, b"scan") {
+        return scan(call, start);
+    }
+    if text::same(word, b"sheet-feed") {
+        return crate::sheet_call::feed(call, start);
+    }
+    if text::same(word, b"write") {
+        return crate::write_call::write(call, start);
+    }
+    if text::same(word, b"access") {
+        return crate::write_call::access(call, start);
+    }
+    of_numbers(word, text::arguments::parse(call, start))
 }
 
 // restart HEX, or - for no bytes: one argument, which is no number. The contract gives every byte of the buffer, so it
@@ -192,11 +201,5 @@ pub fn parse(line: &[u8], len: usize, bytes: &mut [u8]) -> Command
     if text::same(&call[from..to], b"line") {
         return crate::terminal_line::parse(call, to, bytes);
     }
-    if text::same(&call[from..to], b"scan") {
-        return scan(call, to);
-    }
-    if text::same(&call[from..to], b"sheet-feed") {
-        return crate::sheet_call::feed(call, to);
-    }
-    of_numbers(&call[from..to], text::arguments::parse(call, to))
+    of_name(&call[from..to], call, to)
 }

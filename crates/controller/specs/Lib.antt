@@ -3,6 +3,7 @@ pub mod ImageLaws
 pub mod Read
 pub mod Restart
 pub mod RestartLaws
+pub mod RightLaws
 pub mod Save
 pub mod Scan
 pub mod State

@@ -11,7 +11,7 @@ use lib.ListN.{length, getD}
 use borrow.Author.Tests.{eqb-true, ne-eqb, not-false}
 use Rattle.integers.specs.Choice.{by-cases, never, both}
 use Rattle.integers.specs.Listed.{listed}
-use Rattle.signals.specs.RefusalLaws.{Ascending}
+use Rattle.signals.specs.RefusalLaws.{byNumber, Ascending}
 use Rattle.signals.specs.Refusals.{refusedBy}
 use Rattle.signals.specs.Signals.{switchesOf}
 use Rattle.fields.specs.Decoding.{wellFormedFrom}
@@ -34,7 +34,7 @@ use Rattle.controller.specs.declared.Controller.{Controller}
 
 -- ---- the tests ascend, so the lowest number wins (`lowest-wins`)
 
-pub restart-ascends : (image : List ℕ) → Ascending (restartTests image)
+pub restart-ascends : (image : List ℕ) → Ascending byNumber (restartTests image)
 unfolding restartTests
 restart-ascends image = ((omega arith, (omega arith, tt)), ((omega arith, tt), (tt, tt)))
 

@@ -1,9 +1,8 @@
--- Document 01, "Parameters", "Words" and "By whose hand a call is declined": a write, whole. As for a
--- scan: the next state but for the output, the answer, and an instruction for the output, once for our
+-- Document 01, "Parameters", "Words" and "By whose hand a call is declined", and document 02, request 6: a write,
+-- whole. As for a scan: the next state but for the output, the answer, and an instruction for the output, once for our
 -- controller and for the exact one.
-use mathlib.Core.Bool.{Bool, true, not}
+use mathlib.Core.Bool.{Bool, not}
 use mathlib.Core.List.{List, [], _∷_, _++_}
-use mathlib.Core.Option.{Option, some, none}
 use Prim.Native.Nat.{ℕ, _%_}
 use lib.Dec.{eqb}
 use lib.IntN.{ℤ, natAbs}
@@ -18,6 +17,8 @@ use Rattle.parameters.specs.Legal.{unknownRefusal, readOnlyRefusal, inRange, pa
 use Rattle.parameters.specs.Table.{value, ruleOf}
 use Rattle.parameters.specs.Written.{written}
 use Rattle.parameters.specs.declared.Parameters.{Parameters}
+use Rattle.rights.specs.Rights.{named, accessTests}
+use Rattle.rights.specs.declared.Writer.{Writer}
 use Rattle.outputs.specs.Instruction.{keep}
 use Rattle.outputs.specs.Outputs.{limitsWritten}
 use Rattle.controller.specs.Answers.{Response}
@@ -44,22 +45,28 @@ stateTests c n v =
     if eqb n 20 then setpointTests c else
     if eqb n 24 then mdTests (c .conditions) (wordOf v) else []
 
--- a refusal that the row of the number names: a test that always holds
-abbrev pub named : Option ℕ → List (Bool × ℕ)
-named none = []
-named (some n) = (true, n) ∷ []
-
--- by the row of the table the refusals that it names, its range and its pair rule, then the rest: in the order of their
+-- what is asked of the value: by the row of the table its range and its pair rule, then the rest, in the order of their
 -- numbers, since "the lowest number wins"
-unfoldable pub writeTests : Core → ℕ → ℤ → List (Bool × ℕ)
-writeTests c n v =
+unfoldable pub valueTests : Core → ℕ → ℤ → List (Bool × ℕ)
+valueTests c n v =
     let row = ruleOf n in
     let values = value (c .parameters) in
-    named (unknownRefusal row)
-    ++ (named (readOnlyRefusal row)
-    ++ ((not (inRange row values v), 6)
+    (not (inRange row values v), 6)
     ∷ (not (pairInOrder row values n v), 7)
-    ∷ stateTests c n v))
+    ∷ stateTests c n v
+
+-- what is asked before, whatever the value: 4, 19, 20 and 5, by "the stored pin byte"
+unfoldable pub accessNow : Core → Writer → ℕ → List (Bool × ℕ)
+accessNow c w n = accessTests (ruleOf n) w (c .conditions .pins) n
+
+-- "Each write names its writer"
+unfoldable pub writeTests : Core → Writer → ℕ → ℤ → List (Bool × ℕ)
+writeTests c w n v = accessNow c w n ++ valueTests c n v
+
+-- document 01's tests by themselves, 4 to 11, which are asked of every writer alike: no write is accepted that one of
+-- these refuses, and one by a writer with the right is refused by no other (WriteLaws.antt)
+unfoldable pub commonTests : Core → ℕ → ℤ → List (Bool × ℕ)
+commonTests c n v = named (unknownRefusal (ruleOf n)) ++ (named (readOnlyRefusal (ruleOf n)) ++ valueTests c n v)
 
 -- ---- what an accepted write leaves, but for the output
 
@@ -97,7 +104,7 @@ coreWritten c n v =
 
 -- ---- the whole
 
--- an accepted write: it "says only that it was accepted"
+-- an accepted write, by whomever: it "says only that it was accepted"
 unfoldable pub writeAccepted : Core → ℕ → ℤ → Outcome
 writeAccepted c n v =
     let next = coreWritten c n v in
@@ -108,13 +115,13 @@ writeAccepted c n v =
     }
 
 -- a write, refused or accepted
-unfoldable pub writeCore : Core → ℕ → ℤ → Outcome
-writeCore c n v = refusedOr (refusedBy (writeTests c n v)) c (writeAccepted c n v)
+unfoldable pub writeCore : Core → Writer → ℕ → ℤ → Outcome
+writeCore c w n v = refusedOr (refusedBy (writeTests c w n v)) c (writeAccepted c n v)
 
 -- our controller after an accepted write
 unfoldable pub controllerWritten : Controller → ℕ → ℤ → Controller
 controllerWritten c n v = controllerAfter c (writeAccepted (c .core) n v)
 
 -- what `Controller::write` returns
-unfoldable pub write : Controller → ℕ → ℤ → Response
-write c n v = responseFrom c (writeCore (c .core) n v)
+unfoldable pub write : Controller → Writer → ℕ → ℤ → Response
+write c w n v = responseFrom c (writeCore (c .core) w n v)

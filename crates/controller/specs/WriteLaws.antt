@@ -1,67 +1,44 @@
--- A write returns a valid controller.
+-- What an accepted write has passed, whoever made it; what its answer says of its tests; a write returns a valid
+-- controller.
 use mathlib.Core.Path.{_≡_, refl, sym, _∙_, subst}
 use mathlib.Core.Bool.{Bool, true, false, not, _&&_, _||_}
-use mathlib.Core.List.{List, [], _++_}
+use mathlib.Core.List.{List, _++_}
 use mathlib.Core.Option.{Option, some, none}
-use Prim.Native.Nat.{ℕ, _≤_, _<_}
+use Prim.Native.Nat.{ℕ, _≤_}
 use native.Mathlib.Omega.{arith}
 use lib.Dec.{eqb}
 use lib.IntN.{ℤ, pos, natAbs}
-use borrow.Author.Tests.{eqb-true, eqb-false, ne-eqb, ltb-true, not-false}
+use borrow.Author.Tests.{eqb-true, eqb-false, ne-eqb, not-false}
 use Rattle.integers.specs.Choice.{if_then_else_, by-cases, never}
 use Rattle.integers.specs.Operations.{number}
 use Rattle.integers.specs.Parts.{integers, apart}
 use Rattle.signals.specs.Bits.{bit}
-use Rattle.signals.specs.RefusalLaws.{Above, Ascending}
-use Rattle.signals.specs.Refusals.{numberOf, refusedBy}
+use Rattle.signals.specs.Refusals.{refusedBy}
 use Rattle.modes.specs.Modes.{isOpenCause}
 use Rattle.modes.specs.declared.Request.the-variants.{Manual, Auto, Remote}
 use Rattle.words.specs.Written.{conditionsWritten, exactlyOne, mdTests}
 use Rattle.parameters.specs.Legal.{Legal, unknownRefusal, readOnlyRefusal, inRange, pairInOrder}
 use Rattle.parameters.specs.LegalLaws.{inside}
-use Rattle.parameters.specs.RuleLaws.{not-from, known, settable, namesEarly, names-early}
+use Rattle.parameters.specs.RuleLaws.{not-from, known, settable}
 use Rattle.parameters.specs.Table.{value, ruleOf, isFrom}
 use Rattle.parameters.specs.Written.{written}
 use Rattle.parameters.specs.WrittenLaws.{elsewhere, written-legal}
-use Rattle.parameters.specs.declared.Rule.{Rule}
-use Rattle.parameters.specs.declared.Rule.the-variants.{Unknown, ReadOnly, Word, Free, Pair, Between}
+use Rattle.rights.specs.Rights.{named}
+use Rattle.rights.specs.declared.Writer.{Writer}
 use Rattle.outputs.specs.Instruction.{storedArithmetic, changed, limitedTo, executed, Limits, unlimited}
 use Rattle.outputs.specs.OutputLaws.{OutputRange, limited-still-stored}
 use Rattle.outputs.specs.Outputs.{limitsWritten}
+use Rattle.controller.specs.Answers as answers
+use Rattle.controller.specs.Answers.{acceptance, replyBy}
+use Rattle.controller.specs.RightLaws.{common-passed}
 use Rattle.controller.specs.Scan.{modeNow, refused, controllerAfter, responseFrom}
 use Rattle.controller.specs.Valid.{Valid}
 use Rattle.controller.specs.ValidLaws.{Passed, passed, by-verdict}
-use Rattle.controller.specs.Write.{wordOf, setpointTests, stateTests, named, writeTests, coreWith, mdWritten, dsWritten}
-use Rattle.controller.specs.Write.{parameterWritten, coreWritten, writeAccepted, writeCore, controllerWritten, write}
+use Rattle.controller.specs.Write.{wordOf, stateTests, valueTests, writeTests, commonTests, coreWith}
+use Rattle.controller.specs.Write.{mdWritten, dsWritten, parameterWritten, coreWritten, writeAccepted, writeCore, controllerWritten}
+use Rattle.controller.specs.Write.{write}
 use Rattle.controller.specs.declared.Controller.{Controller}
 use Rattle.controller.specs.declared.Core.{Core}
-
--- ---- the tests ascend, so the lowest number wins (`lowest-wins`)
-
--- what a row names comes before tests whose numbers are 6 and above
-named-ascends : (r : Rule) (ts : List (Bool × ℕ)) → namesEarly r ≡ true → ((k : ℕ) → k < 6 → Above k ts) → Ascending ts →
-    Ascending (named (unknownRefusal r) ++ (named (readOnlyRefusal r) ++ ts))
-named-ascends (Unknown refusal) ts e above rest = (above (numberOf refusal) (ltb-true (numberOf refusal) 6 e), rest)
-named-ascends (ReadOnly refusal) ts e above rest = (above (numberOf refusal) (ltb-true (numberOf refusal) 6 e), rest)
-named-ascends (Word least most) ts e above rest = rest
-named-ascends (Free least most) ts e above rest = rest
-named-ascends (Pair least most high low strict) ts e above rest = rest
-named-ascends (Between low high) ts e above rest = rest
-
-pub write-ascends : (c : Core) (n : ℕ) (v : ℤ) → Ascending (writeTests c n v)
-unfolding writeTests stateTests setpointTests mdTests
-write-ascends c n v =
-    let tail = stateTests c n v in
-    let above : (k : ℕ) → k < 8 → Above k tail = λ k h.
-    by-cases (Above k) (eqb n 20) (setpointTests c) _ (λ e. (omega arith, tt))
-    (λ e. by-cases (Above k) (eqb n 24) (mdTests (c .conditions) (wordOf v)) [] (λ d. (omega arith, (omega arith, (omega arith, tt))))
-    (λ d. tt)) in
-    let rest : Ascending tail =
-    by-cases Ascending (eqb n 20) (setpointTests c) _ (λ e. (tt, tt))
-    (λ e. by-cases Ascending (eqb n 24) (mdTests (c .conditions) (wordOf v)) []
-    (λ d. ((omega arith, (omega arith, tt)), ((omega arith, tt), (tt, tt)))) (λ d. tt)) in
-    named-ascends (ruleOf n) _ (names-early n) (λ k h. (h, (omega arith, above k (omega arith))))
-    ((omega arith, above 6 (omega arith)), (above 7 (omega arith), rest))
 
 -- ---- what an accepted write has passed
 
@@ -76,10 +53,10 @@ none-named : (refusal : Option ℕ) (ts : List (Bool × ℕ)) → Passed (named 
 none-named none ts t = (refl, t)
 none-named (some n) ts t = never (sym (t .0))
 
-pub accepted-write : (c : Core) (n : ℕ) (v : ℤ) → refusedBy (writeTests c n v) ≡ none → AcceptedWrite c n v
-unfolding writeTests
+pub accepted-write : (c : Core) (n : ℕ) (v : ℤ) → refusedBy (commonTests c n v) ≡ none → AcceptedWrite c n v
+unfolding commonTests valueTests
 accepted-write c n v accepted =
-    let t = none-named (unknownRefusal (ruleOf n)) _ (passed (writeTests c n v) accepted) in
+    let t = none-named (unknownRefusal (ruleOf n)) _ (passed (commonTests c n v) accepted) in
     let u = none-named (readOnlyRefusal (ruleOf n)) _ (t .1) in
     record {
       is-known = t .0;
@@ -90,14 +67,14 @@ accepted-write c n v accepted =
     }
 
 -- an accepted word of MD is the value itself
-pub word-is : (c : Core) (n : ℕ) (v : ℤ) → refusedBy (writeTests c n v) ≡ none → n ≡ 24 → wordOf v ≡ natAbs v
+pub word-is : (c : Core) (n : ℕ) (v : ℤ) → refusedBy (commonTests c n v) ≡ none → n ≡ 24 → wordOf v ≡ natAbs v
 unfolding ruleOf
 word-is c n v accepted e =
     let w = subst (λ (m : ℕ). inRange (ruleOf m) (value (c .parameters)) v ≡ true) e (accepted-write c n v accepted .range) in
     let k = inside (pos 0) (pos 65535) v w in
     omega (arith, integers, k .not-below, k .not-above, number v, apart v)
 
-module _ (c : Core) (n : ℕ) (v : ℤ) (legal : Legal (c .parameters)) (accepted : refusedBy (writeTests c n v) ≡ none) where
+module _ (c : Core) (n : ℕ) (v : ℤ) (legal : Legal (c .parameters)) (accepted : refusedBy (commonTests c n v) ≡ none) where
   -- a value in range and in order leaves the parameters legal, whichever of them it is
   pub values-legal : (n ≡ 24 → ⊥) → (n ≡ 25 → ⊥) → Legal (written (c .parameters) n v)
   values-legal a b =
@@ -175,7 +152,7 @@ manual-word true false true b11 true opened e d f = never (sym d)
 manual-word true false false true true opened e d f = never (sym d)
 manual-word true false false false true opened e d f = never (sym e)
 
-manual-written : (c : Core) (n : ℕ) (v : ℤ) → refusedBy (writeTests c n v) ≡ none →
+manual-written : (c : Core) (n : ℕ) (v : ℤ) → refusedBy (commonTests c n v) ≡ none →
     (c .conditions .fault ≡ true → c .conditions .request ≡ Manual) →
     coreWritten c n v .conditions .fault ≡ true → coreWritten c n v .conditions .request ≡ Manual
 unfolding coreWritten mdWritten dsWritten parameterWritten coreWith conditionsWritten stateTests mdTests
@@ -190,9 +167,39 @@ manual-written c n v accepted before =
     (k .1 .1 .0))
     (λ e. by-cases P (eqb n 25) (dsWritten c w) (parameterWritten c n v) (λ f. before) (λ f. before))
 
+-- ---- a write's own refusal, by its answer
+
+module _ (c : Controller) (w : Writer) (n : ℕ) (v : ℤ) where
+  pub write-answer : write c w n v .answer ≡ replyBy (refusedBy (writeTests (c .core) w n v))
+  unfolding write writeCore responseFrom writeAccepted refused
+  write-answer = go (refusedBy (writeTests (c .core) w n v)) refl
+    where
+      go : (d : Option ℕ) → refusedBy (writeTests (c .core) w n v) ≡ d → write c w n v .answer ≡ replyBy d
+      go none e = rw e refl
+      go (some k) e = rw e refl
+
+  pub write-accepted : write c w n v .answer ≡ acceptance → refusedBy (writeTests (c .core) w n v) ≡ none
+  write-accepted e = go (refusedBy (writeTests (c .core) w n v)) (sym write-answer ∙ e)
+    where
+      go : (d : Option ℕ) → replyBy d ≡ acceptance → d ≡ none
+      go none f = refl
+      go (some k) f = let z : _≡_ {A = ℕ} 0 1 = cc in absurd (omega arith)
+
+  pub write-refused : (k : ℕ) → write c w n v .answer ≡ answers.number k → refusedBy (writeTests (c .core) w n v) ≡ some k
+  write-refused k e = go (refusedBy (writeTests (c .core) w n v)) (sym write-answer ∙ e)
+    where
+      go : (d : Option ℕ) → replyBy d ≡ answers.number k → d ≡ some k
+      go none f = let z : _≡_ {A = ℕ} 0 1 = cc in absurd (omega arith)
+      go (some m) f = cc
+
+  -- a refused write leaves the controller
+  pub write-leaves : (k : ℕ) → refusedBy (writeTests (c .core) w n v) ≡ some k → write c w n v .next ≡ c
+  unfolding write writeCore responseFrom controllerAfter refused executed changed limitedTo
+  write-leaves k e = rw e refl
+
 -- ---- valid
 
-pub written-valid : (c : Controller) (n : ℕ) (v : ℤ) → Valid c → refusedBy (writeTests (c .core) n v) ≡ none →
+pub written-valid : (c : Controller) (n : ℕ) (v : ℤ) → Valid c → refusedBy (commonTests (c .core) n v) ≡ none →
     Valid (controllerWritten c n v)
 unfolding controllerWritten controllerAfter writeAccepted executed changed limitedTo limitsWritten
 written-valid c n v valid accepted =
@@ -210,8 +217,8 @@ written-valid c n v valid accepted =
     unlimited-stored : OutputRange (limitedTo storedArithmetic unlimited (c .output))
     unlimited-stored = valid .stored
 
-pub valid-write : (c : Controller) (n : ℕ) (v : ℤ) → Valid c → Valid (write c n v .next)
+pub valid-write : (c : Controller) (w : Writer) (n : ℕ) (v : ℤ) → Valid c → Valid (write c w n v .next)
 unfolding write writeCore responseFrom controllerAfter refused executed changed limitedTo controllerWritten
-valid-write c n v valid =
-    by-verdict (λ o. Valid (responseFrom c o .next)) (refusedBy (writeTests (c .core) n v)) (c .core) (writeAccepted (c .core) n v)
-    (λ e. written-valid c n v valid e) (λ m. valid)
+valid-write c w n v valid =
+    by-verdict (λ o. Valid (responseFrom c o .next)) (refusedBy (writeTests (c .core) w n v)) (c .core) (writeAccepted (c .core) n v)
+    (λ e. written-valid c n v valid (common-passed (c .core) w n v e)) (λ m. valid)

@@ -1,16 +1,17 @@
-// Writes: whether one is accepted, and what it leaves.
+// Writes: who may make one, whether it is accepted, and what it leaves.
 ghost use mathlib.Core.Path.{_≡_};
 ghost use mathlib.Core.Option.{none};
 ghost use Rattle.signals.specs.Refusals.{numberIn, refusedBy};
 ghost use Rattle.controller.specs.Answers.{responseOfVerdict};
 ghost use Rattle.controller.specs.Valid.{Valid};
-ghost use Rattle.controller.specs.Write.{setpointTests, wordOf, stateTests, writeTests, coreWith, mdWritten};
-ghost use Rattle.controller.specs.Write.{dsWritten, parameterWritten, coreWritten, controllerWritten, write};
+ghost use Rattle.controller.specs.Write.{setpointTests, wordOf, stateTests, valueTests, accessNow, writeTests, commonTests};
+ghost use Rattle.controller.specs.Write.{coreWith, mdWritten, dsWritten, parameterWritten, coreWritten, controllerWritten, write};
 use crate::CallResult;
 use crate::Controller;
 use crate::Core;
 use modes::Conditions;
 use parameters::Parameters;
+use rights::Writer;
 use signals::Refusal;
 use signals::Verdict;
 use words::UserBits;
@@ -51,21 +52,13 @@ impl Core {
         }
     }
 
-    // Whether a write is accepted. The contract rules out a refusal for another cause, one that is
-    // forgotten, and a higher number where a lower one applies.
-    fn write_verdict(self, number: u64, v: i64) -> Verdict
-        ensures { λ r. ⌜ numberIn r ≡ refusedBy (writeTests self number v) ⌝ }
+    // Refusals 6 to 11. The contract rules out a refusal for another cause, one that is forgotten, and a higher number
+    // where a lower one applies.
+    fn value_verdict(self, number: u64, v: i64) -> Verdict
+        ensures { λ r. ⌜ numberIn r ≡ refusedBy (valueTests self number v) ⌝ }
     {
         let p = self.parameters;
         let rule = Controller::rule(number);
-        let unknown = rule.unknown_verdict();
-        if let Verdict::Refused(refusal) = unknown {
-            return Verdict::Refused(refusal);
-        }
-        let readonly = rule.read_only_verdict();
-        if let Verdict::Refused(refusal) = readonly {
-            return Verdict::Refused(refusal);
-        }
         if !rule.in_range(p, v) {
             return Verdict::Refused(Refusal::Range);
         }
@@ -73,6 +66,24 @@ impl Core {
             return Verdict::Refused(Refusal::Pair);
         }
         self.state_verdict(number, v)
+    }
+
+    // Refusals 4, 19, 20 and 5, by the stored pin byte. The contract rules out another byte.
+    fn access(self, writer: Writer, number: u64) -> Verdict
+        ensures { λ r. ⌜ numberIn r ≡ refusedBy (accessNow self writer number) ⌝ }
+    {
+        let conditions = self.conditions;
+        let rule = Controller::rule(number);
+        rights::access_verdict(rule, writer, conditions.pins, number)
+    }
+
+    // Whether a write is accepted. The contract rules out a refusal of the value where the writer may not write.
+    fn write_verdict(self, writer: Writer, number: u64, v: i64) -> Verdict
+        ensures { λ r. ⌜ numberIn r ≡ refusedBy (writeTests self writer number v) ⌝ }
+    {
+        let access = self.access(writer, number);
+        let value = self.value_verdict(number, v);
+        signals::first_refusal(access, value)
     }
 
     // The same but for these three: no write touches anything else.
@@ -140,9 +151,9 @@ impl Core {
 }
 
 impl Controller {
-    // The controller after an accepted write.
+    // The controller after an accepted write, by whomever.
     fn written(self, number: u64, v: i64) -> Controller
-        requires { ⌜ Valid self × (refusedBy (writeTests (self .core) number v) ≡ none) ⌝ }
+        requires { ⌜ Valid self × (refusedBy (commonTests (self .core) number v) ≡ none) ⌝ }
         ensures { λ r. ⌜ r ≡ controllerWritten self number v ⌝ }
     {
         let before = self.core;
@@ -154,17 +165,27 @@ impl Controller {
         Controller { core, output }
     }
 
-    // One write of a value, in the parameter's own units (`parameters` has the numbers by name): the next
-    // controller and that it was accepted, or a refusal from 4 to 11 and the controller as it was. The
+    // Whether this writer may write the parameter with this number now: accepted, or the refusal that any value would
+    // get, 4, 19, 20 or 5. A host asks it before it offers a field for editing. The contract rules out an answer that
+    // another writer or another parameter would get; nothing changes, since no controller is returned.
+    pub fn write_access(self, writer: Writer, number: u64) -> Verdict
+        ensures { λ r. ⌜ numberIn r ≡ refusedBy (accessNow (self .core) writer number) ⌝ }
+    {
+        let core = self.core;
+        core.access(writer, number)
+    }
+
+    // One write of a value by a writer, in the parameter's own units (`parameters` has the numbers by name): the next
+    // controller and that it was accepted, or a refusal, 4, 19, 20 or from 5 to 11, and the controller as it was. The
     // contract gives the whole of both, so it rules out a write that changes anything else, one that
-    // forgets what it should do besides, and a refusal for no listed cause.
-    pub fn write(self, number: u64, value: i32) -> CallResult
+    // forgets what it should do besides, one by a writer without the right, and a refusal for no listed cause.
+    pub fn write(self, writer: Writer, number: u64, value: i32) -> CallResult
         requires { ⌜ Valid self ⌝ }
-        ensures { λ r. ⌜ responseOfVerdict r ≡ write self number value ⌝ }
+        ensures { λ r. ⌜ responseOfVerdict r ≡ write self writer number value ⌝ }
     {
         let core = self.core;
         let v = integers::wide(value);
-        let verdict = core.write_verdict(number, v);
+        let verdict = core.write_verdict(writer, number, v);
         match verdict {
             Verdict::Refused(refusal) => CallResult {
                 controller: self,

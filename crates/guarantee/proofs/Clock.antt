@@ -73,8 +73,8 @@ unfolding outcomeOf scanCore writeCore writeAccepted restartCore restartAccepted
 step c (scan i) =
     by-verdict (λ o. o .next .clock ≡ readingAfter (scan i) (o .answer) (c .clock)) (refusedBy (scanTests (c .clock) i)) c
     (accepted oneMore c i) (λ e. refl) (λ n. refl)
-step c (write n v) =
-    by-verdict (λ o. o .next .clock ≡ readingAfter (write n v) (o .answer) (c .clock)) (refusedBy (writeTests c n v)) c
+step c (write w n v) =
+    by-verdict (λ o. o .next .clock ≡ readingAfter (write w n v) (o .answer) (c .clock)) (refusedBy (writeTests c w n v)) c
     (writeAccepted c n v) (λ e. clock-stays c n v) (λ m. refl)
 step c (restart image) =
     by-verdict (λ o. o .next .clock ≡ readingAfter (restart image) (o .answer) (c .clock)) (refusedBy (restartTests image)) c
@@ -92,7 +92,7 @@ refused-leaves : (x : Call) (word : ℕ) (xs : Calls) (last : ClockReading) → 
     readingAfter x (exactAnswer word xs x) last ≡ last
 unfolding readingAfter
 refused-leaves (scan i) word xs last e = rw e refl
-refused-leaves (write n v) word xs last e = refl
+refused-leaves (write w n v) word xs last e = refl
 refused-leaves (restart image) word xs last e = rw e refl
 
 pub last-scan : {word : ℕ} {i : Input} {xs : Calls} → LastScan word i xs → lastReading word xs ≡ At (i .milliseconds)
@@ -129,7 +129,7 @@ pub last-scan-found : LastScanFound
 unfolding lastReading readingAfter
 last-scan-found word ms none e = absurd (no-reading ms e)
 last-scan-found word ms (xs then scan i) e = found-scan word ms xs (λ h. last-scan-found word ms xs h) i _ refl e
-last-scan-found word ms (xs then write n v) e =
+last-scan-found word ms (xs then write w n v) e =
     let earlier = last-scan-found word ms xs e in
     record { input = earlier .input; last = writtenAfter (earlier .last); reading = earlier .reading }
 last-scan-found word ms (xs then restart image) e = found-restart word ms xs (λ h. last-scan-found word ms xs h) image _ refl e

@@ -130,9 +130,9 @@ counts c (scan i) n =
     by-verdict (λ o. countAfter c (o .next) (scan i) (o .answer) n ≡ changeCount (o .instruction .change) n)
     (refusedBy (scanTests (c .clock) i)) c (accepted oneMore c i)
     (λ e. accepted-counts c i n) (λ k. refl)
-counts c (write number v) n =
-    by-verdict (λ o. countAfter c (o .next) (write number v) (o .answer) n ≡ changeCount (o .instruction .change) n)
-    (refusedBy (writeTests c number v)) c (writeAccepted c number v)
+counts c (write w number v) n =
+    by-verdict (λ o. countAfter c (o .next) (write w number v) (o .answer) n ≡ changeCount (o .instruction .change) n)
+    (refusedBy (writeTests c w number v)) c (writeAccepted c number v)
     (λ e. refl) (λ k. refl)
 counts c (restart image) n =
     by-verdict (λ o. countAfter c (o .next) (restart image) (o .answer) n ≡ changeCount (o .instruction .change) n)

@@ -36,9 +36,9 @@ step c (scan i) =
     (refusedBy (scanTests (c .clock) i)) c (accepted oneMore c i)
     (λ e. ap (λ (h : History). if isOpen i then Nothing else h)
     (remembered-is (earlierScans c i) r ∙ ap (λ (h : History). remember (r .pv) (r .sp) h) (history-is c i))) (λ n. refl)
-step c (write n v) =
-    by-verdict (λ o. o .next .history ≡ earlierAfter (o .next) (c .clock) (write n v) (o .answer) (c .history))
-    (refusedBy (writeTests c n v)) c (writeAccepted c n v)
+step c (write w n v) =
+    by-verdict (λ o. o .next .history ≡ earlierAfter (o .next) (c .clock) (write w n v) (o .answer) (c .history))
+    (refusedBy (writeTests c w n v)) c (writeAccepted c n v)
     (λ e. history-stays c n v) (λ m. refl)
 step c (restart image) =
     by-verdict (λ o. o .next .history ≡ earlierAfter (o .next) (c .clock) (restart image) (o .answer) (c .history))

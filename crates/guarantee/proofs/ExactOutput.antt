@@ -222,9 +222,9 @@ outcome-is k (scan i) f =
     by-verdict (λ o. (if isAccepted (o .answer) then outputAfter k (o .next) (scan i) f else f)
     ≡ executed exactArithmetic (o .instruction) f) (refusedBy (scanTests (k .clock) i)) k
     (accepted oneMore k i) (λ e. scan-is k i f) (λ n. refl)
-outcome-is k (write n v) f =
-    by-verdict (λ o. (if isAccepted (o .answer) then outputAfter k (o .next) (write n v) f else f)
-    ≡ executed exactArithmetic (o .instruction) f) (refusedBy (writeTests k n v)) k
+outcome-is k (write w n v) f =
+    by-verdict (λ o. (if isAccepted (o .answer) then outputAfter k (o .next) (write w n v) f else f)
+    ≡ executed exactArithmetic (o .instruction) f) (refusedBy (writeTests k w n v)) k
     (writeAccepted k n v) (λ e. write-is k (writeAccepted k n v .next) n f) (λ m. refl)
 outcome-is k (restart image) f =
     by-verdict (λ o. (if isAccepted (o .answer) then outputAfter k (o .next) (restart image) f else f)

@@ -8,6 +8,7 @@ use denote.Ref.{now}
 use Rattle.signals.specs.declared.Input.{Input}
 use Rattle.modes.specs.Modes.{counted}
 use Rattle.modes.specs.declared.Mode.{Mode}
+use Rattle.rights.specs.declared.Writer.{Writer}
 use Rattle.controller.specs.Answers.{Reply, Response, responseOf, replyOfVerdict, responseOfVerdict}
 use Rattle.controller.specs.Restart as restarts
 use Rattle.controller.specs.Scan as rules
@@ -31,18 +32,12 @@ use Rattle.guarantee.proofs.Clock.{reading-after, last-scan, apart}
 use Rattle.guarantee.proofs.Earlier.{earlier-after}
 use Rattle.guarantee.proofs.Faults.{fault-after}
 use Rattle.guarantee.proofs.Limits.{within-after}
+use Rattle.guarantee.proofs.Linked.{linked}
 use Rattle.guarantee.proofs.Modes.{mode-is-first}
 use Rattle.guarantee.proofs.Ours.{ours, cores, outcomes, switch-word, open-count-after, valid-after, bound-after}
+use Rattle.guarantee.proofs.Rights.{pins-after, access-told, unchanged, by-value}
 
--- ---- what the contracts hand on is what the rules give
-
-pub linked : {word : ℕ} {xs : Calls} {rs : List Response} {c : Controller} → Linked word xs rs c → c ≡ ours word xs
-unfolding ours rules.scan writes.write restarts.restart outcomeOf rules.scanCore
-linked (started r e) = e
-linked (scanned i r l e) = ap (λ (h : Response). h .next) e ∙ ap (λ (k : Controller). rules.scan k i .next) (linked l)
-linked (wrote n v r l e) = ap (λ (h : Response). h .next) e ∙ ap (λ (k : Controller). writes.write k n v .next) (linked l)
-linked (restarted life image r l e) =
-    ap (λ (h : Response). h .next) e ∙ ap (λ (k : Controller). restarts.restart k (now image) .next) (linked l)
+-- ---- the answers
 
 -- what a call returns, in the exact controller's answer and our own output
 response-answer : (word : ℕ) (xs : Calls) (x : Call) → let h = responseFrom (ours word xs) (outcomeOf counted (ours word xs .core) x) in
@@ -66,11 +61,11 @@ scan-is : {word : ℕ} {xs : Calls} {rs : List Response} {c : Controller} (i : I
 unfolding rules.scan outcomeOf
 scan-is i r l e = e ∙ ap (λ (k : Controller). rules.scan k i) (linked l)
 
-write-is : {word : ℕ} {xs : Calls} {rs : List Response} {c : Controller} (n : ℕ) (v : ℤ) (r : CallResult) → Linked word xs rs c →
-    WriteEnsures c n v r →
-    responseOfVerdict r ≡ responseFrom (ours word xs) (outcomeOf counted (ours word xs .core) (write n v))
+write-is : {word : ℕ} {xs : Calls} {rs : List Response} {c : Controller} (w : Writer) (n : ℕ) (v : ℤ) (r : CallResult) →
+    Linked word xs rs c → WriteEnsures c w n v r →
+    responseOfVerdict r ≡ responseFrom (ours word xs) (outcomeOf counted (ours word xs .core) (write w n v))
 unfolding writes.write outcomeOf
-write-is n v r l e = e ∙ ap (λ (k : Controller). writes.write k n v) (linked l)
+write-is w n v r l e = e ∙ ap (λ (k : Controller). writes.write k w n v) (linked l)
 
 restart-is : {word : ℕ} {xs : Calls} {rs : List Response} {c : Controller} (life : Lifetime) (image : Slice) (r : CallResult) →
     Linked word xs rs c → RestartEnsures life c image r →
@@ -90,7 +85,7 @@ answered {word} {xs} x h e earlier =
 answers : {word : ℕ} {xs : Calls} {rs : List Response} {c : Controller} → Linked word xs rs c → SameAnswers word xs rs
 answers (started r e) = no-answer
 answers (scanned i r l e) = answered (scan i) (responseOf r) (scan-is i r l e) (answers l)
-answers (wrote n v r l e) = answered (write n v) (responseOfVerdict r) (write-is n v r l e) (answers l)
+answers (wrote w n v r l e) = answered (write w n v) (responseOfVerdict r) (write-is w n v r l e) (answers l)
 answers (restarted life image r l e) = answered (restart (now image)) (responseOfVerdict r) (restart-is life image r l e) (answers l)
 
 -- ---- demand 3
@@ -114,6 +109,10 @@ guarantee word calls rs c l =
       open-scans-counted = open-count-after word calls;
       reading-remembered = reading-after word calls;
       last-reading = λ r h. h ∙ clock-is;
+      pins-stored = pins-after word calls;
+      without-right = unchanged l;
+      with-right = by-value l;
+      access-told = access-told l;
       scans-apart = λ i j r v l h q. apart c j r v (i .milliseconds) h q (clock-is ∙ last-scan l);
       earlier-scans-remembered = earlier-after word calls;
       fault-stands = rw e (fault-after word calls);
@@ -138,7 +137,8 @@ ready word calls rs c l =
     record {
       fresh-ready = λ word. tt;
       scan-ready = λ i. valid;
-      write-ready = λ n v. valid;
+      write-ready = λ w n v. valid;
+      access-ready = λ w n. tt;
       restart-ready = λ life image. tt;
       read-ready = λ n. valid;
       last-reading-ready = tt;

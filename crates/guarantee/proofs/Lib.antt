@@ -10,5 +10,7 @@ pub mod Existence
 pub mod Faults
 pub mod Guarantee
 pub mod Limits
+pub mod Linked
 pub mod Modes
 pub mod Ours
+pub mod Rights

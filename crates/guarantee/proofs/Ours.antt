@@ -55,7 +55,7 @@ pub valid-after : (word : ℕ) (xs : Calls) → Valid (ours word xs)
 unfolding ours outcomeOf rules.scan writes.write restarts.restart
 valid-after word none = valid-fresh word
 valid-after word (xs then scan i) = valid-scan (ours word xs) i (valid-after word xs)
-valid-after word (xs then write n v) = valid-write (ours word xs) n v (valid-after word xs)
+valid-after word (xs then write w n v) = valid-write (ours word xs) w n v (valid-after word xs)
 valid-after word (xs then restart image) = valid-restart (ours word xs) image (valid-after word xs)
 
 -- the switch word stays
@@ -63,8 +63,8 @@ pub switch-word : (c : Core) (x : Call) → outcomeOf counted c x .next .sw ≡ 
 unfolding outcomeOf scanCore writeCore writeAccepted restartCore restartAccepted refused accepted coreAfter
 switch-word c (scan i) =
     by-verdict (λ o. o .next .sw ≡ c .sw) (refusedBy (scanTests (c .clock) i)) c (accepted counted c i) (λ e. refl) (λ n. refl)
-switch-word c (write n v) =
-    by-verdict (λ o. o .next .sw ≡ c .sw) (refusedBy (writeTests c n v)) c (writeAccepted c n v) (λ e. sw-stays c n v) (λ m. refl)
+switch-word c (write w n v) =
+    by-verdict (λ o. o .next .sw ≡ c .sw) (refusedBy (writeTests c w n v)) c (writeAccepted c n v) (λ e. sw-stays c n v) (λ m. refl)
 switch-word c (restart image) =
     by-verdict (λ o. o .next .sw ≡ c .sw) (refusedBy (restartTests image)) c (restartAccepted c (valuesIn image)) (λ e. refl) (λ m. refl)
 
@@ -79,8 +79,8 @@ unfolding outcomeOf scanCore writeCore writeAccepted restartCore restartAccepted
 outcome-sound c (scan i) legal =
     by-verdict (λ o. Divides (o .instruction .change)) (refusedBy (scanTests (c .clock) i)) c (accepted oneMore c i)
     (λ e. instruction-sound (c .parameters) _ _ (earlierScans c i) legal) (λ n. keeps)
-outcome-sound c (write n v) legal =
-    by-verdict (λ o. Divides (o .instruction .change)) (refusedBy (writeTests c n v)) c (writeAccepted c n v) (λ e. keeps) (λ m. keeps)
+outcome-sound c (write w n v) legal =
+    by-verdict (λ o. Divides (o .instruction .change)) (refusedBy (writeTests c w n v)) c (writeAccepted c n v) (λ e. keeps) (λ m. keeps)
 outcome-sound c (restart image) legal =
     by-verdict (λ o. Divides (o .instruction .change)) (refusedBy (restartTests image)) c (restartAccepted c (valuesIn image)) (λ e. sets)
     (λ m. keeps)
@@ -103,9 +103,9 @@ open-counts c (scan i) =
     by-verdict (λ o. o .next .conditions .opencount ≡ openAfter (scan i) (o .answer) (c .conditions .opencount))
     (refusedBy (scanTests (c .clock) i)) c (accepted oneMore c i)
     (λ e. refl) (λ n. refl)
-open-counts c (write n v) =
-    by-verdict (λ o. o .next .conditions .opencount ≡ openAfter (write n v) (o .answer) (c .conditions .opencount))
-    (refusedBy (writeTests c n v)) c (writeAccepted c n v)
+open-counts c (write w n v) =
+    by-verdict (λ o. o .next .conditions .opencount ≡ openAfter (write w n v) (o .answer) (c .conditions .opencount))
+    (refusedBy (writeTests c w n v)) c (writeAccepted c n v)
     (λ e. open-count-stay c n v) (λ m. refl)
 open-counts c (restart image) =
     by-verdict (λ o. o .next .conditions .opencount ≡ openAfter (restart image) (o .answer) (c .conditions .opencount))

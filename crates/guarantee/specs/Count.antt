@@ -1,7 +1,7 @@
 -- What the list of calls tells, by which of them were accepted: the consecutive open scans, the last reading of the
--- clock, what is remembered of earlier scans, and demand 3's n, the automatic scans since the output was last set
--- outright. "In demand 3 the conditions of step 3, the accepted automatic scans and the outright settings are read from
--- the exact controller."
+-- clock, the stored pin byte, what is remembered of earlier scans, and demand 3's n, the automatic scans since the
+-- output was last set outright. "In demand 3 the conditions of step 3, the accepted automatic scans and the outright
+-- settings are read from the exact controller."
 use mathlib.Core.Path.{_≡_}
 use mathlib.Core.Bool.{Bool, true, false, not, _&&_, _||_}
 use Prim.Native.Nat.{ℕ, _+_}
@@ -11,6 +11,7 @@ use Rattle.signals.specs.Bits.{bit}
 use Rattle.signals.specs.declared.Input.{Input}
 use Rattle.signals.specs.declared.clock.ClockReading.{ClockReading}
 use Rattle.signals.specs.declared.clock.ClockReading.the-variants.{None, At}
+use Rattle.rights.specs.declared.Writer.{Writer}
 use Rattle.outputs.specs.declared.History.{History}
 use Rattle.outputs.specs.declared.History.the-variants.{Nothing, One, Two}
 use Rattle.controller.specs.Scan.{Status}
@@ -27,7 +28,7 @@ use Rattle.guarantee.specs.Modes.{modeIn, automaticMode, trackMode, manu
 -- call and a write leave the count
 unfoldable pub openAfter : Call → Status → ℕ → ℕ
 openAfter (scan i) answer n = if not (isAccepted answer) then n else if bit (i .sensors) 0 then n + 1 else 0
-openAfter (write number value) answer n = n
+openAfter (write writer number value) answer n = n
 openAfter (restart image) answer n = if isAccepted answer then 0 else n
 
 unfoldable pub openScans : ℕ → Calls → ℕ
@@ -39,7 +40,7 @@ openScans word (xs then x) = openAfter x (exactAnswer word xs x) (openScans word
 -- an accepted scan's reading is the last; an accepted restart leaves none; a refused call and a write leave it
 unfoldable pub readingAfter : Call → Status → ClockReading → ClockReading
 readingAfter (scan i) answer last = if isAccepted answer then At (i .milliseconds) else last
-readingAfter (write number value) answer last = last
+readingAfter (write writer number value) answer last = last
 readingAfter (restart image) answer last = if isAccepted answer then None else last
 
 -- "Until a scan is accepted after a fresh start": none
@@ -51,7 +52,7 @@ lastReading word (xs then x) = readingAfter x (exactAnswer word xs x) (lastReadi
 pub data LastScan (word : ℕ) (i : Input) : Calls → Type 0 where
   made : {xs : Calls} → isAccepted (exactAnswer word xs (scan i)) ≡ true → LastScan word i (xs then scan i)
   refusedAfter : {xs : Calls} {x : Call} → LastScan word i xs → isAccepted (exactAnswer word xs x) ≡ false → LastScan word i (xs then x)
-  writtenAfter : {xs : Calls} {n : ℕ} {v : ℤ} → LastScan word i xs → LastScan word i (xs then write n v)
+  writtenAfter : {xs : Calls} {w : Writer} {n : ℕ} {v : ℤ} → LastScan word i xs → LastScan word i (xs then write w n v)
 
 -- such a scan is found wherever a reading is remembered: so what is said of the last scan is said of something
 pub record LastScanAt (word milliseconds : ℕ) (calls : Calls) : Type 0 where
@@ -62,6 +63,18 @@ pub record LastScanAt (word milliseconds : ℕ) (calls : Calls) : Type 0 where
 abbrev pub LastScanFound : Type 0
 LastScanFound =
     (word milliseconds : ℕ) (calls : Calls) → lastReading word calls ≡ At milliseconds → LastScanAt word milliseconds calls
+
+-- ---- the pins: "the stored pin byte, 80h after a start or restart"
+
+-- an accepted scan's pin byte is stored; an accepted restart leaves 80h; a refused call and a write leave it
+unfoldable pub pinsAfter : Call → Status → ℕ → ℕ
+pinsAfter (scan i) answer pins = if isAccepted answer then i .pins else pins
+pinsAfter (write writer number value) answer pins = pins
+pinsAfter (restart image) answer pins = if isAccepted answer then 0x80 else pins
+
+unfoldable pub lastPins : ℕ → Calls → ℕ
+lastPins word none = 0x80
+lastPins word (xs then x) = pinsAfter x (exactAnswer word xs x) (lastPins word xs)
 
 -- ---- what is remembered of earlier scans: the PV and SP of the last one, and the PV of the one before
 
@@ -78,7 +91,7 @@ earlierAfter now last (scan i) answer h =
     if not (isAccepted answer) then h else
     if bit (i .sensors) 0 then Nothing else
     remember (now .readings .pv) (now .readings .sp) (recalledAt last (i .milliseconds) h)
-earlierAfter now last (write number value) answer h = h
+earlierAfter now last (write writer number value) answer h = h
 earlierAfter now last (restart image) answer h = if isAccepted answer then Nothing else h
 
 -- "no earlier PV or SP remembered" by a fresh controller
@@ -93,13 +106,13 @@ earlier word (xs then x) =
 -- Track, or one in Manual or Forced that goes to minimum, or an accepted restart
 unfoldable pub setsOutright : Core → Core → Call → Bool
 setsOutright before now (scan i) = trackMode (modeIn now) || manualOrForced (modeIn now) && toMinimum before now
-setsOutright before now (write number value) = false
+setsOutright before now (write writer number value) = false
 setsOutright before now (restart image) = true
 
 -- step 6: "Automatic and open: kept. Automatic otherwise, an automatic scan"
 unfoldable pub isAutomaticScan : Core → Call → Bool
 isAutomaticScan now (scan i) = automaticMode (modeIn now) && not (bit (i .sensors) 0)
-isAutomaticScan now (write number value) = false
+isAutomaticScan now (write writer number value) = false
 isAutomaticScan now (restart image) = false
 
 -- n after one call more

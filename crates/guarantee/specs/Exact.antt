@@ -6,6 +6,7 @@ use Prim.Native.Nat.{ℕ, _+_}
 use lib.IntN.{ℤ, pos}
 use Rattle.integers.specs.Choice.{if_then_else_}
 use Rattle.signals.specs.declared.Input.{Input}
+use Rattle.rights.specs.declared.Writer.{Writer}
 use Rattle.terms.specs.Fraction.{Fraction, whole}
 use Rattle.controller.specs.Restart.{restartCore}
 use Rattle.controller.specs.Scan.{Status, status, accepts, refusedWith, Outcome, scanCore}
@@ -19,8 +20,8 @@ use Rattle.guarantee.specs.ExactOutput.{scanOutput, writeOutput, restart
 -- the four calls are these and start fresh, with which every list begins
 pub data Call : Type 0 where
   scan : Input → Call
-  -- to the parameter with this number, of this value: any natural number, any integer
-  write : ℕ → ℤ → Call
+  -- by this writer, to the parameter with this number, of this value: any natural number, any integer
+  write : Writer → ℕ → ℤ → Call
   -- with these bytes: any numbers, and any count of them
   restart : List ℕ → Call
 
@@ -32,7 +33,7 @@ pub data Calls : Type 0 where
 -- what a call does, by the rules. `more` counts one more open scan
 unfoldable pub outcomeOf : (ℕ → ℕ) → Core → Call → Outcome
 outcomeOf more c (scan i) = scanCore more c i
-outcomeOf more c (write n v) = writeCore c n v
+outcomeOf more c (write w n v) = writeCore c w n v
 outcomeOf more c (restart image) = restartCore c image
 
 -- ---- the exact controller
@@ -57,18 +58,20 @@ isAccepted (refusedWith n) = false
 -- the output after an accepted call, which was made in the state `before` and left the state `now`
 unfoldable pub outputAfter : Core → Core → Call → Fraction → Fraction
 outputAfter before now (scan i) output = scanOutput before now i output
-outputAfter before now (write n v) output = writeOutput before now n output
+outputAfter before now (write w n v) output = writeOutput before now n output
 outputAfter before now (restart image) output = restartOutput now image
 
 -- "the same steps and rules, declined calls included, but its output is a fraction of two whole numbers and its
--- limited terms are added unrounded": a declined call leaves the output
-unfoldable pub exactAfter : Exact → Call → Exact
-exactAfter c x =
-    let o = exactOutcome c x in
+-- limited terms are added unrounded": after a call with this outcome; a declined call leaves the output
+abbrev pub afterOutcome : Exact → Call → Outcome → Exact
+afterOutcome c x o =
     record {
       core = o .next;
       output = if isAccepted (o .answer) then outputAfter (c .core) (o .next) x (c .output) else c .output;
     }
+
+unfoldable pub exactAfter : Exact → Call → Exact
+exactAfter c x = afterOutcome c x (exactOutcome c x)
 
 -- "fed the same switch word and, call by call, the same arguments except the controller"
 unfoldable pub exact : ℕ → Calls → Exact

@@ -27,10 +27,10 @@ pub data Event : Type 0 where
 unfoldable pub brings : List ℕ → Bool
 brings image = eqb (getD image 127 0) 1 || not (sumRight image)
 
--- MD is parameter 24
+-- MD is parameter 24; a write of it counts whoever made it: of one who may not write it none is accepted
 unfoldable pub eventOf : Call → Event
 eventOf (scan i) = otherCall
-eventOf (write n v) = if eqb n 24 then wrote (natAbs v) else otherCall
+eventOf (write w n v) = if eqb n 24 then wrote (natAbs v) else otherCall
 eventOf (restart image) = restarted (brings image)
 
 -- the fault after one accepted call more

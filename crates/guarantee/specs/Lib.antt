@@ -8,3 +8,4 @@ pub mod ExactOutput
 pub mod Fault
 pub mod Linked
 pub mod Modes
+pub mod Rights

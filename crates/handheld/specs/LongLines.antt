@@ -12,8 +12,12 @@ use borrow.Author.Tests.{lt-leb, lt-ltb, ne-eqb}
 use Rattle.integers.specs.Choice.{by-cases}
 use Rattle.numerals.specs.Numerals.{digitsOf, withSign, integerOf, wordOf}
 use Rattle.numerals.specs.Parsed.{parsedNumber, numberOf}
+use Rattle.rights.specs.declared.Writer.{Writer}
 use Rattle.text.specs.Words.{sameBytes}
 use Rattle.formatting.specs.Ascii.{ascii}
+use Rattle.writer_lines.specs.Writers.{long-word}
+use Rattle.writer_lines.specs.declared.ParsedWriter.{ParsedWriter}
+use Rattle.writer_lines.specs.declared.ParsedWriter.the-variants as who
 use Rattle.controller.specs.declared.Controller.{Controller}
 use Rattle.terminal.specs.Commands.{isWord, unsigned, valueOf, writing, commandOf, commandBy, commandIn}
 use Rattle.terminal.specs.MnemonicLaws.{search-begins}
@@ -22,8 +26,10 @@ use Rattle.terminal.specs.Terminal.{answered, answeredTo}
 use Rattle.terminal.specs.declared.command.Command.{Command}
 use Rattle.terminal.specs.declared.command.Command.the-variants.{NoMnemonic, NoValue}
 use Rattle.handheld.specs.Plant.{pinsFrom, pinsIn, outcomeFor}
+use Rattle.handheld.specs.Sessions.{withWriter, whoIn, typedOutcome}
 use Rattle.handheld.specs.declared.plant.PlantLine.{PlantLine}
 use Rattle.handheld.specs.declared.plant.PlantLine.the-variants.{Terminal}
+use Rattle.handheld.specs.declared.session.Session.{Session}
 
 -- ---- too long for a value
 
@@ -72,8 +78,9 @@ same-name (a ∷ []) h = refl
 same-name (a ∷ b ∷ line) h =
     search-begins (take 301 (a ∷ b ∷ line)) (omega arith) ∙ sym (search-begins (a ∷ b ∷ line) (omega arith))
 
--- ---- no line that brings pins is so long
+-- ---- no line of the program's own is so long
 
+-- none that brings pins
 no-pins : (line : List ℕ) → 24 < length line → pinsIn line ≡ Terminal
 unfolding pinsIn pinsFrom numberOf parsedNumber
 no-pins line h =
@@ -81,10 +88,30 @@ no-pins line h =
     (by-cases (λ (o : PlantLine). o ≡ Terminal) (ltb (length line) 5) Terminal _ (λ e. refl)
     (λ e. by-cases (λ (o : PlantLine). o ≡ Terminal) (sameBytes (take 5 line) (ascii "pins ")) Terminal Terminal (λ _. refl) (λ _. refl)))
 
--- the 301 bytes that the line buffer keeps of a longer line
-pub long-line : (c : Controller) (line room : List ℕ) → 301 ≤ length line → outcomeFor c (take 301 line) room ≡ outcomeFor c line room
-unfolding outcomeFor answered
-long-line c line room h =
-    let cut : 24 < length (take 301 line) = omega (arith, length-take 301 line) in
-    let same = long-command (take 301 line) (omega arith) ∙ ap refusedAs (same-name line h) ∙ sym (long-command line (omega arith)) in
-    rw (no-pins (take 301 line) cut, no-pins line (omega arith)) (ap (answeredTo c room) same)
+-- nor one that says who types
+no-who : (line : List ℕ) → 12 < length line → whoIn line ≡ who.Malformed
+unfolding whoIn
+no-who line h =
+    rw (long-word (drop 4 line) (omega (arith, length-drop 4 line)))
+    (by-cases (λ (o : ParsedWriter). o ≡ who.Malformed) (ltb (length line) 4) who.Malformed _ (λ e. refl)
+    (λ e. by-cases (λ (o : ParsedWriter). o ≡ who.Malformed) (sameBytes (take 4 line) (ascii "who ")) who.Malformed who.Malformed
+    (λ _. refl) (λ _. refl)))
+
+-- ---- the 301 bytes that the line buffer keeps of a longer line
+
+module _ (line room : List ℕ) (h : 301 ≤ length line) where
+  cut : 24 < length (take 301 line)
+  cut = omega (arith, length-take 301 line)
+
+  long-outcome : (c : Controller) (w : Writer) → outcomeFor c w (take 301 line) room ≡ outcomeFor c w line room
+  unfolding outcomeFor answered
+  long-outcome c w =
+      let short = long-command (take 301 line) (omega (arith, cut)) in
+      let same = short ∙ ap refusedAs (same-name line h) ∙ sym (long-command line (omega arith)) in
+      rw (no-pins (take 301 line) cut, no-pins line (omega arith)) (ap (answeredTo c w room) same)
+
+  pub long-line : (s : Session) → typedOutcome s (take 301 line) room ≡ typedOutcome s line room
+  unfolding typedOutcome
+  long-line s =
+      rw (no-who (take 301 line) (omega (arith, cut)), no-who line (omega arith))
+      (ap (withWriter (s .writer)) (long-outcome (s .controller) (s .writer)))

@@ -1,4 +1,4 @@
--- What comes of a line that is typed: one of the terminal's, or one of the program's own, `pins N`.
+-- What comes of a line that is the terminal's, or brings the plant's pins, `pins N`.
 use mathlib.Core.List.{List, _++_}
 use Prim.Native.Nat.{ℕ, _+_, _-_, _^_}
 use lib.Dec.{leb, ltb}
@@ -10,6 +10,7 @@ use Rattle.numerals.specs.declared.ParsedNumber.the-variants.{Number, Malformed
 use Rattle.text.specs.Arguments.{naturalIn}
 use Rattle.text.specs.Words.{sameBytes}
 use Rattle.formatting.specs.Ascii.{ascii}
+use Rattle.rights.specs.declared.Writer.{Writer}
 use Rattle.signals.specs.declared.Input.{Input}
 use Rattle.signals.specs.declared.clock.ClockReading.{ClockReading}
 use Rattle.signals.specs.declared.clock.ClockReading.the-variants.{None, At}
@@ -43,10 +44,13 @@ abbrev pub scanInput : ClockReading → ℕ → Input
 scanInput last pins =
     record { pins = pins; sample1 = 5000; sample2 = 0; sample3 = 0; buttons = 0; sensors = 0; milliseconds = readingAfter last }
 
--- a scan that is taken is answered `ok`, any other with its refusal; a scan answers nothing else
+-- a line of the program's own that is taken is answered `ok`
+abbrev pub accepted : Controller → List ℕ → LineOutcome
+accepted next bytes = record { next = next; answer = reply 2; buffer = ascii "ok" ++ drop 2 bytes }
+
+-- so is a scan that is taken, any other with its refusal; a scan answers nothing else
 unfoldable pub outcomeBy : Controller → answers.Reply → List ℕ → LineOutcome
-outcomeBy next (answers.words md ds op electrical mode pv) bytes =
-    record { next = next; answer = reply 2; buffer = ascii "ok" ++ drop 2 bytes }
+outcomeBy next (answers.words md ds op electrical mode pv) bytes = accepted next bytes
 outcomeBy next (answers.number n) bytes = record { next = next; answer = number n; buffer = bytes }
 outcomeBy next (answers.reading v) bytes = record { next = next; answer = reply 0; buffer = bytes }
 outcomeBy next answers.acceptance bytes = record { next = next; answer = reply 0; buffer = bytes }
@@ -56,9 +60,10 @@ scanOutcome c pins bytes = let r = scan c (scanInput (c .core .clock) pins) in o
 
 -- ---- the whole
 
-abbrev pub outcomeOfLine : PlantLine → Controller → List ℕ → List ℕ → LineOutcome
-outcomeOfLine (Pins pins) c line bytes = scanOutcome c pins bytes
-outcomeOfLine Terminal c line bytes = answered c line bytes
+-- a line of the terminal's carries the writer; the plant's pins need none
+abbrev pub outcomeOfLine : PlantLine → Controller → Writer → List ℕ → List ℕ → LineOutcome
+outcomeOfLine (Pins pins) c w line bytes = scanOutcome c pins bytes
+outcomeOfLine Terminal c w line bytes = answered c w line bytes
 
-unfoldable pub outcomeFor : Controller → List ℕ → List ℕ → LineOutcome
-outcomeFor c line bytes = outcomeOfLine (pinsIn line) c line bytes
+unfoldable pub outcomeFor : Controller → Writer → List ℕ → List ℕ → LineOutcome
+outcomeFor c w line bytes = outcomeOfLine (pinsIn line) c w line bytes

@@ -1,4 +1,4 @@
--- Laws of a line that is typed: the next controller is valid, and the two letters of an answer.
+-- Laws of the plant's and the terminal's lines: the next controller is valid, and the two letters of an answer.
 use mathlib.Core.Path.{_≡_, refl}
 use mathlib.Core.List.{List, [], _∷_}
 use Prim.Native.Nat.{ℕ, _≤_}
@@ -8,6 +8,7 @@ use lib.IntN.{ℤ}
 use lib.ListN.{length, drop, set}
 use Rattle.numerals.specs.declared.ParsedNumber.the-variants.{Number}
 use Rattle.text.specs.Arguments.{naturalIn}
+use Rattle.rights.specs.declared.Writer.{Writer}
 use Rattle.controller.specs.Answers as answers
 use Rattle.controller.specs.Valid.{Valid}
 use Rattle.controller.specs.ValidLaws.{valid-scan}
@@ -24,15 +25,16 @@ next-by c (answers.number n) bytes = refl
 next-by c (answers.reading v) bytes = refl
 next-by c answers.acceptance bytes = refl
 
-valid-of : (own : PlantLine) (c : Controller) (line bytes : List ℕ) → Valid c → Valid (outcomeOfLine own c line bytes .next)
-unfolding scanOutcome
-valid-of (Pins pins) c line bytes valid =
-    rw (next-by _ _ bytes) (valid-scan c (scanInput (c .core .clock) pins) valid)
-valid-of Terminal c line bytes valid = valid-line c line bytes valid
+module _ (c : Controller) (w : Writer) (line bytes : List ℕ) (valid : Valid c) where
+  valid-of : (own : PlantLine) → Valid (outcomeOfLine own c w line bytes .next)
+  unfolding scanOutcome
+  valid-of (Pins pins) =
+      rw (next-by _ _ bytes) (valid-scan c (scanInput (c .core .clock) pins) valid)
+  valid-of Terminal = valid-line c w line bytes valid
 
-pub valid-typed : (c : Controller) (line bytes : List ℕ) → Valid c → Valid (outcomeFor c line bytes .next)
-unfolding outcomeFor
-valid-typed c line bytes valid = valid-of (pinsIn line) c line bytes valid
+  pub valid-outcome : Valid (outcomeFor c w line bytes .next)
+  unfolding outcomeFor
+  valid-outcome = valid-of (pinsIn line)
 
 -- two letters in front of a buffer
 pub two-set : (a b : ℕ) (l : List ℕ) → 2 ≤ length l → set (set l 0 a) 1 b ≡ a ∷ b ∷ drop 2 l

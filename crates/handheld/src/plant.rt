@@ -8,6 +8,7 @@ ghost use Rattle.handheld.specs.Plant.{pinsFrom, pinsIn, readingAfter, s
 use controller::Answer;
 use controller::Controller;
 use numerals::ParsedNumber;
+use rights::Writer;
 use signals::Input;
 use signals::clock::ClockReading;
 use terminal::LineAnswer;
@@ -90,14 +91,10 @@ fn scan(controller: Controller, pins: u8, reply: &mut [u8]) -> LineResult
     let next = r.controller;
     let answer = r.answer;
     match answer {
-        Answer::Accepted(_) => {
-            reply[0] = b'o';
-            reply[1] = b'k';
-            LineResult {
-                controller: next,
-                answer: LineAnswer::Reply(2),
-            }
-        }
+        Answer::Accepted(_) => LineResult {
+            controller: next,
+            answer: crate::ok::write(reply),
+        },
         Answer::Refused(refusal) => LineResult {
             controller: next,
             answer: LineAnswer::Refused(refusal),
@@ -105,15 +102,15 @@ fn scan(controller: Controller, pins: u8, reply: &mut [u8]) -> LineResult
     }
 }
 
-// What comes of a line that is typed. The contract rules out a line of the terminal's that makes a scan, and the other
-// way round.
-pub fn answer(controller: Controller, line: &[u8], reply: &mut [u8]) -> LineResult
+// What comes of a writer's line that is the terminal's or the plant's. The contract rules out a line of the terminal's
+// that makes a scan, and the other way round; and a line of the terminal's with another writer.
+pub fn answer(controller: Controller, writer: Writer, line: &[u8], reply: &mut [u8]) -> LineResult
     requires { ⌜ Valid controller × (2 ≤ length (now reply)) ⌝ }
-    ensures { λ r. ⌜ outcomeOf r (now (reply .exit)) ≡ outcomeFor controller (now (line .entry)) (now (reply .entry)) ⌝ }
+    ensures { λ r. ⌜ outcomeOf r (now (reply .exit)) ≡ outcomeFor controller writer (now (line .entry)) (now (reply .entry)) ⌝ }
 {
     let own = parse(line);
     match own {
         PlantLine::Pins(pins) => scan(controller, pins, reply),
-        PlantLine::Terminal => terminal::answer(controller, line, reply),
+        PlantLine::Terminal => terminal::answer(controller, writer, line, reply),
     }
 }

@@ -31,6 +31,8 @@ fn name_row(refusal: Refusal) -> [u8; 17]
         Refusal::Clock => *b"clock            ",
         Refusal::Mnemonic => *b"no mnemonic      ",
         Refusal::ValueForm => *b"no value         ",
+        Refusal::ComputerPin => *b"Computer pin     ",
+        Refusal::WriterRight => *b"no right         ",
     }
 }
 
@@ -57,6 +59,8 @@ fn name_length(refusal: Refusal) -> usize
         Refusal::Clock => 5,
         Refusal::Mnemonic => 11,
         Refusal::ValueForm => 8,
+        Refusal::ComputerPin => 12,
+        Refusal::WriterRight => 8,
     }
 }
 

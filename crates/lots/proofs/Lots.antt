@@ -17,7 +17,7 @@ use Rattle.guarantee.specs.Claim.{capped}
 use Rattle.guarantee.specs.Count.{lastReading}
 use Rattle.guarantee.specs.Exact.{Calls, _then_, scan, exact}
 use Rattle.guarantee.specs.Linked as calls
-use Rattle.guarantee.specs.Linked.{Linked}
+use Rattle.guarantee.specs.Linked.{ChainTo, Linked}
 use Rattle.guarantee.specs.Modes.{modeIn}
 use Rattle.guarantee.proofs.Existence.{exists}
 use Rattle.guarantee.proofs.Guarantee.{guarantee, ready}
@@ -31,14 +31,10 @@ use Rattle.lots.specs.Lots.{withAnswer, Answered, started, scanned, wrot
 use Rattle.lots.specs.Lots.{refused-scan, a-write, a-restart, LotsRight, AlwaysAnswered}
 
 -- the same calls, as the long guarantee takes them
-record Chain (word : ℕ) (xs : Calls) (c : Controller) : Type 0 where
-  responses : List Response
-  chain : Linked word xs responses c
-
-chain-of : {word : ℕ} {xs : Calls} {c : Controller} {ys : Answers} → Answered word xs c ys → Chain word xs c
+chain-of : {word : ℕ} {xs : Calls} {c : Controller} {ys : Answers} → Answered word xs c ys → ChainTo word xs c
 chain-of (started r e) = record { responses = []; chain = calls.started r e }
 chain-of (scanned i r a e) = let k = chain-of a in record { responses = _; chain = calls.scanned i r (k .chain) e }
-chain-of (wrote n v r a e) = let k = chain-of a in record { responses = _; chain = calls.wrote n v r (k .chain) e }
+chain-of (wrote w n v r a e) = let k = chain-of a in record { responses = _; chain = calls.wrote w n v r (k .chain) e }
 chain-of (restarted life image r a e) =
     let k = chain-of a in record { responses = _; chain = calls.restarted life image r (k .chain) e }
 
@@ -90,7 +86,7 @@ all-right {word} (scanned {xs} {c} {ys} i r a e) =
     let passes = sym refusal ∙ ap (λ (b : Answer). refusalIn (replyOf b)) q in
     let answered = scan-effects c i r (ready word xs _ c (k .chain) .valid) e passes .1 in
     right (r .controller) (exact word (xs then scan i) .core) v (d .same-state) mode (subst (ScanAnswer (r .controller)) q answered))
-all-right {word} (wrote n v r a e) = a-write (all-right a)
+all-right {word} (wrote w n v r a e) = a-write (all-right a)
 all-right {word} (restarted life image r a e) = a-restart (all-right a)
 
 pub lots-right : LotsRight
@@ -106,7 +102,7 @@ record At (word : ℕ) (xs : Calls) (c : Controller) : Type 0 where
 answers-of : {word : ℕ} {xs : Calls} {rs : List Response} {c : Controller} → Linked word xs rs c → At word xs c
 answers-of (calls.started r e) = record { values = _; answered = started r e }
 answers-of (calls.scanned i r l e) = record { values = _; answered = scanned i r (answers-of l .answered) e }
-answers-of (calls.wrote n v r l e) = record { values = _; answered = wrote n v r (answers-of l .answered) e }
+answers-of (calls.wrote w n v r l e) = record { values = _; answered = wrote w n v r (answers-of l .answered) e }
 answers-of (calls.restarted life image r l e) = record { values = _; answered = restarted life image r (answers-of l .answered) e }
 
 pub always-answered : AlwaysAnswered

@@ -17,6 +17,7 @@ use Rattle.sheet_guarantee.specs.Claim.{SheetClaim}
 use Rattle.sheet_guarantee.specs.Linked as sheets
 use Rattle.sheet_guarantee.specs.Meaning as answers
 use Rattle.sheet_guarantee.specs.Meaning.{Answers}
+use Rattle.rights.specs.declared.Writer.{Writer}
 use Rattle.controller.specs.declared.Answer.{Answer}
 use Rattle.controller.specs.declared.Answer.the-variants.{Accepted, Refused}
 use Rattle.controller.specs.declared.CallResult.{CallResult}
@@ -40,8 +41,8 @@ pub data Answered (word : ℕ) : Calls → Controller → Answers → Type 0 whe
   started : (r : Controller) → FreshEnsures word r → Answered word none r answers.none
   scanned : {xs : Calls} {c : Controller} {ys : Answers} (i : Input) (r : ScanResult) →
       Answered word xs c ys → ScanEnsures c i r → Answered word (xs then scan i) (r .controller) (withAnswer ys (r .answer))
-  wrote : {xs : Calls} {c : Controller} {ys : Answers} (n : ℕ) (v : ℤ) (r : CallResult) →
-      Answered word xs c ys → WriteEnsures c n v r → Answered word (xs then write n v) (r .controller) ys
+  wrote : {xs : Calls} {c : Controller} {ys : Answers} (w : Writer) (n : ℕ) (v : ℤ) (r : CallResult) →
+      Answered word xs c ys → WriteEnsures c w n v r → Answered word (xs then write w n v) (r .controller) ys
   restarted : {xs : Calls} {c : Controller} {ys : Answers} (life : Lifetime) (image : Slice) (r : CallResult) →
       Answered word xs c ys → RestartEnsures life c image r → Answered word (xs then restart (now image)) (r .controller) ys
 
@@ -62,7 +63,7 @@ pub data AllRight (word : ℕ) : Calls → Answers → Type 0 where
       Right (exact word (xs then scan i) .core) v → AllRight word (xs then scan i) (answers._then_ ys v)
   refused-scan : {xs : Calls} {ys : Answers} {i : Input} {n : ℕ} → AllRight word xs ys → scanRefusal (lastReading word xs) i ≡ some n →
       AllRight word (xs then scan i) ys
-  a-write : {xs : Calls} {ys : Answers} {n : ℕ} {v : ℤ} → AllRight word xs ys → AllRight word (xs then write n v) ys
+  a-write : {xs : Calls} {ys : Answers} {w : Writer} {n : ℕ} {v : ℤ} → AllRight word xs ys → AllRight word (xs then write w n v) ys
   a-restart : {xs : Calls} {ys : Answers} {image : List ℕ} → AllRight word xs ys → AllRight word (xs then restart image) ys
 
 -- of every switch word and every list of calls, and of a sheet in which these answers were entered

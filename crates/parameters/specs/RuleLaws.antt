@@ -1,12 +1,12 @@
 -- The rows of the table: numbers of one row have one rule, beyond 32 there is none, and which numbers can be written.
 use mathlib.Core.Path.{_≡_, refl, sym, ap, _∙_, subst}
-use mathlib.Core.Bool.{Bool, true, false}
+use mathlib.Core.Bool.{Bool, true, false, _||_}
 use Prim.Native.Nat.{ℕ, _+_, _≤_, _<_}
 use native.Mathlib.Omega.{arith}
 use mathlib.Core.Option.{some, none}
 use lib.Dec.{eqb, leb, ltb}
 use borrow.Author.Tests.{le-leb, lt-leb, leb-true, eqb-true, eqb-false, ltb-true, ltb-false}
-use Rattle.integers.specs.Choice.{never}
+use Rattle.integers.specs.Choice.{if_then_else_, never}
 use Rattle.integers.specs.Listed.{listed, listed-same}
 use Rattle.signals.specs.Refusals.{numberOf}
 use Rattle.signals.specs.declared.Refusal.the-variants as refusal
@@ -76,6 +76,20 @@ not-from n a b e m h l q =
 
 -- ---- which numbers have a parameter, and which of those can be written
 
+pub is-known : (n : ℕ) → 1 ≤ n → n ≤ 32 → unknownRefusal (ruleOf n) ≡ none
+unfolding ruleOf listed
+is-known n least most = listed-same (λ (m : ℕ). unknownRefusal (ruleOf m)) (λ (m : ℕ). none) 1 32 n refl least (omega arith)
+
+-- "4 number outside 1..32"
+pub unknown-is : (n : ℕ) → unknownRefusal (ruleOf n) ≡ (if eqb n 0 || ltb 32 n then some 4 else none)
+unfolding ruleOf
+unknown-is n = go (eqb n 0) refl (ltb 32 n) refl
+  where
+    go : (a : Bool) → eqb n 0 ≡ a → (b : Bool) → ltb 32 n ≡ b → unknownRefusal (ruleOf n) ≡ (if a || b then some 4 else none)
+    go true e b f = ap (λ (m : ℕ). unknownRefusal (ruleOf m)) (eqb-true n 0 e)
+    go false e true f = ap unknownRefusal (sym (row-beyond n (ltb-true 32 n f)))
+    go false e false f = let h = eqb-false n 0 e in is-known n (omega arith) (ltb-false 32 n f)
+
 -- a refusal isn't none
 not-none : {A : Type 0} (k : ℕ) → some k ≡ none → A
 not-none k e = let z : _≡_ {A = ℕ} 0 1 = cc in absurd (omega arith)
@@ -92,6 +106,12 @@ known n e = (go (eqb n 0) refl, here (ltb n 33) refl)
     here true q = let h = ltb-true n 33 q in omega arith
     here false q = not-none 4 (ap unknownRefusal (row-beyond n (ltb-false n 33 q)) ∙ e)
 
+-- "5 read only", of a number that has a parameter: SW to MP
+pub read-only-is : (n : ℕ) → 1 ≤ n → n ≤ 32 → readOnlyRefusal (ruleOf n) ≡ (if ltb 25 n then some 5 else none)
+unfolding ruleOf listed
+read-only-is n least most =
+    listed-same (λ (m : ℕ). readOnlyRefusal (ruleOf m)) (λ (m : ℕ). if ltb 25 m then some 5 else none) 1 32 n refl least (omega arith)
+
 -- parameters 1 to 23, MD and DS
 pub settable : (n : ℕ) → unknownRefusal (ruleOf n) ≡ none → readOnlyRefusal (ruleOf n) ≡ none → n ≤ 25
 unfolding ruleOf listed
@@ -104,20 +124,20 @@ settable n e d = go (ltb n 26) refl
         let k = known n e in
         not-none 5 (ap readOnlyRefusal (row 26 7 n refl h (omega arith)) ∙ d)
 
--- ---- the refusals that rows name come before 6, out of range
+-- ---- the refusals that rows name are 4 and 5
 
-abbrev pub namesEarly : Rule → Bool
-namesEarly (Unknown refusal) = ltb (numberOf refusal) 6
-namesEarly (ReadOnly refusal) = ltb (numberOf refusal) 6
-namesEarly (Word least most) = true
-namesEarly (Free least most) = true
-namesEarly (Pair least most high low strict) = true
-namesEarly (Between low high) = true
+abbrev pub namesOwn : Rule → Bool
+namesOwn (Unknown refusal) = eqb (numberOf refusal) 4
+namesOwn (ReadOnly refusal) = eqb (numberOf refusal) 5
+namesOwn (Word least most) = true
+namesOwn (Free least most) = true
+namesOwn (Pair least most high low strict) = true
+namesOwn (Between low high) = true
 
-pub names-early : (n : ℕ) → namesEarly (ruleOf n) ≡ true
+pub names-own : (n : ℕ) → namesOwn (ruleOf n) ≡ true
 unfolding ruleOf listed
-names-early n = go (ltb n 33) refl
+names-own n = go (ltb n 33) refl
   where
-    go : (t : Bool) → ltb n 33 ≡ t → namesEarly (ruleOf n) ≡ true
-    go true q = listed-same (λ (m : ℕ). namesEarly (ruleOf m)) (λ (m : ℕ). true) 0 33 n refl (omega arith) (omega (arith, ltb-true n 33 q))
-    go false q = ap namesEarly (sym (row-beyond n (ltb-false n 33 q)))
+    go : (t : Bool) → ltb n 33 ≡ t → namesOwn (ruleOf n) ≡ true
+    go true q = listed-same (λ (m : ℕ). namesOwn (ruleOf m)) (λ (m : ℕ). true) 0 33 n refl (omega arith) (omega (arith, ltb-true n 33 q))
+    go false q = ap namesOwn (sym (row-beyond n (ltb-false n 33 q)))

@@ -46,7 +46,7 @@ use Rattle.promises.specs.Restarts.{Accepts, RestartState}
 use Rattle.guarantee.specs.Linked.{SaveEnsures, Slice, Lifetime}
 use Rattle.guarantee.proofs.Answers.{own-output}
 use Rattle.guarantee.proofs.Brought.{op-at}
-use Rattle.guarantee.proofs.Guarantee.{linked}
+use Rattle.guarantee.proofs.Linked.{linked}
 use Rattle.guarantee.proofs.Ours.{valid-after}
 use Rattle.promises.proofs.Places.{word-at, sound-is}
 use Rattle.promises.proofs.Restarts.{isAcceptance, restart-state}

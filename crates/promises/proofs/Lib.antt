@@ -6,6 +6,7 @@ pub mod ReadValues
 pub mod RefusalCauses
 pub mod Refusals
 pub mod Restarts
+pub mod Rights
 pub mod Saves
 pub mod Scans
 pub mod Setpoints

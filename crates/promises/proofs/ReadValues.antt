@@ -13,7 +13,7 @@ use Rattle.controller.specs.Valid.{Valid}
 use Rattle.controller.specs.declared.Controller.{Controller}
 use Rattle.guarantee.proofs.Answers.{own-output}
 use Rattle.promises.specs.Reads.{ReadReply, ReadReplies}
-use Rattle.promises.proofs.RefusalCauses.{unknown-is}
+use Rattle.parameters.specs.RuleLaws.{unknown-is}
 use Rattle.promises.proofs.Words.{shows-md, shows-ds}
 
 -- a known number answers its value

@@ -1,47 +1,52 @@
 -- A call is refused for its listed causes, and for no other.
 use mathlib.Core.Path.{_≡_, refl, sym, ap, subst, _∙_}
 use mathlib.Core.Bool.{Bool, true, false, not, _&&_, _||_}
-use mathlib.Core.List.{[]}
+use mathlib.Core.List.{List, [], _∷_}
 use mathlib.Core.Option.{Option, some, none}
 use Prim.Native.Nat.{ℕ, _+_, _≤_}
 use native.Mathlib.Omega.{arith}
 use lib.Dec.{eqb, ltb}
 use lib.IntN.{ℤ, pos, natAbs}
 use lib.Signed.{leZ}
-use borrow.Author.Tests.{eqb-true, eqb-false, ne-eqb, ltb-true, ltb-false, lt-ltb, le-ltb}
-use Rattle.integers.specs.Choice.{if_then_else_}
+use borrow.Author.Tests.{eqb-true, ne-eqb, ltb-false, le-ltb}
+use Rattle.integers.specs.Choice.{if_then_else_, both}
 use Rattle.integers.specs.Operations as operations
 use Rattle.integers.specs.Parts.{integers, apart}
 use Rattle.integers.specs.Listed.{listed, listed-same}
 use Rattle.signals.specs.Bits.{bit}
-use Rattle.signals.specs.Refusals.{refusedBy, scanTests}
+use Rattle.signals.specs.Refusals.{numberOf, refusedBy, scanTests}
 use Rattle.signals.specs.Signals.{switchesOf, pinsOf}
 use Rattle.signals.specs.declared.Input.{Input}
+use Rattle.signals.specs.declared.Refusal.{Refusal}
 use Rattle.signals.specs.declared.clock.ClockReading.{ClockReading}
 use Rattle.modes.specs.Modes.{counted, setsSetpoint}
 use Rattle.modes.specs.declared.Mode.{Mode}
 use Rattle.modes.specs.declared.Mode.the-variants.{Hold, Track, Forced, Manual, Auto, Remote, Ratio, Fallback}
 use Rattle.words.specs.Written.{exactlyOne, mdTests}
-use Rattle.parameters.specs.Legal.{unknownRefusal, readOnlyRefusal, inRange, pairInOrder}
+use Rattle.parameters.specs.Legal.{unknownRefusal, inRange, pairInOrder}
 use Rattle.parameters.specs.LegalLaws.{inside}
-use Rattle.parameters.specs.RuleLaws.{row, row-beyond}
+use Rattle.parameters.specs.RuleLaws.{unknown-is}
 use Rattle.parameters.specs.Table.{value, ruleOf}
+use Rattle.rights.specs.declared.Writer.{Writer}
 use Rattle.controller.specs.Answers.{number, Response}
 use Rattle.controller.specs.Read as reads
 use Rattle.controller.specs.Read.{readBy, readIn}
 use Rattle.controller.specs.Scan as rules
 use Rattle.controller.specs.Scan.{modeNow, accepted, statusOf, scanCore, responseFrom}
 use Rattle.controller.specs.Write as writes
-use Rattle.controller.specs.Write.{wordOf, setpointTests, stateTests, writeTests, writeAccepted, writeCore}
+use Rattle.controller.specs.Write.{wordOf, setpointTests, stateTests, valueTests, writeTests, writeAccepted, writeCore}
 use Rattle.controller.specs.declared.Controller.{Controller}
 use Rattle.controller.specs.declared.Core.{Core}
 use Rattle.guarantee.specs.Modes.{automaticMode}
+use Rattle.guarantee.specs.Rights.{isOf, isShutOut, hasRight, accessOr}
 use Rattle.guarantee.proofs.Faults.{kept-or-cleared}
 use Rattle.guarantee.proofs.Modes.{mode-is-first}
 use Rattle.guarantee.proofs.Clock.{soon-is}
+use Rattle.guarantee.proofs.Rights.{inside-table, access-tests, has-both}
 use Rattle.promises.specs.Refusals.{refusalIn}
-use Rattle.promises.specs.RefusalCauses.{scanRefusal, ScanRefusals, replaced, setpointRefused, requestBits, wordRefusal, writeRefusal}
-use Rattle.promises.specs.RefusalCauses.{WriteRefusals, ReadRefusals, RefusalNumbers}
+use Rattle.promises.specs.RefusalCauses.{scanRefusal, ScanRefusals, replaced, setpointRefused, requestBits, wordRefusal, valueRefusal}
+use Rattle.promises.specs.RefusalCauses.{writeRefusal, WriteRefusals, ReadRefusals, RefusalNumbers, inOrderOfNumbers, NumberedFrom}
+use Rattle.promises.specs.RefusalCauses.{RefusalNames}
 use Rattle.promises.specs.Table.{least, most, inOrder}
 use Rattle.promises.specs.Words.{remoteOrRatio}
 use Rattle.promises.proofs.Refusals.{refusal-is}
@@ -69,14 +74,6 @@ scan-refusals d i r e = ap (λ (h : Response). refusalIn (h .answer)) e ∙ scan
 -- ---- writes: the rows of the table, by its columns
 
 module _ (values : ℕ → ℤ) (n : ℕ) (v : ℤ) (first : 1 ≤ n) (last : n ≤ 25) where
-  none-named : unknownRefusal (ruleOf n) ≡ none
-  unfolding ruleOf listed
-  none-named = listed-same (λ (m : ℕ). unknownRefusal (ruleOf m)) (λ (m : ℕ). none) 1 25 n refl first (omega arith)
-
-  none-read-only : readOnlyRefusal (ruleOf n) ≡ none
-  unfolding ruleOf listed
-  none-read-only = listed-same (λ (m : ℕ). readOnlyRefusal (ruleOf m)) (λ (m : ℕ). none) 1 25 n refl first (omega arith)
-
   range-is : inRange (ruleOf n) values v ≡ (leZ (least values n) v && leZ v (most values n))
   unfolding ruleOf listed least most
   range-is =
@@ -147,19 +144,11 @@ md-word : (n : ℕ) (values : ℕ → ℤ) (v : ℤ) → (leZ (least values n) v
 unfolding least most
 md-word n values v e q = word-same v (word-most v (subst (λ (m : ℕ). (leZ (least values m) v && leZ v (most values m)) ≡ true) q e))
 
-tests-in : (c : Core) (n : ℕ) (v : ℤ) → 1 ≤ n → n ≤ 25 → refusedBy (writeTests c n v) ≡ writeRefusal c n v
-unfolding writeTests writeRefusal refusedBy
-tests-in c n v first last =
+value-tests : (c : Core) (n : ℕ) (v : ℤ) → 1 ≤ n → n ≤ 25 → refusedBy (valueTests c n v) ≡ valueRefusal c n v
+unfolding valueTests valueRefusal refusedBy
+value-tests c n v first last =
     let values = value (c .parameters) in
-    rw (
-      none-named values n v first last,
-      none-read-only values n v first last,
-      range-is values n v first last,
-      order-is values n v first last,
-      ne-eqb n 0 (λ q. omega arith),
-      le-ltb 32 n (omega arith),
-      le-ltb 25 n (omega arith),
-    )
+    rw (range-is values n v first last, order-is values n v first last)
     (go (leZ (least values n) v && leZ v (most values n)) refl (inOrder (replaced values n v) n))
   where
     rest : Option ℕ
@@ -172,41 +161,45 @@ tests-in c n v first last =
     go true e false = refl
     go true e true = state-tests c n v (md-word n (value (c .parameters)) v e)
 
--- a number that is no parameter's, one of a parameter that is read only, and the others
-by-number : (P : ℕ → Type 0) (n : ℕ) → P 0 → ((m : ℕ) → 33 ≤ m → P m) → ((m : ℕ) → 26 ≤ m → m ≤ 32 → P m) →
-    ((m : ℕ) → 1 ≤ m → m ≤ 25 → P m) → P n
-by-number P n zeroth beyond read-only others = go (eqb n 0) refl (ltb 32 n) refl (ltb 25 n) refl
+-- ---- the writer's right, before what is asked of the value
+
+-- where it comes to the value, the number is one of 1 to 25
+or-same : (pins : ℕ) (w : Writer) (n : ℕ) (a b : Option ℕ) → (1 ≤ n → n ≤ 25 → a ≡ b) → accessOr pins w n a ≡ accessOr pins w n b
+unfolding accessOr
+or-same pins w n a b f = go (eqb n 0 || ltb 32 n) refl (isShutOut pins w) (isOf n w) (ltb 25 n) refl
   where
-    go : (a : Bool) → eqb n 0 ≡ a → (b : Bool) → ltb 32 n ≡ b → (d : Bool) → ltb 25 n ≡ d → P n
-    go true e b f d g = subst P (sym (eqb-true n 0 e)) zeroth
-    go false e true f d g = beyond n (ltb-true 32 n f)
-    go false e false f true g = read-only n (ltb-true 25 n g) (ltb-false 32 n f)
-    go false e false f false g = let h = eqb-false n 0 e in others n (omega arith) (ltb-false 25 n g)
+    go : (t : Bool) → (eqb n 0 || ltb 32 n) ≡ t → (p h r : Bool) → ltb 25 n ≡ r →
+        (if t then some 4 else if p then some 19 else if not h then some 20 else if r then some 5 else a)
+        ≡ (if t then some 4 else if p then some 19 else if not h then some 20 else if r then some 5 else b)
+    go true e p h r q = refl
+    go false e true h r q = refl
+    go false e false false r q = refl
+    go false e false true true q = refl
+    go false e false true false q = f (inside-table n e .0) (ltb-false 25 n q)
 
-pub write-tests : (c : Core) (n : ℕ) (v : ℤ) → refusedBy (writeTests c n v) ≡ writeRefusal c n v
-unfolding writeTests writeRefusal refusedBy ruleOf listed
-write-tests c n v =
-    by-number (λ (m : ℕ). refusedBy (writeTests c m v) ≡ writeRefusal c m v) n refl
-    (λ m h. rw (sym (row-beyond m h), ne-eqb m 0 (λ q. omega arith), lt-ltb 32 m h) refl)
-    (λ m h k. rw (sym (row 26 7 m refl h (omega arith)), ne-eqb m 0 (λ q. omega arith), le-ltb 32 m k, lt-ltb 25 m h) refl)
-    (λ m h k. tests-in c m v h k)
+-- and it comes to the value where the writer has the right
+pub right-passes : (pins : ℕ) (w : Writer) (n : ℕ) (o : Option ℕ) → hasRight pins w n ≡ true → 1 ≤ n → n ≤ 25 →
+    accessOr pins w n o ≡ o
+unfolding accessOr
+right-passes pins w n o right first last =
+    let h = has-both pins w n right in
+    rw (ne-eqb n 0 (λ q. omega arith), le-ltb 32 n (omega arith), h .1, h .0, le-ltb 25 n last) refl
 
-write-refusal : (d : Controller) (n : ℕ) (v : ℤ) → refusalIn (writes.write d n v .answer) ≡ writeRefusal (d .core) n v
+pub write-tests : (c : Core) (w : Writer) (n : ℕ) (v : ℤ) → refusedBy (writeTests c w n v) ≡ writeRefusal c w n v
+unfolding writeTests
+write-tests c w n v =
+    access-tests c w n (valueTests c n v) ∙
+    or-same (c .conditions .pins) w n (refusedBy (valueTests c n v)) (valueRefusal c n v) (value-tests c n v)
+
+write-refusal : (d : Controller) (w : Writer) (n : ℕ) (v : ℤ) → refusalIn (writes.write d w n v .answer) ≡ writeRefusal (d .core) w n v
 unfolding writes.write writeCore responseFrom writeAccepted
-write-refusal d n v = refusal-is d (refusedBy (writeTests (d .core) n v)) (writeAccepted (d .core) n v) refl ∙ write-tests (d .core) n v
+write-refusal d w n v =
+    refusal-is d (refusedBy (writeTests (d .core) w n v)) (writeAccepted (d .core) n v) refl ∙ write-tests (d .core) w n v
 
 pub write-refusals : WriteRefusals
-write-refusals d n v r e = ap (λ (h : Response). refusalIn (h .answer)) e ∙ write-refusal d n v
+write-refusals d w n v r e = ap (λ (h : Response). refusalIn (h .answer)) e ∙ write-refusal d w n v
 
 -- ---- reads
-
-pub unknown-is : (n : ℕ) → unknownRefusal (ruleOf n) ≡ (if eqb n 0 || ltb 32 n then some 4 else none)
-unfolding ruleOf listed
-unknown-is n =
-    by-number (λ (m : ℕ). unknownRefusal (ruleOf m) ≡ (if eqb m 0 || ltb 32 m then some 4 else none)) n refl
-    (λ m h. rw (sym (row-beyond m h), ne-eqb m 0 (λ q. omega arith), lt-ltb 32 m h) refl)
-    (λ m h k. rw (sym (row 26 7 m refl h (omega arith)), ne-eqb m 0 (λ q. omega arith), le-ltb 32 m k) refl)
-    (λ m h k. rw (none-named (λ _. pos 0) m (pos 0) h k, ne-eqb m 0 (λ q. omega arith), le-ltb 32 m (omega arith)) refl)
 
 read-refusal : (o : Option ℕ) (v : ℤ) → refusalIn (readBy o v) ≡ o
 read-refusal none v = refl
@@ -220,3 +213,17 @@ read-refusals d n r e = ap refusalIn e ∙ read-refusal (unknownRefusal (ruleOf 
 
 pub refusal-numbers : RefusalNumbers
 refusal-numbers refusal n e = (ap number (sym e), ap number (sym e), ap number (sym e))
+
+-- the whole list by one computed test
+abbrev areNumbered : ℕ → List Refusal → Bool
+areNumbered k [] = true
+areNumbered k (refusal ∷ refusals) = eqb (numberOf refusal) k && areNumbered (k + 1) refusals
+
+numbered : (k : ℕ) (refusals : List Refusal) → areNumbered k refusals ≡ true → NumberedFrom k refusals
+numbered k [] e = tt
+numbered k (refusal ∷ refusals) e =
+    let h = both (eqb (numberOf refusal) k) (areNumbered (k + 1) refusals) e in
+    (λ n f. f ∙ eqb-true (numberOf refusal) k (h .0), numbered (k + 1) refusals (h .1))
+
+pub refusal-names : RefusalNames
+refusal-names = numbered 1 inOrderOfNumbers refl

@@ -20,7 +20,7 @@ use Rattle.guarantee.specs.Claim.{OwnOutput}
 use Rattle.promises.specs.Images.{codeFor, SavedBytes, SaveEncodes}
 use Rattle.guarantee.proofs.Answers.{own-output}
 use Rattle.guarantee.proofs.Brought.{fault-at, sum-is}
-use Rattle.guarantee.proofs.Guarantee.{linked}
+use Rattle.guarantee.proofs.Linked.{linked}
 use Rattle.promises.proofs.Images.{taken-front, bytes-behind}
 use Rattle.guarantee.proofs.Ours.{valid-after}
 use Rattle.promises.proofs.Places.{well-formed-is, word-at, request-at, user-bits-at}

@@ -19,6 +19,7 @@ use Rattle.parameters.specs.Written.{written}
 use Rattle.parameters.specs.WrittenLaws.{valueAfter, written-values}
 use Rattle.parameters.specs.declared.Parameters.{Parameters}
 use Rattle.signals.specs.Refusals.{refusedBy}
+use Rattle.rights.specs.declared.Writer.{Writer}
 use Rattle.modes.specs.Modes.{isLimiting}
 use Rattle.terms.specs.Fraction.{storedUnits, limitedStored}
 use Rattle.outputs.specs.Instruction.{unlimited, between, storedArithmetic, changed, limitedTo, executed}
@@ -29,10 +30,11 @@ use Rattle.controller.specs.Write as writes
 use Rattle.controller.specs.Write.{coreWith, mdWritten, dsWritten, parameterWritten, coreWritten, writeTests, writeAccepted, writeCore}
 use Rattle.controller.specs.declared.Controller.{Controller}
 use Rattle.controller.specs.declared.Core.{Core}
+use Rattle.guarantee.specs.Rights.{isOf, isShutOut, accessOr}
 use Rattle.guarantee.proofs.ExactOutput.{either, limiting-is}
 use Rattle.guarantee.proofs.Faults.{kept-or-cleared}
 use Rattle.guarantee.proofs.Modes.{mode-is-first}
-use Rattle.promises.specs.RefusalCauses.{writeRefusal}
+use Rattle.promises.specs.RefusalCauses.{valueRefusal, writeRefusal}
 use Rattle.promises.specs.Table.{least, most}
 use Rattle.promises.specs.Writes.{Untouched, WriteEffect, expectedOutput, WriteEffects}
 use Rattle.promises.proofs.Refusals.{not-both}
@@ -123,18 +125,21 @@ pub record InRange (c : Core) (n : ℕ) (v : ℤ) : Type 0 where
   pub last : n ≤ 25
   pub ranged : within-range c n v ≡ true
 
-in-range : (c : Core) (n : ℕ) (v : ℤ) → writeRefusal c n v ≡ none → InRange c n v
-unfolding writeRefusal
-in-range c n v e = go (eqb n 0) refl (ltb 32 n) refl (ltb 25 n) refl (within-range c n v) refl
+in-range : (c : Core) (w : Writer) (n : ℕ) (v : ℤ) → writeRefusal c w n v ≡ none → InRange c n v
+unfolding accessOr valueRefusal
+in-range c w n v e =
+    go (eqb n 0) refl (ltb 32 n) refl (isShutOut (c .conditions .pins) w) refl (isOf n w) refl (ltb 25 n) refl (within-range c n v) refl
   where
-    go : (a : Bool) → eqb n 0 ≡ a → (b : Bool) → ltb 32 n ≡ b → (d : Bool) → ltb 25 n ≡ d → (r : Bool) →
-        within-range c n v ≡ r → InRange c n v
-    go true p b q d s r t = not-both {n = 4} (sym e ∙ rw p refl)
-    go false p true q d s r t = not-both {n = 4} (sym e ∙ rw (p, q) refl)
-    go false p false q true s r t = not-both {n = 5} (sym e ∙ rw (p, q, s) refl)
-    go false p false q false s false t = not-both {n = 6} (sym e ∙ rw (p, q, s, t) refl)
-    go false p false q false s true t =
-        let h = eqb-false n 0 p in record { first = omega arith; last = ltb-false 25 n s; ranged = t }
+    go : (a : Bool) → eqb n 0 ≡ a → (b : Bool) → ltb 32 n ≡ b → (p : Bool) → isShutOut (c .conditions .pins) w ≡ p →
+        (h : Bool) → isOf n w ≡ h → (d : Bool) → ltb 25 n ≡ d → (r : Bool) → within-range c n v ≡ r → InRange c n v
+    go true f b q p k h l d s r t = not-both {n = 4} (sym e ∙ rw f refl)
+    go false f true q p k h l d s r t = not-both {n = 4} (sym e ∙ rw (f, q) refl)
+    go false f false q true k h l d s r t = not-both {n = 19} (sym e ∙ rw (f, q, k) refl)
+    go false f false q false k false l d s r t = not-both {n = 20} (sym e ∙ rw (f, q, k, l) refl)
+    go false f false q false k true l true s r t = not-both {n = 5} (sym e ∙ rw (f, q, k, l, s) refl)
+    go false f false q false k true l false s false t = not-both {n = 6} (sym e ∙ rw (f, q, k, l, s, t) refl)
+    go false f false q false k true l false s true t =
+        let z = eqb-false n 0 f in record { first = omega arith; last = ltb-false 25 n s; ranged = t }
 
 -- the ranges of MD and DS
 word-in-range : (c : Core) (n m : ℕ) (v : ℤ) → n ≡ m → InRange c n v → within-range c m v ≡ true
@@ -177,15 +182,15 @@ output-is d n v = rw (mode-is-first (d .core), either n 15, limiting-is) (go (is
     go true false = refl
     go false b = refl
 
-accepted-write : (d : Controller) (n : ℕ) (v : ℤ) → refusedBy (writeTests (d .core) n v) ≡ none →
-    writes.write d n v ≡ responseFrom d (writeAccepted (d .core) n v)
+accepted-write : (d : Controller) (w : Writer) (n : ℕ) (v : ℤ) → refusedBy (writeTests (d .core) w n v) ≡ none →
+    writes.write d w n v ≡ responseFrom d (writeAccepted (d .core) n v)
 unfolding writes.write writeCore
-accepted-write d n v e = rw e refl
+accepted-write d w n v e = rw e refl
 
 pub write-effects : WriteEffects
 unfolding responseFrom controllerAfter writeAccepted
-write-effects d n v r valid e passes =
-    let tests : refusedBy (writeTests (d .core) n v) ≡ none = write-tests (d .core) n v ∙ passes in
+write-effects d w n v r valid e passes =
+    let tests : refusedBy (writeTests (d .core) w n v) ≡ none = write-tests (d .core) w n v ∙ passes in
     subst (λ (h : Response). WriteEffect (d .core) (h .next .core) n v × (h .next .output ≡ expectedOutput d (h .next .core) n))
-    (sym (e ∙ accepted-write d n v tests))
-    (effect (d .core) n v (valid .legal) (in-range (d .core) n v passes), output-is d n v)
+    (sym (e ∙ accepted-write d w n v tests))
+    (effect (d .core) n v (valid .legal) (in-range (d .core) w n v passes), output-is d n v)

@@ -5,6 +5,7 @@ pub mod Reads
 pub mod RefusalCauses
 pub mod Refusals
 pub mod Restarts
+pub mod Rights
 pub mod Scans
 pub mod StoredOutputs
 pub mod Table

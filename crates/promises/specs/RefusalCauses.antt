@@ -1,9 +1,10 @@
--- Document 01, "By whose hand a call is declined": which scans, writes and reads are refused, and with which number,
--- told by the input's numbers and bits, the parameter's number, the value and the state, in the papers' order and
--- apart from the rules' lists of tests. Restarts.antt tells it of restarts, and `SameSave` (guarantee) of saves.
--- Shared are the types of the state, the bits of a word and the value of a parameter.
+-- Document 01, "By whose hand a call is declined", and document 02: which scans, writes and reads are refused, and with
+-- which number, told by the input's numbers and bits, the writer, the parameter's number, the value and the state, in
+-- the papers' order and apart from the rules' lists of tests. Restarts.antt tells it of restarts, and `SameSave`
+-- (guarantee) of saves. Shared are the types of the state, the bits of a word and the value of a parameter.
 use mathlib.Core.Path.{_≡_}
 use mathlib.Core.Bool.{Bool, not, _&&_, _||_}
+use mathlib.Core.List.{List, [], _∷_}
 use mathlib.Core.Option.{Option, some, none}
 use Prim.Native.Nat.{ℕ, _+_}
 use lib.Dec.{ltb, leb, eqb}
@@ -13,10 +14,14 @@ use Rattle.integers.specs.Choice.{if_then_else_}
 use Rattle.signals.specs.Bits.{bit}
 use Rattle.signals.specs.declared.Input.{Input}
 use Rattle.signals.specs.declared.Refusal.{Refusal}
+use Rattle.signals.specs.declared.Refusal.the-variants.{Sample, ButtonBits, SensorBits, Number, ReadOnly, Range, Pair, Setpoint}
+use Rattle.signals.specs.declared.Refusal.the-variants.{RequestBits, RemotePin, Cause, ImageLength, ImageField, ImageValue}
+use Rattle.signals.specs.declared.Refusal.the-variants.{ShortBuffer, Clock, Mnemonic, ValueForm, ComputerPin, WriterRight}
 use Rattle.signals.specs.declared.Verdict.the-variants as verdict
 use Rattle.signals.specs.declared.clock.ClockReading.{ClockReading}
 use Rattle.signals.proofs.Refusal.number.Reads as number-reads
 use Rattle.parameters.specs.Table.{value}
+use Rattle.rights.specs.declared.Writer.{Writer}
 use Rattle.controller.specs.Answers.{number, replyOf, replyOfVerdict, replyOfRead}
 use Rattle.controller.specs.declared.Answer.the-variants as answer
 use Rattle.controller.specs.declared.CallResult.{CallResult}
@@ -28,6 +33,7 @@ use Rattle.controller.specs.declared.ScanResult.{ScanResult}
 use Rattle.guarantee.specs.Clock.{tooSoon}
 use Rattle.guarantee.specs.Linked.{ScanEnsures, WriteEnsures, ReadEnsures, RestartEnsures, Slice, Lifetime}
 use Rattle.guarantee.specs.Modes.{modeIn, automaticMode}
+use Rattle.guarantee.specs.Rights.{accessOr}
 use Rattle.promises.specs.Refusals.{refusalIn}
 use Rattle.promises.specs.Table.{least, most, inOrder}
 use Rattle.promises.specs.Words.{remoteOrRatio}
@@ -69,23 +75,26 @@ wordRefusal c word =
     if bit word 11 && not (bit (c .conditions .pins) 5) then some 10 else
     if (bit word 12 || bit word 11) && (c .conditions .fault && bit word 8 || leb 85 (c .conditions .opencount)) then some 11 else none
 
--- "Writer: 4 number outside 1..32 (reads too); 5 read only; 6 out of range; 7 pair out of order", with the value in
--- its place; SL is number 20 and MD 24, whose word is the value
-unfoldable pub writeRefusal : Core → ℕ → ℤ → Option ℕ
-writeRefusal c n v =
+-- "6 out of range; 7 pair out of order", with the value in its place; SL is number 20 and MD 24, whose word is the
+-- value
+unfoldable pub valueRefusal : Core → ℕ → ℤ → Option ℕ
+valueRefusal c n v =
     let values = value (c .parameters) in
-    if eqb n 0 || ltb 32 n then some 4 else
-    if ltb 25 n then some 5 else
     if not (leZ (least values n) v && leZ v (most values n)) then some 6 else
     if not (inOrder (replaced values n v) n) then some 7 else
     if eqb n 20 then (if setpointRefused c then some 8 else none) else
     if eqb n 24 then wordRefusal c (natAbs v) else none
 
+-- what is refused whatever the value, by the writer, the number and the stored pins (`accessOr`, guarantee), and behind
+-- it what is refused for the value
+abbrev pub writeRefusal : Core → Writer → ℕ → ℤ → Option ℕ
+writeRefusal c w n v = accessOr (c .conditions .pins) w n (valueRefusal c n v)
+
 -- of any controller, reached by calls or not
 abbrev pub WriteRefusals : Type 0
 WriteRefusals =
-    (d : Controller) (n : ℕ) (v : ℤ) (r : CallResult) → WriteEnsures d n v r →
-    refusalIn (replyOfVerdict (r .verdict)) ≡ writeRefusal (d .core) n v
+    (d : Controller) (w : Writer) (n : ℕ) (v : ℤ) (r : CallResult) → WriteEnsures d w n v r →
+    refusalIn (replyOfVerdict (r .verdict)) ≡ writeRefusal (d .core) w n v
 
 -- ---- reads: "4 number outside 1..32 (reads too)"
 
@@ -106,6 +115,20 @@ RefusalNumbers =
     (replyOf (answer.Refused refusal) ≡ number n) × (replyOfVerdict (verdict.Refused refusal) ≡ number n) ×
     (replyOfRead (read.Refused refusal) ≡ number n)
 
+-- the refusals by their names, in the order of the papers' numbers, from 1 on
+abbrev pub inOrderOfNumbers : List Refusal
+inOrderOfNumbers =
+    Sample ∷ ButtonBits ∷ SensorBits ∷ Number ∷ ReadOnly ∷ Range ∷ Pair ∷ Setpoint ∷ RequestBits ∷ RemotePin ∷ Cause
+    ∷ ImageLength ∷ ImageField ∷ ImageValue ∷ ShortBuffer ∷ Clock ∷ Mnemonic ∷ ValueForm ∷ ComputerPin ∷ WriterRight ∷ []
+
+-- a caller gets of each the number of its place
+abbrev pub NumberedFrom : ℕ → List Refusal → Type 0
+NumberedFrom k [] = Unit {0}
+NumberedFrom k (refusal ∷ refusals) = ((n : ℕ) → NumberEnsures refusal n → n ≡ k) × NumberedFrom (k + 1) refusals
+
+abbrev pub RefusalNames : Type 0
+RefusalNames = NumberedFrom 1 inOrderOfNumbers
+
 -- ---- what a refused call leaves
 
 -- "Controller and buffers stay.": of a refused restart, write or scan
@@ -113,6 +136,6 @@ abbrev pub RefusedStays : Type 0
 RefusedStays =
     ((life : Lifetime) (d : Controller) (image : Slice) (j : CallResult) (n : ℕ) → RestartEnsures life d image j →
     replyOfVerdict (j .verdict) ≡ number n → j .controller ≡ d) ×
-    ((d : Controller) (p : ℕ) (v : ℤ) (j : CallResult) (n : ℕ) → WriteEnsures d p v j → replyOfVerdict (j .verdict) ≡ number n →
-    j .controller ≡ d) ×
+    ((d : Controller) (w : Writer) (p : ℕ) (v : ℤ) (j : CallResult) (n : ℕ) → WriteEnsures d w p v j →
+    replyOfVerdict (j .verdict) ≡ number n → j .controller ≡ d) ×
     ((d : Controller) (i : Input) (r : ScanResult) (n : ℕ) → ScanEnsures d i r → replyOf (r .answer) ≡ number n → r .controller ≡ d)

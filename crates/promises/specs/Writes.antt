@@ -11,6 +11,7 @@ use Rattle.integers.specs.Limit.{limited}
 use Rattle.signals.specs.Bits.{bit}
 use Rattle.modes.specs.declared.Request.the-variants.{Manual, Auto, Remote}
 use Rattle.parameters.specs.Table.{value}
+use Rattle.rights.specs.declared.Writer.{Writer}
 use Rattle.controller.specs.Valid.{Valid}
 use Rattle.controller.specs.declared.CallResult.{CallResult}
 use Rattle.controller.specs.declared.Controller.{Controller}
@@ -62,8 +63,9 @@ expectedOutput d now n =
     then limited (value (now .parameters) 16 *ℤ pos 65536) (value (now .parameters) 15 *ℤ pos 65536) (d .output)
     else d .output
 
--- of every write that no cause refuses, at every valid controller: each that calls lead to is (`ready`)
+-- of every write that no cause refuses, by whomever, at every valid controller: each that calls lead to is (`ready`)
 abbrev pub WriteEffects : Type 0
 WriteEffects =
-    (d : Controller) (n : ℕ) (v : ℤ) (r : CallResult) → Valid d → WriteEnsures d n v r → writeRefusal (d .core) n v ≡ none →
+    (d : Controller) (w : Writer) (n : ℕ) (v : ℤ) (r : CallResult) → Valid d → WriteEnsures d w n v r →
+    writeRefusal (d .core) w n v ≡ none →
     WriteEffect (d .core) (r .controller .core) n v × (r .controller .output ≡ expectedOutput d (r .controller .core) n)

@@ -12,6 +12,7 @@ use Rattle.signals.specs.declared.Refusal.{Refusal}
 use Rattle.signals.specs.declared.Refusal.the-variants.{Sample, ButtonBits, SensorBits, Number, ReadOnly, Range, Pair}
 use Rattle.signals.specs.declared.Refusal.the-variants.{Setpoint, RequestBits, RemotePin, Cause}
 use Rattle.signals.specs.declared.Refusal.the-variants.{ImageLength, ImageField, ImageValue, ShortBuffer, Clock, Mnemonic, ValueForm}
+use Rattle.signals.specs.declared.Refusal.the-variants.{ComputerPin, WriterRight}
 use Rattle.signals.specs.declared.Verdict.{Verdict}
 use Rattle.signals.specs.declared.Verdict.the-variants.{Accepted, Refused}
 use Rattle.signals.specs.declared.clock.ClockReading.{ClockReading}
@@ -36,13 +37,21 @@ numberOf ShortBuffer = 15
 numberOf Clock = 16
 numberOf Mnemonic = 17
 numberOf ValueForm = 18
+numberOf ComputerPin = 19
+numberOf WriterRight = 20
 
 -- and of a verdict: none where the call is accepted
 abbrev pub numberIn : Verdict → Option ℕ
 numberIn Accepted = none
 numberIn (Refused refusal) = some (numberOf refusal)
 
--- "Within a group the lowest number wins.": of tests listed by their numbers, the number of the first that holds
+-- of two refusals that may apply, the first that does
+abbrev pub firstOf : Option ℕ → Option ℕ → Option ℕ
+firstOf none later = later
+firstOf (some n) later = some n
+
+-- of tests listed in their order, the number of the first that holds. "Within a group the lowest number wins.": where
+-- the papers name no other order it is that of the numbers
 unfoldable pub refusedBy : List (Bool × ℕ) → Option ℕ
 refusedBy [] = none
 refusedBy (t ∷ ts) = if t .0 then some (t .1) else refusedBy ts

@@ -32,6 +32,10 @@ switchesOf sw =
 unfoldable pub pinsOf : ℕ → Pins
 pinsOf pins = record { hold = bit pins 7; track = bit pins 6; remote = bit pins 5 }
 
+-- "4 Computer", which decides whether the computer may write (document 02, request 6)
+abbrev pub computerPin : ℕ → Bool
+computerPin pins = bit pins 4
+
 -- "a button byte laid out as MD bits 7..0 with 5 and 4 zero"; MD: "7 Lower, 6 Raise, .. 3 SP, 2 R, 1 A, 0 M"
 unfoldable pub buttonsOf : ℕ → Buttons
 buttonsOf buttons =

@@ -24,6 +24,8 @@ pub const TRACK_PIN: u16 = 6;
 
 pub const REMOTE_PIN: u16 = 5;
 
+pub const COMPUTER_PIN: u16 = 4;
+
 // The button byte, in the order of MD bits 7 to 0; the two that are no button are zero.
 pub const LOWER: u16 = 7;
 

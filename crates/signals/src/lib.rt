@@ -2,8 +2,8 @@
 ghost use mathlib.Core.Path.{_≡_};
 ghost use Prim.Native.Nat.{_<_};
 ghost use Rattle.signals.specs.Bits.{bit};
-ghost use Rattle.signals.specs.Refusals.{numberOf, numberIn, refusedBy, scanTests};
-ghost use Rattle.signals.specs.Signals.{switchesOf, pinsOf, buttonsOf, adjustmentOf, isOpen, batteryLow};
+ghost use Rattle.signals.specs.Refusals.{numberOf, numberIn, firstOf, refusedBy, scanTests};
+ghost use Rattle.signals.specs.Signals.{switchesOf, pinsOf, computerPin, buttonsOf, adjustmentOf, isOpen, batteryLow};
 use crate::clock::ClockReading;
 
 mod bits;
@@ -64,7 +64,7 @@ pub enum Adjustment {
 }
 
 // Why a call is refused: 1 to 3 the plant's, 4 to 11 the writer's, of which 4 is a reader's too, 12 to 14 a restart's,
-// 15 a save's and a terminal's, 16 the plant's again, 17 and 18 a terminal's.
+// 15 a save's and a terminal's, 16 the plant's again, 17 and 18 a terminal's, 19 and 20 the writer's again.
 pub enum Refusal {
     // 1: a sample above 10000
     Sample,
@@ -102,6 +102,10 @@ pub enum Refusal {
     Mnemonic,
     // 18: what follows them isn't nothing, or > with a value of the parameter's form
     ValueForm,
+    // 19: the computer writes while its pin is 0
+    ComputerPin,
+    // 20: the writer hasn't that parameter
+    WriterRight,
 }
 
 // What a call that answers no value comes to: accepted, or why not.
@@ -144,6 +148,13 @@ pub fn pins_of(byte: u8) -> Pins
         track: bit(word, bits::TRACK_PIN),
         remote: bit(word, bits::REMOTE_PIN),
     }
+}
+
+// Whether the Computer pin is at 1. The contract rules out the bit of another pin.
+pub fn computer_pin(byte: u8) -> bool
+    ensures { λ r. ⌜ r ≡ computerPin byte ⌝ }
+{
+    bit(byte as u16, bits::COMPUTER_PIN)
 }
 
 // The contract rules out buttons that are exchanged.
@@ -218,8 +229,21 @@ impl Refusal {
             Refusal::Clock => 16,
             Refusal::Mnemonic => 17,
             Refusal::ValueForm => 18,
+            Refusal::ComputerPin => 19,
+            Refusal::WriterRight => 20,
         }
     }
+}
+
+// The first of two verdicts that refuses, where one does. The contract rules out the later refusal where the earlier
+// one applies.
+pub fn first_refusal(earlier: Verdict, later: Verdict) -> Verdict
+    ensures { λ r. ⌜ numberIn r ≡ firstOf (numberIn earlier) (numberIn later) ⌝ }
+{
+    if let Verdict::Refused(refusal) = earlier {
+        return Verdict::Refused(refusal);
+    }
+    later
 }
 
 // Whether a scan's input is acceptable after the last accepted reading, or the first refusal that applies: 16 comes

@@ -1,4 +1,5 @@
--- Document 02, request 4: what comes of a line, whole.
+-- Document 02, request 4: what comes of a line, whole; request 6: "Terminal lines carry a writer as well. Reading stays
+-- free."
 use mathlib.Core.List.{List, _∷_, _++_}
 use mathlib.Core.Option.{Option, some, none}
 use Prim.Native.Nat.{ℕ}
@@ -8,6 +9,7 @@ use lib.ListN.{length, drop}
 use Rattle.integers.specs.Choice.{if_then_else_}
 use Rattle.numerals.specs.Numerals.{decimal, hexadecimalWord}
 use Rattle.signals.specs.Refusals.{numberOf, refusedBy}
+use Rattle.rights.specs.declared.Writer.{Writer}
 use Rattle.controller.specs.Answers.{opOf}
 use Rattle.controller.specs.Read.{valueIn}
 use Rattle.controller.specs.Write.{writeTests, write}
@@ -59,23 +61,31 @@ replied c n buffer =
     record { next = c; answer = reply (length text); buffer = text ++ drop (length text) buffer }
 
 -- a write, and its own refusal: the reply shows what is present after it
-abbrev pub wroteOr : Option ℕ → Controller → ℕ → ℤ → List ℕ → LineOutcome
-wroteOr none c n v buffer = replied (write c n v .next) n buffer
-wroteOr (some k) c n v buffer = refusedLine c buffer k
+abbrev pub wroteOr : Option ℕ → Controller → Writer → ℕ → ℤ → List ℕ → LineOutcome
+wroteOr none c w n v buffer = replied (write c w n v .next) n buffer
+wroteOr (some k) c w n v buffer = refusedLine c buffer k
+
+-- "15 is also given for a reply buffer under nine bytes, right after 18 and before any refusal of the read or write
+-- itself." A read's own refusal is 4, of a number that no mnemonic names; it goes by no writer
+unfoldable pub readTo : Controller → ℕ → List ℕ → LineOutcome
+readTo c n buffer = if ltb (length buffer) 9 then refusedLine c buffer 15 else replied c n buffer
+
+-- a write's own are those of the writer's write
+unfoldable pub writtenTo : Controller → Writer → ℕ → ℤ → List ℕ → LineOutcome
+writtenTo c w n v buffer =
+    if ltb (length buffer) 9 then refusedLine c buffer 15 else wroteOr (refusedBy (writeTests (c .core) w n v)) c w n v buffer
 
 -- "17 when the first two bytes are no mnemonic, before all others. 18 when what follows isn't nothing or > with such a
--- value, next after 17. 15 is also given for a reply buffer under nine bytes, right after 18 and before any refusal of
--- the read or write itself." A read's own refusal is 4, of a number that no mnemonic names
-unfoldable pub answeredTo : Controller → List ℕ → Command → LineOutcome
-answeredTo c buffer NoMnemonic = refusedLine c buffer 17
-answeredTo c buffer NoValue = refusedLine c buffer 18
-answeredTo c buffer (Read n) = if ltb (length buffer) 9 then refusedLine c buffer 15 else replied c n buffer
-answeredTo c buffer (Write n v) =
-    if ltb (length buffer) 9 then refusedLine c buffer 15 else wroteOr (refusedBy (writeTests (c .core) n v)) c n v buffer
+-- value, next after 17."
+unfoldable pub answeredTo : Controller → Writer → List ℕ → Command → LineOutcome
+answeredTo c w buffer NoMnemonic = refusedLine c buffer 17
+answeredTo c w buffer NoValue = refusedLine c buffer 18
+answeredTo c w buffer (Read n) = readTo c n buffer
+answeredTo c w buffer (Write n v) = writtenTo c w n v buffer
 
 -- what `terminal::answer` returns and leaves in the buffer
-unfoldable pub answered : Controller → List ℕ → List ℕ → LineOutcome
-answered c line buffer = answeredTo c buffer (commandIn line)
+unfoldable pub answered : Controller → Writer → List ℕ → List ℕ → LineOutcome
+answered c w line buffer = answeredTo c w buffer (commandIn line)
 
 -- ---- the code's answer, in the paper's numbers
 

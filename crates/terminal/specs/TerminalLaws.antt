@@ -1,5 +1,4 @@
--- Laws of what comes of a line: a read of a named parameter, the length of a reply, a write's verdict; the next
--- controller is valid.
+-- Laws of what comes of a line: a read of a named parameter, the length of a reply; the next controller is valid.
 use mathlib.Core.Path.{_≡_, refl, sym, ap, subst, _∙_}
 use mathlib.Core.Bool.{true, false}
 use mathlib.Core.List.{List, [], _∷_, _++_}
@@ -19,37 +18,32 @@ use Rattle.numerals.specs.Shortest.{decimal-few}
 use Rattle.signals.specs.Refusals.{refusedBy}
 use Rattle.formatting.specs.Buffer.{buffer, appendAll}
 use Rattle.formatting.specs.Laws.{replaced, append-room}
-use Rattle.parameters.specs.Legal.{unknownRefusal}
 use Rattle.parameters.specs.LegalLaws.{value-most}
-use Rattle.parameters.specs.Table.{ruleOf, isFrom}
-use Rattle.outputs.specs.Instruction.{executed, changed, limitedTo}
+use Rattle.parameters.specs.RuleLaws.{is-known}
+use Rattle.parameters.specs.Table.{isFrom}
+use Rattle.rights.specs.declared.Writer.{Writer}
 use Rattle.outputs.specs.OutputLaws.{OutputRange, stored-most}
-use Rattle.controller.specs.Answers.{reading, acceptance, number, replyBy, opOf}
+use Rattle.controller.specs.Answers.{reading, number, opOf}
 use Rattle.controller.specs.Read.{valueIn, readIn, read}
-use Rattle.controller.specs.Scan.{responseFrom, refused, controllerAfter}
 use Rattle.controller.specs.Valid.{Valid}
-use Rattle.controller.specs.Write.{writeTests, writeAccepted, writeCore, write}
+use Rattle.controller.specs.Write.{writeTests, write}
 use Rattle.controller.specs.WriteLaws.{valid-write}
 use Rattle.controller.specs.declared.Controller.{Controller}
 use Rattle.terminal.specs.Commands.{isWord, valueOf, writing, commandOf, commandBy, commandIn}
 use Rattle.terminal.specs.MnemonicLaws.{named-range}
 use Rattle.terminal.specs.Mnemonics.{mnemonic, named}
-use Rattle.terminal.specs.Terminal.{valueText, replyText, presentValue, replied, wroteOr, answeredTo, answered, refusedLine}
-use Rattle.terminal.specs.Terminal.{LineOutcome}
+use Rattle.terminal.specs.Terminal.{valueText, replyText, presentValue, replied, wroteOr, readTo, writtenTo, answeredTo, answered}
+use Rattle.terminal.specs.Terminal.{refusedLine, LineOutcome}
 use Rattle.terminal.specs.declared.command.Command.{Command}
 use Rattle.terminal.specs.declared.command.Command.the-variants.{Read, Write, NoMnemonic, NoValue}
 
 -- ---- a parameter that a mnemonic names
 
 module _ (n : ℕ) (least : 1 ≤ n) (most : n ≤ 32) where
-  pub is-known : unknownRefusal (ruleOf n) ≡ none
-  unfolding ruleOf listed
-  is-known = listed-same (λ (m : ℕ). unknownRefusal (ruleOf m)) (λ (m : ℕ). none) 1 32 n refl least (omega arith)
-
   -- its read is never refused
   pub read-named : (c : Controller) → read c n ≡ reading (presentValue c n)
   unfolding read readIn
-  read-named c = rw is-known refl
+  read-named c = rw (is-known n least most) refl
 
   pub value-read : (c : Controller) (v : ℤ) → reading v ≡ read c n → v ≡ presentValue c n
   value-read c v e = let same : reading v ≡ reading (presentValue c n) = e ∙ read-named c in cc
@@ -144,36 +138,6 @@ module _ (n : ℕ) (v : ℤ) (least : 1 ≤ n) (most : n ≤ 32) where
       let count : end ≡ 0 + length text = cc in
       (omega arith, bytes ∙ ap (λ (k : ℕ). text ++ drop k out) (zero-add (length text)))
 
--- ---- a write's own refusal, by its answer
-
-module _ (c : Controller) (n : ℕ) (v : ℤ) where
-  pub write-answer : write c n v .answer ≡ replyBy (refusedBy (writeTests (c .core) n v))
-  unfolding write writeCore responseFrom writeAccepted refused
-  write-answer = go (refusedBy (writeTests (c .core) n v)) refl
-    where
-      go : (d : Option ℕ) → refusedBy (writeTests (c .core) n v) ≡ d → write c n v .answer ≡ replyBy d
-      go none e = rw e refl
-      go (some k) e = rw e refl
-
-  pub write-accepted : write c n v .answer ≡ acceptance → refusedBy (writeTests (c .core) n v) ≡ none
-  write-accepted e = go (refusedBy (writeTests (c .core) n v)) (sym write-answer ∙ e)
-    where
-      go : (d : Option ℕ) → replyBy d ≡ acceptance → d ≡ none
-      go none f = refl
-      go (some k) f = let z : _≡_ {A = ℕ} 0 1 = cc in absurd (omega arith)
-
-  pub write-refused : (k : ℕ) → write c n v .answer ≡ number k → refusedBy (writeTests (c .core) n v) ≡ some k
-  write-refused k e = go (refusedBy (writeTests (c .core) n v)) (sym write-answer ∙ e)
-    where
-      go : (d : Option ℕ) → replyBy d ≡ number k → d ≡ some k
-      go none f = let z : _≡_ {A = ℕ} 0 1 = cc in absurd (omega arith)
-      go (some m) f = cc
-
-  -- a refused write leaves the controller
-  pub write-leaves : (k : ℕ) → refusedBy (writeTests (c .core) n v) ≡ some k → write c n v .next ≡ c
-  unfolding write writeCore responseFrom controllerAfter refused executed changed limitedTo
-  write-leaves k e = rw e refl
-
 -- ---- the number of a command that a line has
 
 pub record Named (n : ℕ) : Type 0 where
@@ -216,21 +180,21 @@ replied-valid : (c : Controller) (n : ℕ) (room : List ℕ) → Valid c → Val
 unfolding replied
 replied-valid c n room v = v
 
-wrote-valid : (d : Option ℕ) (c : Controller) (n : ℕ) (v : ℤ) (room : List ℕ) → Valid c → Valid (wroteOr d c n v room .next)
-wrote-valid none c n v room valid = replied-valid (write c n v .next) n room (valid-write c n v valid)
-wrote-valid (some k) c n v room valid = valid
+wrote-valid : (d : Option ℕ) (c : Controller) (w : Writer) (n : ℕ) (v : ℤ) (room : List ℕ) → Valid c → Valid (wroteOr d c w n v room .next)
+wrote-valid none c w n v room valid = replied-valid (write c w n v .next) n room (valid-write c w n v valid)
+wrote-valid (some k) c w n v room valid = valid
 
-line-valid : (c : Controller) (room : List ℕ) (command : Command) → Valid c → Valid (answeredTo c room command .next)
-unfolding answeredTo
-line-valid c room NoMnemonic valid = valid
-line-valid c room NoValue valid = valid
-line-valid c room (Read n) valid =
+line-valid : (c : Controller) (w : Writer) (room : List ℕ) (command : Command) → Valid c → Valid (answeredTo c w room command .next)
+unfolding answeredTo readTo writtenTo
+line-valid c w room NoMnemonic valid = valid
+line-valid c w room NoValue valid = valid
+line-valid c w room (Read n) valid =
     by-cases (λ (o : LineOutcome). Valid (o .next)) (ltb (length room) 9) (refusedLine c room 15) (replied c n room) (λ e. valid)
     (λ e. replied-valid c n room valid)
-line-valid c room (Write n v) valid =
+line-valid c w room (Write n v) valid =
     by-cases (λ (o : LineOutcome). Valid (o .next)) (ltb (length room) 9) (refusedLine c room 15) _ (λ e. valid)
-    (λ e. wrote-valid (refusedBy (writeTests (c .core) n v)) c n v room valid)
+    (λ e. wrote-valid (refusedBy (writeTests (c .core) w n v)) c w n v room valid)
 
-pub valid-line : (c : Controller) (line room : List ℕ) → Valid c → Valid (answered c line room .next)
+pub valid-line : (c : Controller) (w : Writer) (line room : List ℕ) → Valid c → Valid (answered c w line room .next)
 unfolding answered
-valid-line c line room valid = line-valid c room _ valid
+valid-line c w line room valid = line-valid c w room _ valid

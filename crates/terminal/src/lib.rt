@@ -3,12 +3,12 @@ ghost use mathlib.Core.Path.{_≡_};
 ghost use Prim.Native.Nat.{_≤_};
 ghost use lib.ListN.{length};
 ghost use Rattle.controller.specs.Valid.{Valid};
-ghost use Rattle.terminal.specs.Terminal.{replied, outcomeOf, answeredTo, answered};
+ghost use Rattle.terminal.specs.Terminal.{replied, outcomeOf, readTo, writtenTo, answered};
 ghost use Rattle.terminal.specs.declared.LineAnswer.the-variants.{Refused};
-ghost use Rattle.terminal.specs.declared.command.Command.the-variants.{Read, Write};
 use command::Command;
 use controller::Controller;
 use controller::ReadAnswer;
+use rights::Writer;
 use signals::Refusal;
 use signals::Verdict;
 
@@ -55,9 +55,10 @@ fn show(controller: Controller, number: u64, reply: &mut [u8]) -> LineResult
     }
 }
 
+// A read needs no writer. The contract rules out that it needs a right.
 fn read(controller: Controller, number: u64, reply: &mut [u8]) -> LineResult
     requires { ⌜ Valid controller × (1 ≤ number) × (number ≤ 32) ⌝ }
-    ensures { λ r. ⌜ outcomeOf r (now (reply .exit)) ≡ answeredTo controller (now (reply .entry)) (Read number) ⌝ }
+    ensures { λ r. ⌜ outcomeOf r (now (reply .exit)) ≡ readTo controller number (now (reply .entry)) ⌝ }
 {
     if reply.len() < REPLY_LENGTH {
         return refused(controller, Refusal::ShortBuffer);
@@ -65,16 +66,22 @@ fn read(controller: Controller, number: u64, reply: &mut [u8]) -> LineResult
     show(controller, number, reply)
 }
 
-// The contract rules out that 15 comes after a refusal of the write, and a reply with the value sent where another is
-// present.
-fn write(controller: Controller, number: u64, value: i32, reply: &mut [u8]) -> LineResult
+// The contract rules out that 15 comes after a refusal of the write, a write by another writer, and a reply with the
+// value sent where another is present.
+fn write(
+    controller: Controller,
+    writer: Writer,
+    number: u64,
+    value: i32,
+    reply: &mut [u8],
+) -> LineResult
     requires { ⌜ Valid controller × (1 ≤ number) × (number ≤ 32) ⌝ }
-    ensures { λ r. ⌜ outcomeOf r (now (reply .exit)) ≡ answeredTo controller (now (reply .entry)) (Write number value) ⌝ }
+    ensures { λ r. ⌜ outcomeOf r (now (reply .exit)) ≡ writtenTo controller writer number value (now (reply .entry)) ⌝ }
 {
     if reply.len() < REPLY_LENGTH {
         return refused(controller, Refusal::ShortBuffer);
     }
-    let result = controller.write(number, value);
+    let result = controller.write(writer, number, value);
     let next = result.controller;
     let verdict = result.verdict;
     match verdict {
@@ -83,20 +90,20 @@ fn write(controller: Controller, number: u64, value: i32, reply: &mut [u8]) -> L
     }
 }
 
-// One line of any bytes and any length, with a buffer of any length for the reply: the next controller and the reply's
-// length, or a refusal, 17, 18, 15 or one of a write's from 5 to 11, and the controller and the buffer as they were.
-// The contract gives the next controller, the answer and every byte of the buffer, so it rules out a line that is taken
-// for another, a refusal out of its order, a reply with another value than the present one, and a change behind the
-// reply.
-pub fn answer(controller: Controller, line: &[u8], reply: &mut [u8]) -> LineResult
+// One line of any bytes and any length, typed by a writer, with a buffer of any length for the reply: the next
+// controller and the reply's length, or a refusal, 17, 18, 15 or one of a write's, 19, 20 or from 5 to 11, and the
+// controller and the buffer as they were. The contract gives the next controller, the answer and every byte of the
+// buffer, so it rules out a line that is taken for another, a refusal out of its order, a write by someone without the
+// right, a read that needs one, a reply with another value than the present one, and a change behind the reply.
+pub fn answer(controller: Controller, writer: Writer, line: &[u8], reply: &mut [u8]) -> LineResult
     requires { ⌜ Valid controller ⌝ }
-    ensures { λ r. ⌜ outcomeOf r (now (reply .exit)) ≡ answered controller (now (line .entry)) (now (reply .entry)) ⌝ }
+    ensures { λ r. ⌜ outcomeOf r (now (reply .exit)) ≡ answered controller writer (now (line .entry)) (now (reply .entry)) ⌝ }
 {
     let command = command::parse(line);
     match command {
         Command::NoMnemonic => refused(controller, Refusal::Mnemonic),
         Command::NoValue => refused(controller, Refusal::ValueForm),
         Command::Read(number) => read(controller, number, reply),
-        Command::Write(number, value) => write(controller, number, value, reply),
+        Command::Write(number, value) => write(controller, writer, number, value, reply),
     }
 }

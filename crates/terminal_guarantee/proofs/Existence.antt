@@ -12,6 +12,7 @@ use Rattle.signals.specs.declared.Refusal.{Refusal}
 use Rattle.signals.specs.declared.Refusal.the-variants.{ShortBuffer, Mnemonic, ValueForm}
 use Rattle.signals.specs.declared.Verdict.{Verdict}
 use Rattle.signals.specs.declared.Verdict.the-variants as verdict
+use Rattle.rights.specs.declared.Writer.{Writer}
 use Rattle.controller.specs.Answers as answers
 use Rattle.controller.specs.Answers.{Response}
 use Rattle.controller.specs.State.{freshController}
@@ -21,8 +22,9 @@ use Rattle.controller.specs.declared.Controller.{Controller}
 use Rattle.guarantee.specs.Exact.{scan, write, restart}
 use Rattle.guarantee.proofs.Existence.{lend, write-exists, scan-exists, restart-exists, whenever}
 use Rattle.terminal.specs.Commands.{commandIn}
-use Rattle.terminal.specs.Terminal.{LineOutcome, replyText, presentValue, refusedLine, replied, wroteOr, answeredTo, answered, outcomeOf}
-use Rattle.terminal.specs.TerminalLaws.{write-accepted, write-refused}
+use Rattle.terminal.specs.Terminal.{LineOutcome, replyText, presentValue, refusedLine, replied, wroteOr, answeredTo, answered}
+use Rattle.terminal.specs.Terminal.{readTo, writtenTo, outcomeOf}
+use Rattle.controller.specs.WriteLaws.{write-accepted, write-refused}
 use Rattle.terminal.specs.declared.LineAnswer.the-variants.{Reply, Refused}
 use Rattle.terminal.specs.declared.LineResult.{LineResult}
 use Rattle.terminal.specs.declared.command.Command.{Command}
@@ -45,26 +47,27 @@ unfolding replied
 replied-result c n buffer =
     record { result = record { controller = c; answer = Reply (length (replyText n (presentValue c n))) }; after = _; described = refl }
 
-wrote-result : (c : Controller) (n : ℕ) (v : ℤ) (buffer : List ℕ) → Result (wroteOr (refusedBy (writeTests (c .core) n v)) c n v buffer)
-wrote-result c n v buffer =
-    let w = write-exists c n v in
+wrote-result : (c : Controller) (who : Writer) (n : ℕ) (v : ℤ) (buffer : List ℕ) →
+    Result (wroteOr (refusedBy (writeTests (c .core) who n v)) c who n v buffer)
+wrote-result c who n v buffer =
+    let w = write-exists c who n v in
     by-verdict (w .result .verdict) (ap (λ (h : Response). h .answer) (w .described))
   where
-    by-verdict : (d : Verdict) → answers.replyOfVerdict d ≡ writes.write c n v .answer →
-        Result (wroteOr (refusedBy (writeTests (c .core) n v)) c n v buffer)
-    by-verdict verdict.Accepted e = rw (write-accepted c n v (sym e)) (replied-result (writes.write c n v .next) n buffer)
-    by-verdict (verdict.Refused refusal) e = rw (write-refused c n v (numberOf refusal) (sym e)) (refused-result refusal c buffer)
+    by-verdict : (d : Verdict) → answers.replyOfVerdict d ≡ writes.write c who n v .answer →
+        Result (wroteOr (refusedBy (writeTests (c .core) who n v)) c who n v buffer)
+    by-verdict verdict.Accepted e = rw (write-accepted c who n v (sym e)) (replied-result (writes.write c who n v .next) n buffer)
+    by-verdict (verdict.Refused refusal) e = rw (write-refused c who n v (numberOf refusal) (sym e)) (refused-result refusal c buffer)
 
 with-room : (t : Bool) (c : Controller) (buffer : List ℕ) (o : LineOutcome) → Result o → Result (if t then refusedLine c buffer 15 else o)
 with-room true c buffer o r = refused-result ShortBuffer c buffer
 with-room false c buffer o r = r
 
-result-by : (c : Controller) (buffer : List ℕ) (command : Command) → Result (answeredTo c buffer command)
-unfolding answeredTo
-result-by c buffer NoMnemonic = refused-result Mnemonic c buffer
-result-by c buffer NoValue = refused-result ValueForm c buffer
-result-by c buffer (Read n) = with-room (ltb (length buffer) 9) c buffer _ (replied-result c n buffer)
-result-by c buffer (Write n v) = with-room (ltb (length buffer) 9) c buffer _ (wrote-result c n v buffer)
+result-by : (c : Controller) (who : Writer) (buffer : List ℕ) (command : Command) → Result (answeredTo c who buffer command)
+unfolding answeredTo readTo writtenTo
+result-by c who buffer NoMnemonic = refused-result Mnemonic c buffer
+result-by c who buffer NoValue = refused-result ValueForm c buffer
+result-by c who buffer (Read n) = with-room (ltb (length buffer) 9) c buffer _ (replied-result c n buffer)
+result-by c who buffer (Write n v) = with-room (ltb (length buffer) 9) c buffer _ (wrote-result c who n v buffer)
 
 -- ---- every list
 
@@ -78,20 +81,20 @@ always-visited word (es then call (scan i)) =
     let w = always-visited word es in
     let r = scan-exists (w .last) i in
     record { last = r .result .controller; visited = scanned i (r .result) (w .visited) (r .described) }
-always-visited word (es then call (write n v)) =
+always-visited word (es then call (write who n v)) =
     let w = always-visited word es in
-    let r = write-exists (w .last) n v in
-    record { last = r .result .controller; visited = wrote n v (r .result) (w .visited) (r .described) }
+    let r = write-exists (w .last) who n v in
+    record { last = r .result .controller; visited = wrote who n v (r .result) (w .visited) (r .described) }
 always-visited word (es then call (restart image)) =
     let w = always-visited word es in
     let r = restart-exists (w .last) image in
     record { last = r .result .controller; visited = restarted whenever (lend image) (r .result) (w .visited) (r .described) }
-always-visited word (es then line bytes room) =
+always-visited word (es then line who bytes room) =
     let w = always-visited word es in
     let buffer : List ℕ = replicate room 0 in
-    let r = result-by (w .last) buffer (commandIn bytes) in
-    let here = typed lives (lend bytes) (lend buffer) (r .result) (r .after) (w .visited) (r .described) in
+    let r = result-by (w .last) who buffer (commandIn bytes) in
+    let here = typed lives who (lend bytes) (lend buffer) (r .result) (r .after) (w .visited) (r .described) in
     record {
       last = r .result .controller;
-      visited = subst (λ (k : ℕ). Visited word (es then line bytes k) (r .result .controller)) (length-replicate room 0) here;
+      visited = subst (λ (k : ℕ). Visited word (es then line who bytes k) (r .result .controller)) (length-replicate room 0) here;
     }

@@ -18,20 +18,20 @@ use Rattle.numerals.specs.Reading.{read-last}
 use Rattle.numerals.specs.Shortest.{decimal-shortest}
 use Rattle.signals.specs.Refusals.{numberOf, refusedBy}
 use Rattle.signals.specs.declared.Refusal.{Refusal}
+use Rattle.rights.specs.declared.Writer.{Writer}
 use Rattle.controller.specs.Answers.{Response, reading, replyBy, replyOfRead}
 use Rattle.controller.specs.Read.{valueIn}
 use Rattle.controller.specs.Scan.{modeNow}
 use Rattle.controller.specs.Valid.{Valid}
 use Rattle.controller.specs.Write.{writeTests, write}
-use Rattle.controller.specs.WriteLaws.{valid-write}
+use Rattle.controller.specs.WriteLaws.{valid-write, write-answer}
 use Rattle.controller.specs.declared.Controller.{Controller}
 use Rattle.controller.specs.declared.ReadAnswer.{ReadAnswer}
 use Rattle.controller.specs.declared.ReadAnswer.the-variants as read
 use Rattle.terminal.specs.Commands.{isWord, valueOf, commandIn}
 use Rattle.terminal.specs.Terminal.{valueText, replyText, presentValue, LineOutcome, reply, number, refusedLine, replied}
-use Rattle.terminal.specs.Terminal.{wroteOr}
-use Rattle.terminal.specs.Terminal.{answeredTo, answered, outcomeOf, replyOfLine}
-use Rattle.terminal.specs.TerminalLaws.{read-named, value-few, word-value, write-answer}
+use Rattle.terminal.specs.Terminal.{wroteOr, readTo, writtenTo, answeredTo, answered, outcomeOf, replyOfLine}
+use Rattle.terminal.specs.TerminalLaws.{read-named, value-few, word-value}
 use Rattle.terminal.specs.declared.LineAnswer.{LineAnswer}
 use Rattle.terminal.specs.declared.LineAnswer.the-variants.{Reply, Refused}
 use Rattle.terminal.specs.declared.LineResult.{LineResult}
@@ -167,17 +167,18 @@ refused-right k c buffer r after e =
 
 -- ---- a write
 
-written-right : (c : Controller) (n : ℕ) (v : ℤ) (buffer : List ℕ) (r : LineResult) (after : List ℕ) (d : Option ℕ) → InTable n →
-    Valid c → refusedBy (writeTests (c .core) n v) ≡ d → outcomeOf r after ≡ wroteOr d c n v buffer → Written c n v buffer r after
-written-right c n v buffer r after none t valid f e =
-    let next = replied-next (write c n v .next) n buffer r after t e in
-    let answers = write-answer c n v ∙ ap replyBy f in
+written-right : (c : Controller) (w : Writer) (n : ℕ) (v : ℤ) (buffer : List ℕ) (r : LineResult) (after : List ℕ) (d : Option ℕ) →
+    InTable n → Valid c → refusedBy (writeTests (c .core) w n v) ≡ d → outcomeOf r after ≡ wroteOr d c w n v buffer →
+    Written c w n v buffer r after
+written-right c w n v buffer r after none t valid f e =
+    let next = replied-next (write c w n v .next) n buffer r after t e in
+    let answers = write-answer c w n v ∙ ap replyBy f in
     accepted-write
-    (λ w h. (ap (λ (k : Response). k .answer) h ∙ answers, next ∙ sym (ap (λ (k : Response). k .next) h)))
+    (λ q h. (ap (λ (k : Response). k .answer) h ∙ answers, next ∙ sym (ap (λ (k : Response). k .next) h)))
     (subst (λ (k : Controller). Replied k n buffer r after) (sym next)
-    (replied-right (write c n v .next) n buffer r after t (valid-write c n v valid) e))
-written-right c n v buffer r after (some k) t valid f e =
-    refused-write (λ w h. ap (λ (k : Response). k .answer) h ∙ write-answer c n v ∙ ap replyBy f) (refused-right k c buffer r after e)
+    (replied-right (write c w n v .next) n buffer r after t (valid-write c w n v valid) e))
+written-right c w n v buffer r after (some k) t valid f e =
+    refused-write (λ q h. ap (λ (k : Response). k .answer) h ∙ write-answer c w n v ∙ ap replyBy f) (refused-right k c buffer r after e)
 
 -- ---- every line
 
@@ -197,20 +198,20 @@ by-room {P} c buffer o r after e short room = go (ltb (length buffer) 9) refl e
     go true f g = short (ltb-true (length buffer) 9 f) (refused-right 15 c buffer r after g)
     go false f g = room (ltb-false (length buffer) 9 f) g
 
-line-right : (c : Controller) (line buffer : List ℕ) (r : LineResult) (after : List ℕ) (command : Command) → Valid c →
-    Meaning line command → outcomeOf r after ≡ answeredTo c buffer command → LineClaim c line buffer r after
-unfolding answeredTo
-line-right c line buffer r after NoMnemonic valid (names-none f) e = no-mnemonic f (refused-right 17 c buffer r after e)
-line-right c line buffer r after NoValue valid (asks-nothing t f g) e = no-value t f g (refused-right 18 c buffer r after e)
-line-right c line buffer r after (Read n) valid (asks-read a) e =
+line-right : (c : Controller) (w : Writer) (line buffer : List ℕ) (r : LineResult) (after : List ℕ) (command : Command) → Valid c →
+    Meaning line command → outcomeOf r after ≡ answeredTo c w buffer command → LineClaim c w line buffer r after
+unfolding answeredTo readTo writtenTo
+line-right c w line buffer r after NoMnemonic valid (names-none f) e = no-mnemonic f (refused-right 17 c buffer r after e)
+line-right c w line buffer r after NoValue valid (asks-nothing t f g) e = no-value t f g (refused-right 18 c buffer r after e)
+line-right c w line buffer r after (Read n) valid (asks-read a) e =
     let t = asked-in-table a in
     by-room c buffer (replied c n buffer) r after e (λ h f. short-buffer a h f)
     (λ h f. a-reading a h (replied-next c n buffer r after t f) (replied-right c n buffer r after t valid f))
-line-right c line buffer r after (Write n v) valid (asks-write a) e =
-    by-room c buffer (wroteOr (refusedBy (writeTests (c .core) n v)) c n v buffer) r after e (λ h f. short-buffer a h f)
-    (λ h f. a-writing a h (written-right c n v buffer r after (refusedBy (writeTests (c .core) n v)) (written-in-table a) valid refl f))
+line-right c w line buffer r after (Write n v) valid (asks-write a) e =
+    by-room c buffer (wroteOr (refusedBy (writeTests (c .core) w n v)) c w n v buffer) r after e (λ h f. short-buffer a h f)
+    (λ h f. a-writing a h (written-right c w n v buffer r after (refusedBy (writeTests (c .core) w n v)) (written-in-table a) valid refl f))
 
 pub lines-right : LinesRight
 unfolding answered
-lines-right lives c line buffer r after valid e =
-    line-right c (now line) (now buffer) r after (commandIn (now line)) valid (meaning (now line)) e
+lines-right lives c w line buffer r after valid e =
+    line-right c w (now line) (now buffer) r after (commandIn (now line)) valid (meaning (now line)) e

@@ -12,26 +12,28 @@ use lib.ListN.{length, take, drop}
 use lib.Seq.{take-append-seam, drop-append-seam}
 use denote.Ref.{now}
 use borrow.Author.Tests.{eqb-true, eq-eqb, le-leb, le-ltb}
-use Rattle.integers.specs.Choice.{if_then_else_, by-cases}
+use Rattle.integers.specs.Choice.{by-cases}
 use Rattle.numerals.specs.Numerals.{decimal}
 use Rattle.numerals.specs.Shortest.{decimal-shortest}
 use Rattle.signals.specs.Refusals.{numberOf, refusedBy}
 use Rattle.modes.specs.declared.Mode.{Mode}
 use Rattle.parameters.specs.Table.{value}
+use Rattle.rights.specs.declared.Writer.{Writer}
 use Rattle.controller.specs.Read.{valueIn}
 use Rattle.controller.specs.Valid.{Valid}
 use Rattle.controller.specs.Write.{writeTests, write}
 use Rattle.controller.specs.declared.Controller.{Controller}
 use Rattle.guarantee.specs.Claim.{WithinLimits}
 use Rattle.guarantee.specs.Modes.{modeIn, isHoldOrTrack}
+use Rattle.guarantee.specs.Rights.{hasRight}
 use Rattle.guarantee.proofs.Modes.{mode-is-first}
+use Rattle.guarantee.proofs.Rights.{refused-without, some-without}
 use Rattle.promises.specs.RefusalCauses.{setpointRefused}
 use Rattle.terminal.specs.Commands.{valueOf, commandIn}
 use Rattle.terminal.specs.MnemonicLaws.{names}
 use Rattle.terminal.specs.Mnemonics.{named}
 use Rattle.terminal.specs.Terminal.{valueText, replyText, presentValue, LineOutcome, reply, number, refusedLine, replied}
-use Rattle.terminal.specs.Terminal.{wroteOr}
-use Rattle.terminal.specs.Terminal.{answeredTo, answered, outcomeOf, replyOfLine}
+use Rattle.terminal.specs.Terminal.{wroteOr, readTo, writtenTo, answeredTo, answered, outcomeOf, replyOfLine}
 use Rattle.terminal.specs.TerminalLaws.{value-few}
 use Rattle.terminal.specs.declared.LineResult.{LineResult}
 use Rattle.terminal.specs.declared.command.Command.{Command}
@@ -82,24 +84,24 @@ module _ (c : Controller) (line buffer : List ℕ) (r : LineResult) (after : Lis
   shows d m is e =
       e ∙ ap (λ (j : ℕ). replied d j buffer) is ∙ ap (λ (q : Controller). replied q n buffer) (sym (ap (λ (q : LineOutcome). q .next) e))
 
-  by-write : (m : ℕ) (v : ℤ) (d : Option ℕ) → m ≡ n → outcomeOf r after ≡ wroteOr d c m v buffer →
+  by-write : (w : Writer) (m : ℕ) (v : ℤ) (d : Option ℕ) → m ≡ n → outcomeOf r after ≡ wroteOr d c w m v buffer →
       outcomeOf r after ≡ replied (r .controller) n buffer
-  by-write m v none is e = shows (write c m v .next) m is e
-  by-write m v (some j) is e = refused-not j _ e
+  by-write w m v none is e = shows (write c w m v .next) m is e
+  by-write w m v (some j) is e = refused-not j _ e
 
-  by-command : (command : Command) → Meaning line command → outcomeOf r after ≡ answeredTo c buffer command →
+  by-command : (w : Writer) (command : Command) → Meaning line command → outcomeOf r after ≡ answeredTo c w buffer command →
       outcomeOf r after ≡ replied (r .controller) n buffer
-  unfolding answeredTo
-  by-command NoMnemonic (names-none f) e = refused-not 17 _ e
-  by-command NoValue (asks-nothing f g h) e = refused-not 18 _ e
-  by-command (Read m) (asks-read a) e =
+  unfolding answeredTo readTo writtenTo
+  by-command w NoMnemonic (names-none f) e = refused-not 17 _ e
+  by-command w NoValue (asks-nothing f g h) e = refused-not 18 _ e
+  by-command w (Read m) (asks-read a) e =
       by-room c buffer (replied c m buffer) r after e
       (λ h f. no-reply (numberOf (f .refusal)) k (sym (ap replyOfLine (f .answer)) ∙ answer))
       (λ h f. shows c m (same-number line (a-read m) n a t named-so) f)
-  by-command (Write m v) (asks-write a) e =
+  by-command w (Write m v) (asks-write a) e =
       by-room c buffer _ r after e
       (λ h f. no-reply (numberOf (f .refusal)) k (sym (ap replyOfLine (f .answer)) ∙ answer))
-      (λ h f. by-write m v (refusedBy (writeTests (c .core) m v)) (same-number line (a-write m v) n a t named-so) f)
+      (λ h f. by-write w m v (refusedBy (writeTests (c .core) w m v)) (same-number line (a-write m v) n a t named-so) f)
 
 -- ---- its bytes
 
@@ -159,39 +161,41 @@ module _ (c : Controller) (n : ℕ) (least : 1 ≤ n) (most : n ≤ 23) (valid :
   in-table : InTable n
   in-table = record { least = least; most = omega arith }
 
-  tests : refusedBy (writeTests (c .core) n v) ≡ (if eqb n 20 then (if setpointRefused (c .core) then some 8 else none) else none)
-  tests = tests-are c n least most valid
-
   -- the line is that write
-  module _ (again buffer : List ℕ) (r : LineResult) (after : List ℕ) (sent : again ≡ replyText n (presentValue c n))
-      (room : 9 ≤ length buffer) (e : outcomeOf r after ≡ answered c again buffer) where
+  module _ (w : Writer) (again buffer : List ℕ) (r : LineResult) (after : List ℕ) (sent : again ≡ replyText n (presentValue c n))
+      (room : 9 ≤ length buffer) (e : outcomeOf r after ≡ answered c w again buffer) where
     is-write : commandIn again ≡ Write n v
     is-write =
         ap commandIn sent ∙ asked-command (reply-asks c n valid in-table most) ∙ ap (Write n) (stored c n least most)
 
-    as-write : outcomeOf r after ≡ wroteOr (refusedBy (writeTests (c .core) n v)) c n v buffer
-    unfolding answered answeredTo
+    as-write : outcomeOf r after ≡ wroteOr (refusedBy (writeTests (c .core) w n v)) c w n v buffer
+    unfolding answered answeredTo writtenTo
     as-write = e ∙ rw is-write (rw (le-ltb (length buffer) 9 room) refl)
 
-    accepted : (n ≡ 20 → setpointRefused (c .core) ≡ false) → outcomeOf r after ≡ replied c n buffer
-    accepted free =
-        let passes : refusedBy (writeTests (c .core) n v) ≡ none = tests ∙ by-cases (λ (o : Option ℕ). o ≡ none) (eqb n 20) _ none
-        (λ is. rw (free (eqb-true n 20 is)) refl) (λ is. refl) in
-        as-write ∙ ap (λ (d : Option ℕ). wroteOr d c n v buffer) passes ∙
-        ap (λ (q : Controller). replied q n buffer) (unchanged c n least most valid passes within)
+    accepted : hasRight (c .core .conditions .pins) w n ≡ true → (n ≡ 20 → setpointRefused (c .core) ≡ false) →
+        outcomeOf r after ≡ replied c n buffer
+    accepted right free =
+        let passes : refusedBy (writeTests (c .core) w n v) ≡ none = tests-are c n least most valid w right ∙
+        by-cases (λ (o : Option ℕ). o ≡ none) (eqb n 20) _ none (λ is. rw (free (eqb-true n 20 is)) refl) (λ is. refl) in
+        as-write ∙ ap (λ (d : Option ℕ). wroteOr d c w n v buffer) passes ∙
+        ap (λ (q : Controller). replied q n buffer) (unchanged c n least most valid w passes within)
 
-    refused : n ≡ 20 → setpointRefused (c .core) ≡ true → RefusedWith 8 c buffer r after
-    refused is held =
-        let eight : refusedBy (writeTests (c .core) n v) ≡ some 8 = tests ∙ rw (eq-eqb n 20 is, held) refl in
-        refused-right 8 c buffer r after (as-write ∙ ap (λ (d : Option ℕ). wroteOr d c n v buffer) eight)
+    -- a refusal of the write is one of the line
+    refused : (k : ℕ) → refusedBy (writeTests (c .core) w n v) ≡ some k → RefusedWith k c buffer r after
+    refused k f = refused-right k c buffer r after (as-write ∙ ap (λ (d : Option ℕ). wroteOr d c w n v buffer) f)
+
+    held-refused : hasRight (c .core .conditions .pins) w n ≡ true → n ≡ 20 → setpointRefused (c .core) ≡ true →
+        RefusedWith 8 c buffer r after
+    held-refused right is held = refused 8 (tests-are c n least most valid w right ∙ rw (eq-eqb n 20 is, held) refl)
 
 pub reply-sent-back : ReplySentBack
 unfolding answered
-reply-sent-back word es c visited n least most lives bytes buffer r after e named-so k given lives2 again buffer2 r2 after2 e2 sent room =
+reply-sent-back word es c visited n least most lives w bytes buffer r after e named-so k given lives2 w2 again buffer2 r2 after2 e2 sent
+    room =
     let t : InTable n = record { least = least; most = omega arith } in
     let answer = ap replyOfLine given in
-    let first = by-command c (now bytes) (now buffer) r after n k t named-so answer (commandIn (now bytes)) (meaning (now bytes)) e in
-    let now-visited = typed lives bytes buffer r after visited e in
+    let first = by-command c (now bytes) (now buffer) r after n k t named-so answer w (commandIn (now bytes)) (meaning (now bytes)) e in
+    let now-visited = typed lives w bytes buffer r after visited e in
     let claim = lines-are-writes word _ (r .controller) now-visited in
     let valid = claim .ready .valid in
     let d = r .controller in
@@ -200,8 +204,8 @@ reply-sent-back word es c visited n least most lives bytes buffer r after e name
     λ mode is. claim .guaranteed .within-limits mode (claim .guaranteed .mode-first ∙ sym (mode-is-first (d .core)) ∙ is) in
     let text-is = sent ∙ reply-is in
     record {
-      same = λ free.
-          let again-replied = accepted d n least most valid within (now again) (now buffer2) r2 after2 text-is room e2 free in
+      same = λ right free.
+          let again-replied = accepted d n least most valid within w2 (now again) (now buffer2) r2 after2 text-is room e2 right free in
           let answer2 = reply-size d n (now buffer) (now buffer2) r after r2 after2 first again-replied ∙ answer in
           record {
             controller = next-is d n (now buffer2) r2 after2 again-replied;
@@ -209,5 +213,9 @@ reply-sent-back word es c visited n least most lives bytes buffer r after e name
             bytes = front d n k (now buffer2) r2 after2 again-replied answer2 ∙ sym reply-is;
             behind = behind d n k (now buffer2) r2 after2 again-replied answer2;
           };
-      setpoint = refused d n least most valid within (now again) (now buffer2) r2 after2 text-is room e2;
+      setpoint = held-refused d n least most valid within w2 (now again) (now buffer2) r2 after2 text-is room e2;
+      without = λ none-there.
+          refused d n least most valid within w2 (now again) (now buffer2) r2 after2 text-is room e2 _
+          (refused-without (d .core) w2 n (value (d .core .parameters) n) none-there ∙
+          some-without (d .core .conditions .pins) w2 n least (omega arith) none-there);
     }

@@ -13,31 +13,32 @@ use lib.Signed.{_≤ℤ_}
 use borrow.Author.Tests.{ne-eqb}
 use Rattle.integers.specs.Choice.{if_then_else_, by-cases, both}
 use Rattle.integers.specs.Limit.{limited-same}
-use Rattle.integers.specs.Listed.{listed, listed-same}
 use Rattle.signals.specs.Refusals.{refusedBy}
 use Rattle.modes.specs.declared.Mode.{Mode}
 use Rattle.modes.specs.declared.Mode.the-variants.{Hold, Track, Forced, Manual, Auto, Remote, Ratio, Fallback}
-use Rattle.parameters.specs.Legal.{Legal, readOnlyRefusal, inRange}
+use Rattle.parameters.specs.Legal.{Legal, inRange}
 use Rattle.parameters.specs.LegalLaws.{ranges}
 use Rattle.parameters.specs.Table.{value, withValue, ruleOf, isFrom}
 use Rattle.parameters.specs.Written.{limitedAnew, written}
 use Rattle.parameters.specs.declared.Parameters.{Parameters}
+use Rattle.rights.specs.declared.Writer.{Writer}
 use Rattle.controller.specs.Answers.{Response}
 use Rattle.controller.specs.Scan.{modeNow, controllerAfter, responseFrom}
 use Rattle.controller.specs.Valid.{Valid}
-use Rattle.controller.specs.Write.{setpointTests, stateTests, writeTests, coreWith, parameterWritten, coreWritten, writeAccepted}
-use Rattle.controller.specs.Write.{writeCore, write}
+use Rattle.controller.specs.Write.{setpointTests, stateTests, valueTests, writeTests, coreWith, parameterWritten, coreWritten}
+use Rattle.controller.specs.Write.{writeAccepted, writeCore, write}
 use Rattle.controller.specs.declared.Controller.{Controller}
 use Rattle.controller.specs.declared.Core.{Core}
 use Rattle.guarantee.specs.Claim.{WithinLimits}
 use Rattle.guarantee.specs.Modes.{modeIn, isHoldOrTrack, automaticMode, manualOrForced}
+use Rattle.guarantee.specs.Rights.{hasRight}
 use Rattle.guarantee.proofs.Existence.{write-exists}
 use Rattle.guarantee.proofs.Modes.{mode-is-first}
 use Rattle.promises.specs.RefusalCauses.{setpointRefused}
 use Rattle.promises.specs.Writes.{expectedOutput}
-use Rattle.promises.proofs.RefusalCauses.{setpoint-refused-is, write-tests}
+use Rattle.guarantee.proofs.Rights.{access-tests}
+use Rattle.promises.proofs.RefusalCauses.{setpoint-refused-is, right-passes, write-tests}
 use Rattle.promises.proofs.Writes.{write-effects}
-use Rattle.terminal.specs.TerminalLaws.{is-known}
 use Rattle.terminal_guarantee.proofs.Forms.{apart}
 
 -- ---- the parameters
@@ -74,19 +75,15 @@ module _ (c : Controller) (n : ℕ) (least : 1 ≤ n) (most : n ≤ 23) (valid :
       (ap (λ (p : Parameters). coreWith (c .core) p (c .core .conditions) (c .core .userbits))
       (written-same (c .core .parameters) n (valid .legal)))
 
-  -- ---- its refusals
-
-  is-settable : readOnlyRefusal (ruleOf n) ≡ none
-  unfolding ruleOf listed
-  is-settable = listed-same (λ (m : ℕ). readOnlyRefusal (ruleOf m)) (λ (m : ℕ). none) 1 25 n refl least (omega arith)
+  -- ---- its refusals, by one who may write it
 
   -- the row of a legal value refuses it for nothing; SL's own test is left
-  pub tests-are : refusedBy (writeTests (c .core) n present) ≡
+  value-tests-are : refusedBy (valueTests (c .core) n present) ≡
       (if eqb n 20 then (if setpointRefused (c .core) then some 8 else none) else none)
-  unfolding writeTests stateTests setpointTests refusedBy
-  tests-are =
+  unfolding valueTests stateTests setpointTests refusedBy
+  value-tests-are =
       let kept = both (inRange (ruleOf n) (value (c .core .parameters)) _) _ (valid .legal .rules n least most) in
-      rw (is-known n least (omega arith), is-settable, kept .0, kept .1, ne-eqb n 24 (λ q. omega arith), setpoint-refused-is (c .core))
+      rw (kept .0, kept .1, ne-eqb n 24 (λ q. omega arith), setpoint-refused-is (c .core))
       (go (eqb n 20) (setpointRefused (c .core)))
     where
       go : (s t : Bool) → refusedBy (if s then (t, 8) ∷ [] else []) ≡ (if s then (if t then some 8 else none) else none)
@@ -94,11 +91,19 @@ module _ (c : Controller) (n : ℕ) (least : 1 ≤ n) (most : n ≤ 23) (valid :
       go true false = refl
       go false t = refl
 
+  pub tests-are : (w : Writer) → hasRight (c .core .conditions .pins) w n ≡ true →
+      refusedBy (writeTests (c .core) w n present) ≡
+      (if eqb n 20 then (if setpointRefused (c .core) then some 8 else none) else none)
+  unfolding writeTests
+  tests-are w right =
+      access-tests (c .core) w n (valueTests (c .core) n present) ∙
+      right-passes (c .core .conditions .pins) w n _ right least (omega arith) ∙ value-tests-are
+
   -- ---- accepted
 
-  module _ (accepted : refusedBy (writeTests (c .core) n present) ≡ none)
+  module _ (who : Writer) (accepted : refusedBy (writeTests (c .core) who n present) ≡ none)
       (within : (mode : Mode) → modeIn (c .core) ≡ some mode → isHoldOrTrack mode ≡ false → WithinLimits c) where
-    next-core : write c n present .next .core ≡ c .core
+    next-core : write c who n present .next .core ≡ c .core
     unfolding write writeCore responseFrom controllerAfter writeAccepted
     next-core = rw accepted core-same
 
@@ -126,16 +131,16 @@ module _ (c : Controller) (n : ℕ) (least : 1 ≤ n) (most : n ≤ 23) (valid :
         not-held Ratio e = refl
         not-held Fallback e = refl
 
-    next-output : write c n present .next .output ≡ c .output
+    next-output : write c who n present .next .output ≡ c .output
     next-output =
-        let w = write-exists c n present in
+        let w = write-exists c who n present in
         let next = ap (λ (h : Response). h .next) (w .described) in
-        let passes = sym (write-tests (c .core) n present) ∙ accepted in
-        let output = write-effects c n present (w .result) valid (w .described) passes .1 in
+        let passes = sym (write-tests (c .core) who n present) ∙ accepted in
+        let output = write-effects c who n present (w .result) valid (w .described) passes .1 in
         let core-is = ap (λ (k : Controller). k .core) next ∙ next-core in
         sym (ap (λ (k : Controller). k .output) next) ∙ output ∙ ap (λ (k : Core). expectedOutput c k n) core-is ∙ output-same
 
-    pub unchanged : write c n present .next ≡ c
+    pub unchanged : write c who n present .next ≡ c
     unchanged =
-        ap (λ (k : Core). record { core = k; output = write c n present .next .output }) next-core ∙
+        ap (λ (k : Core). record { core = k; output = write c who n present .next .output }) next-core ∙
         ap (λ (o : ℤ). record { core = c .core; output = o }) next-output

@@ -1,7 +1,8 @@
--- Document 02, request 4: what is promised of a line, over the contracts of `terminal::answer`, of the controller's
--- read and write and of `Refusal::number`. Shared with the rules are the types of the state and of the results, what a
--- valid controller is, and the paper's numbers for the answers of a read and a write, whose refusals are promised by
--- themselves (promises). What a line asks and how a value is displayed are told apart from the rules (Forms.antt).
+-- Document 02, requests 4 and 6: what is promised of a line, over the contracts of `terminal::answer`, of the
+-- controller's read and write and of `Refusal::number`. Shared with the rules are the types of the state and of the
+-- results, what a valid controller is, and the paper's numbers for the answers of a read and a write, whose refusals
+-- are promised by themselves (promises). What a line asks and how a value is displayed are told apart from the rules
+-- (Forms.antt).
 use mathlib.Core.Path.{_≡_}
 use mathlib.Core.List.{List, _∷_, _++_}
 use Prim.Native.Nat.{ℕ, _%_, _≤_, _<_}
@@ -11,6 +12,7 @@ use contract.Lifetimes.{Lfts}
 use denote.Ref.{at-last, now}
 use Rattle.numerals.specs.PlaceValue.{Number}
 use Rattle.signals.specs.declared.Refusal.{Refusal}
+use Rattle.rights.specs.declared.Writer.{Writer}
 use Rattle.controller.specs.Answers as calls
 use Rattle.controller.specs.Answers.{replyOfVerdict, replyOfRead}
 use Rattle.controller.specs.Valid.{Valid}
@@ -29,12 +31,13 @@ abbrev pub Lifetimes : Type 0
 Lifetimes = Lfts 2
 
 -- what the `ensures` of a line says of its result, where the reply buffer has the bytes `after` afterwards
-abbrev pub LineEnsures : Lifetimes → Controller → Slice → Slice → LineResult → List ℕ → Type 0
-LineEnsures lives c line buffer r after = answer-reads.Post lives (c, (line, (buffer, tt))) r (c, (line, (at-last buffer after, tt)))
+abbrev pub LineEnsures : Lifetimes → Controller → Writer → Slice → Slice → LineResult → List ℕ → Type 0
+LineEnsures lives c w line buffer r after =
+    answer-reads.Post lives (c, (w, (line, (buffer, tt)))) r (c, (w, (line, (at-last buffer after, tt))))
 
--- its `requires`, whatever the line and the buffer
+-- its `requires`, whoever the writer, whatever the line and the buffer
 abbrev pub LineReady : Controller → Type 0
-LineReady c = (lives : Lifetimes) (line buffer : Slice) → answer-reads.Pre lives (c, (line, (buffer, tt)))
+LineReady c = (lives : Lifetimes) (w : Writer) (line buffer : Slice) → answer-reads.Pre lives (c, (w, (line, (buffer, tt))))
 
 -- ---- a value as the terminal displays it
 
@@ -69,35 +72,35 @@ pub record RefusedWith (k : ℕ) (c : Controller) (buffer : List ℕ) (r : LineR
   pub numbered : (m : ℕ) → NumberEnsures refusal m → m ≡ k
   pub bytes : after ≡ buffer
 
--- a line that writes v to the parameter n does what that write does: its controller, and its refusal or the reply with
--- what is present after it; there is a result of it (`write-exists`)
-pub data Written (c : Controller) (n : ℕ) (v : ℤ) (buffer : List ℕ) (r : LineResult) (after : List ℕ) : Type 0 where
-  refused-write : {k : ℕ} → ((w : CallResult) → WriteEnsures c n v w → replyOfVerdict (w .verdict) ≡ calls.number k) →
-      RefusedWith k c buffer r after → Written c n v buffer r after
-  accepted-write : ((w : CallResult) → WriteEnsures c n v w →
-      (replyOfVerdict (w .verdict) ≡ calls.acceptance) × (r .controller ≡ w .controller)) →
-      Replied (r .controller) n buffer r after → Written c n v buffer r after
+-- a line by which a writer writes v to the parameter n does what that writer's write does: its controller, and its
+-- refusal or the reply with what is present after it; there is a result of it (`write-exists`)
+pub data Written (c : Controller) (w : Writer) (n : ℕ) (v : ℤ) (buffer : List ℕ) (r : LineResult) (after : List ℕ) : Type 0 where
+  refused-write : {k : ℕ} → ((q : CallResult) → WriteEnsures c w n v q → replyOfVerdict (q .verdict) ≡ calls.number k) →
+      RefusedWith k c buffer r after → Written c w n v buffer r after
+  accepted-write : ((q : CallResult) → WriteEnsures c w n v q →
+      (replyOfVerdict (q .verdict) ≡ calls.acceptance) × (r .controller ≡ q .controller)) →
+      Replied (r .controller) n buffer r after → Written c w n v buffer r after
 
 -- ---- every line
 
 -- "17 when the first two bytes are no mnemonic, before all others. 18 when what follows isn't nothing or > with such a
 -- value, next after 17. 15 is also given for a reply buffer under nine bytes, right after 18 and before any refusal of
--- the read or write itself."
-pub data LineClaim (c : Controller) (line buffer : List ℕ) (r : LineResult) (after : List ℕ) : Type 0 where
-  no-mnemonic : ((n : ℕ) → InTable n → take 2 line ≡ letters n → ⊥) → RefusedWith 17 c buffer r after → LineClaim c line buffer r after
+-- the read or write itself." A line that reads is answered alike whoever types it: "Reading stays free."
+pub data LineClaim (c : Controller) (w : Writer) (line buffer : List ℕ) (r : LineResult) (after : List ℕ) : Type 0 where
+  no-mnemonic : ((n : ℕ) → InTable n → take 2 line ≡ letters n → ⊥) → RefusedWith 17 c buffer r after → LineClaim c w line buffer r after
   no-value : {n : ℕ} → InTable n → take 2 line ≡ letters n → ((a : Asked) → Asks line a → ⊥) → RefusedWith 18 c buffer r after →
-      LineClaim c line buffer r after
-  short-buffer : {a : Asked} → Asks line a → length buffer < 9 → RefusedWith 15 c buffer r after → LineClaim c line buffer r after
+      LineClaim c w line buffer r after
+  short-buffer : {a : Asked} → Asks line a → length buffer < 9 → RefusedWith 15 c buffer r after → LineClaim c w line buffer r after
   a-reading : {n : ℕ} → Asks line (a-read n) → 9 ≤ length buffer → r .controller ≡ c → Replied c n buffer r after →
-      LineClaim c line buffer r after
-  a-writing : {n : ℕ} {v : ℤ} → Asks line (a-write n v) → 9 ≤ length buffer → Written c n v buffer r after →
-      LineClaim c line buffer r after
+      LineClaim c w line buffer r after
+  a-writing : {n : ℕ} {v : ℤ} → Asks line (a-write n v) → 9 ≤ length buffer → Written c w n v buffer r after →
+      LineClaim c w line buffer r after
 
 -- of every line and every buffer, at every valid controller: each that calls and lines lead to is (`LinesAreWrites`)
 abbrev pub LinesRight : Type 0
 LinesRight =
-    (lives : Lifetimes) (c : Controller) (line buffer : Slice) (r : LineResult) (after : List ℕ) → Valid c →
-    LineEnsures lives c line buffer r after → LineClaim c (now line) (now buffer) r after
+    (lives : Lifetimes) (c : Controller) (w : Writer) (line buffer : Slice) (r : LineResult) (after : List ℕ) → Valid c →
+    LineEnsures lives c w line buffer r after → LineClaim c w (now line) (now buffer) r after
 
 -- a line asks one thing at the most, so one case of the claim is left to it
 abbrev pub OneMeaning : Type 0

@@ -1,3 +1,4 @@
 pub mod ModelCalls
 pub mod Worked
 pub mod LineFigures
+pub mod RightFigures

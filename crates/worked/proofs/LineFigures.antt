@@ -10,6 +10,7 @@ use Rattle.words.specs.Words.{byteOf, mdHigh, mdLow, MD, dsLow, DS}
 use Rattle.words.specs.Written.{mdTests, conditionsWritten, powerWritten}
 use Rattle.parameters.specs.Table.{value, withValue, ruleOf}
 use Rattle.parameters.specs.Written.{written}
+use Rattle.rights.specs.Rights as g
 use Rattle.scaling.specs.Scale.{scaled}
 use Rattle.setpoints.specs.Computation as r
 use Rattle.setpoints.specs.Setpoints as p
@@ -29,9 +30,11 @@ use Rattle.worked.specs.LineFigures.{held, lineFigures}
 use Rattle.worked.proofs.Worked.{_and_}
 
 pub line-figures-hold : AllHold lineFigures
-unfolding lineFigures held t.answered t.answeredTo t.replied t.replyText t.valueText c.commandIn c.commandOf c.valueOf c.isWord
+unfolding lineFigures held t.answered t.answeredTo t.readTo t.writtenTo t.replied t.replyText t.valueText c.commandIn c.commandOf
+    c.valueOf c.isWord
     names.named names.numbered names.isOf names.mnemonic n.lastDigits n.digitByte n.placesWithin n.places n.digits n.decimal
     n.hexadecimalWord n.digitValue n.readOn n.digitsOf n.withSign n.integerOf n.wordOf valueIn w.write w.writeCore w.writeTests
+    w.accessNow w.valueTests g.mayWrite g.pinTests g.rightTests g.accessTests
     w.stateTests w.writeAccepted w.coreWritten w.mdWritten w.parameterWritten w.coreWith written conditionsWritten powerWritten
     mdTests ruleOf u.limitsWritten s.refused h.historyAfter s.scan s.scanCore s.accepted s.earlierScans h.historyBefore
     s.responseFrom s.controllerAfter s.contextOf s.computedIn s.indicationsAfter s.coreAfter s.statusOf s.modeNow

@@ -17,6 +17,7 @@ use Rattle.parameters.specs.Range.{every}
 use Rattle.parameters.specs.Repaired as n
 use Rattle.parameters.specs.Table.{value, withValue, ruleOf}
 use Rattle.parameters.specs.Written.{limitedAnew, written}
+use Rattle.rights.specs.Rights as k
 use Rattle.settings.specs.Settings as t
 use Rattle.scaling.specs.Ratio.{ratioQuotient, inverseQuotient}
 use Rattle.scaling.specs.Root.{greatestTo, rootOf}
@@ -52,7 +53,7 @@ unfolding modelCalls s.scan s.scanCore s.accepted s.earlierScans h.historyBefore
     u.limitsWritten u.instructionOf u.restartedTo u.restartInstruction proportionalTerm integralTerm derivativeTerm
     limitedTerm storedTerm whole atLeast atMost limited stored storedUnits limitedStored nearestEven halfEven
     ratioQuotient inverseQuotient greatestTo rootOf w.write w.writeCore w.writeAccepted w.writeTests
-    w.stateTests w.setpointTests w.coreWith w.coreWritten w.mdWritten w.dsWritten w.parameterWritten read readIn
+    w.accessNow w.valueTests k.mayWrite k.pinTests k.rightTests k.accessTests w.stateTests w.setpointTests w.coreWith w.coreWritten w.mdWritten w.dsWritten w.parameterWritten read readIn
     valueIn limitedAnew written ruleOf conditionsWritten powerWritten userBitsWritten mdTests r.restart r.restartCore
     r.restartTests r.restartAccepted r.restoredSettings r.repairedSettings r.isLegal v.savedImage v.settingsNow
     v.settingsOf startReadings f.fieldsFrom f.fieldBytes f.valueBytes f.tagOf f.lengthOf f.withSumcheck f.sumOf f.sum
@@ -65,6 +66,7 @@ model-calls-hold =
     refl and refl and refl and refl and refl and refl and refl and refl and
     refl and refl and
     refl and refl and refl and refl and refl and refl and refl and refl and refl and
+    refl and refl and refl and refl and refl and refl and
     refl and
     refl and refl and refl and refl and refl and
     (refl, refl) and

@@ -19,6 +19,8 @@ use Rattle.words.specs.Words.{byteOf, mdHigh, mdLow, MD, dsLow, DS}
 use Rattle.words.specs.Written.{mdTests}
 use Rattle.parameters.specs.Table.{value, withValue, ruleOf}
 use Rattle.parameters.specs.Written.{written, limitedAnew}
+use Rattle.rights.specs.Rights as g
+use Rattle.rights.specs.declared.Writer.the-variants.{Engineer}
 use Rattle.settings.specs.Settings as t
 use Rattle.scaling.specs.Ratio.{ratioQuotient, inverseQuotient}
 use Rattle.scaling.specs.Root.{rootOf, root-from, root-is, root-same}
@@ -58,14 +60,16 @@ unfolding scanFigures onceScanned biased s.refused h.historyAfter s.scan s.scanC
     scaled halfUp Limit.limited Limit.atLeast Limit.atMost d.controlDifference d.earlierSetpoint d.changeOfDifference
     d.secondDifference d.tuningOf o.storedArithmetic o.changed o.limitedTo o.executed u.termsOf u.byTerms u.limitsIn
     u.instructionOf proportionalTerm integralTerm derivativeTerm limitedTerm storedTerm whole atLeast atMost limited
-    stored storedUnits limitedStored nearestEven halfEven w.write w.writeCore w.writeAccepted w.writeTests w.stateTests w.coreWith
+    stored storedUnits limitedStored nearestEven halfEven w.write w.writeCore w.writeAccepted w.writeTests w.accessNow
+    w.valueTests g.mayWrite g.pinTests g.rightTests g.accessTests w.stateTests w.coreWith
     w.coreWritten w.parameterWritten ruleOf written limitedAnew u.limitsWritten p.ratioSetpoint ratioQuotient inverseQuotient
 scan-figures-hold = refl and refl and refl and refl and refl and refl and refl and refl and tt
 
 -- each word is refused with 9 whatever else the state is
-write-figures : (c : Controller) → (write c 24 (pos 0x0000) ≡ record { next = c; answer = number 9 }) ×
-    (write c 24 (pos 0x1800) ≡ record { next = c; answer = number 9 })
-unfolding w.write w.writeCore w.writeTests w.stateTests mdTests ruleOf refusedBy s.responseFrom s.controllerAfter
+write-figures : (c : Controller) → (write c Engineer 24 (pos 0x0000) ≡ record { next = c; answer = number 9 }) ×
+    (write c Engineer 24 (pos 0x1800) ≡ record { next = c; answer = number 9 })
+unfolding w.write w.writeCore w.writeTests w.accessNow w.valueTests w.stateTests g.mayWrite g.pinTests g.rightTests
+    g.accessTests mdTests ruleOf refusedBy s.responseFrom s.controllerAfter
     s.refused o.changed o.limitedTo o.executed
 write-figures c = (refl, refl)
 

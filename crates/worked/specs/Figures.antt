@@ -14,6 +14,7 @@ use Rattle.modes.specs.declared.Conditions.{Conditions}
 use Rattle.modes.specs.declared.Mode.the-variants.{Auto}
 use Rattle.modes.specs.declared.Request.the-variants as request
 use Rattle.words.specs.Words.{MD, DS}
+use Rattle.rights.specs.declared.Writer.the-variants.{Engineer}
 use Rattle.scaling.specs.Ratio.{ratioQuotient, inverseQuotient}
 use Rattle.scaling.specs.Root.{rootOf}
 use Rattle.scaling.specs.Scale.{scaled}
@@ -80,8 +81,8 @@ figures =
     -- "Pins 91h in Auto, healthy: DS 913Fh."
     ∷ (DS Auto (inAuto 0x91) (record { user1 = false; user2 = false; measuredpower = false }) startIndications ≡ 0x913F)
     -- "Writing 0000h or 1800h to MD: 9.", whatever the state, and the controller stays
-    ∷ ((c : Controller) → write c 24 (pos 0x0000) ≡ record { next = c; answer = number 9 })
-    ∷ ((c : Controller) → write c 24 (pos 0x1800) ≡ record { next = c; answer = number 9 })
+    ∷ ((c : Controller) → write c Engineer 24 (pos 0x0000) ≡ record { next = c; answer = number 9 })
+    ∷ ((c : Controller) → write c Engineer 24 (pos 0x1800) ≡ record { next = c; answer = number 9 })
     -- "A fresh image's sumcheck is AC42h.", whatever the switch word: the image's last field
     ∷ ((sw : ℕ) → drop 132 (savedImage (freshController sw)) ≡ 0x7F ∷ 0 ∷ 2 ∷ 0xAC ∷ 0x42 ∷ [])
     ∷ []
@@ -125,7 +126,7 @@ nextScan milliseconds =
 -- started fresh, RS written, and RB 1; a scan in Ratio, R pressed and the Remote pin at 1, whose q is a tenth of the
 -- sample
 unfoldable pub biased : ℕ → ℕ → Controller
-biased sw rs = write (write (freshController sw) 21 (pos rs) .next) 22 (pos 1) .next
+biased sw rs = write (write (freshController sw) Engineer 21 (pos rs) .next) Engineer 22 (pos 1) .next
 
 abbrev pub ratioScan : ℕ → Input
 ratioScan sample = record { pins = 0xA0; sample1 = 0; sample2 = sample; sample3 = 0; buttons = 4; sensors = 0; milliseconds = 36 }

@@ -1,3 +1,4 @@
 pub mod Figures
 pub mod ModelCalls
 pub mod LineFigures
+pub mod RightFigures

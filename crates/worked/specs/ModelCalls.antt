@@ -14,6 +14,8 @@ use Rattle.fields.specs.Fields.{saveTests, savedIn}
 use Rattle.modes.specs.declared.Mode.the-variants.{Hold, Track, Forced, Manual, Auto, Remote, Ratio, Fallback}
 use Rattle.modes.specs.declared.Request.{Request}
 use Rattle.modes.specs.declared.Request.the-variants as request
+use Rattle.rights.specs.declared.Writer.{Writer}
+use Rattle.rights.specs.declared.Writer.the-variants.{Operator, Engineer, Computer}
 use Rattle.setpoints.specs.declared.Readings.{Readings}
 use Rattle.outputs.specs.declared.History.{History}
 use Rattle.outputs.specs.declared.History.the-variants.{Nothing, One, Two}
@@ -63,8 +65,8 @@ input pins sample1 sample2 sample3 buttons sensors milliseconds =
 abbrev pub Scans : Controller → Input → Controller → Reply → Type 0
 Scans before i after answer = scan before i ≡ record { next = after; answer = answer }
 
-abbrev pub Writes : Controller → ℕ → ℤ → Controller → Reply → Type 0
-Writes before n v after answer = write before n v ≡ record { next = after; answer = answer }
+abbrev pub Writes : Controller → Writer → ℕ → ℤ → Controller → Reply → Type 0
+Writes before w n v after answer = write before w n v ≡ record { next = after; answer = answer }
 
 abbrev pub Restarts : Controller → List ℕ → Controller → Reply → Type 0
 Restarts before image after answer = restart before image ≡ record { next = after; answer = answer }
@@ -114,23 +116,35 @@ modelCalls =
     -- ratio: S2.3 ON, channel 2 at an exact half, which goes up, to q -93: -46.5 goes to -46, and RB -9 is added after
     ∷ Scans (state 42609 (pos 2000 ∷ negℤ (pos 2000) ∷ pos 200 ∷ negℤ (pos 300) ∷ pos 40 ∷ pos 0 ∷ pos 9999 ∷ pos 1 ∷ pos 2000 ∷ negℤ (pos 2000) ∷ negℤ (pos 7243) ∷ negℤ (pos 8046) ∷ pos 3152 ∷ pos 512 ∷ pos 9999 ∷ pos 0 ∷ pos 9000 ∷ pos 814 ∷ pos 2 ∷ pos 0 ∷ pos 38 ∷ negℤ (pos 9) ∷ pos 0 ∷ []) request.Remote false false true false 0 160 (readings (pos 20) (pos 30) (negℤ (pos 10)) (negℤ (pos 6820))) 4 true true false (One (pos 20) (pos 30)) (At 648828) (pos 156374226)) (input 165 2247 4130 3000 0 0 648864) (state 42609 (pos 2000 ∷ negℤ (pos 2000) ∷ pos 200 ∷ negℤ (pos 300) ∷ pos 40 ∷ pos 0 ∷ pos 9999 ∷ pos 1 ∷ pos 2000 ∷ negℤ (pos 2000) ∷ negℤ (pos 7243) ∷ negℤ (pos 8046) ∷ pos 3152 ∷ pos 512 ∷ pos 9999 ∷ pos 0 ∷ pos 9000 ∷ pos 814 ∷ pos 2 ∷ negℤ (pos 55) ∷ pos 38 ∷ negℤ (pos 9) ∷ pos 0 ∷ []) request.Remote false false true false 0 165 (readings (negℤ (pos 1101)) (negℤ (pos 55)) (negℤ (pos 1046)) (pos 0)) 0 false true true (Two (negℤ (pos 1101)) (negℤ (pos 55)) (pos 20)) (At 648864) (pos 288615686)) (words 3072 42412 4403 4403 Ratio (negℤ (pos 1101)))
     -- write: HR limits RS anew, in Hold
-    ∷ Writes (state 47606 (pos 3784 ∷ negℤ (pos 6468) ∷ pos 3161 ∷ negℤ (pos 9029) ∷ pos 64 ∷ pos 0 ∷ pos 9999 ∷ pos 1 ∷ pos 3784 ∷ negℤ (pos 6468) ∷ pos 3783 ∷ negℤ (pos 6468) ∷ pos 16 ∷ pos 2958 ∷ pos 9999 ∷ pos 0 ∷ pos 4096 ∷ pos 4381 ∷ pos 0 ∷ negℤ (pos 6468) ∷ pos 6077 ∷ pos 6 ∷ pos 0 ∷ []) request.Auto false true true false 0 0 (readings (pos 6131) (negℤ (pos 2332)) (pos 8463) (negℤ (pos 3954))) 66 true true true (Two (pos 6131) (negℤ (pos 2332)) (negℤ (pos 2332))) (At 580716) (pos 155424984)) 7 (pos 4299) (state 47606 (pos 3784 ∷ negℤ (pos 6468) ∷ pos 3161 ∷ negℤ (pos 9029) ∷ pos 64 ∷ pos 0 ∷ pos 4299 ∷ pos 1 ∷ pos 3784 ∷ negℤ (pos 6468) ∷ pos 3783 ∷ negℤ (pos 6468) ∷ pos 16 ∷ pos 2958 ∷ pos 9999 ∷ pos 0 ∷ pos 4096 ∷ pos 4381 ∷ pos 0 ∷ negℤ (pos 6468) ∷ pos 4299 ∷ pos 6 ∷ pos 0 ∷ []) request.Auto false true true false 0 0 (readings (pos 6131) (negℤ (pos 2332)) (pos 8463) (negℤ (pos 3954))) 66 true true true (Two (pos 6131) (negℤ (pos 2332)) (negℤ (pos 2332))) (At 580716) (pos 155424984)) acceptance
+    ∷ Writes (state 47606 (pos 3784 ∷ negℤ (pos 6468) ∷ pos 3161 ∷ negℤ (pos 9029) ∷ pos 64 ∷ pos 0 ∷ pos 9999 ∷ pos 1 ∷ pos 3784 ∷ negℤ (pos 6468) ∷ pos 3783 ∷ negℤ (pos 6468) ∷ pos 16 ∷ pos 2958 ∷ pos 9999 ∷ pos 0 ∷ pos 4096 ∷ pos 4381 ∷ pos 0 ∷ negℤ (pos 6468) ∷ pos 6077 ∷ pos 6 ∷ pos 0 ∷ []) request.Auto false true true false 0 0 (readings (pos 6131) (negℤ (pos 2332)) (pos 8463) (negℤ (pos 3954))) 66 true true true (Two (pos 6131) (negℤ (pos 2332)) (negℤ (pos 2332))) (At 580716) (pos 155424984)) Engineer 7 (pos 4299) (state 47606 (pos 3784 ∷ negℤ (pos 6468) ∷ pos 3161 ∷ negℤ (pos 9029) ∷ pos 64 ∷ pos 0 ∷ pos 4299 ∷ pos 1 ∷ pos 3784 ∷ negℤ (pos 6468) ∷ pos 3783 ∷ negℤ (pos 6468) ∷ pos 16 ∷ pos 2958 ∷ pos 9999 ∷ pos 0 ∷ pos 4096 ∷ pos 4381 ∷ pos 0 ∷ negℤ (pos 6468) ∷ pos 4299 ∷ pos 6 ∷ pos 0 ∷ []) request.Auto false true true false 0 0 (readings (pos 6131) (negℤ (pos 2332)) (pos 8463) (negℤ (pos 3954))) 66 true true true (Two (pos 6131) (negℤ (pos 2332)) (negℤ (pos 2332))) (At 580716) (pos 155424984)) acceptance
     -- write: 3H not above 3L: 7
-    ∷ Writes (state 27839 (pos 0 ∷ negℤ (pos 16) ∷ negℤ (pos 1024) ∷ negℤ (pos 6648) ∷ pos 38 ∷ negℤ (pos 10) ∷ pos 9999 ∷ pos 1 ∷ pos 9999 ∷ negℤ (pos 9999) ∷ negℤ (pos 1) ∷ negℤ (pos 6659) ∷ pos 8 ∷ pos 1 ∷ pos 5878 ∷ pos 3795 ∷ pos 2441 ∷ pos 9405 ∷ pos 2 ∷ pos 9999 ∷ pos 9999 ∷ pos 6541 ∷ pos 0 ∷ []) request.Auto false true false false 0 128 (readings (negℤ (pos 1525)) (pos 5753) (negℤ (pos 7278)) (pos 5719)) 197 false false false (One (negℤ (pos 1525)) (pos 5753)) (At 305100) (pos 39742323)) 5 (negℤ (pos 10)) (state 27839 (pos 0 ∷ negℤ (pos 16) ∷ negℤ (pos 1024) ∷ negℤ (pos 6648) ∷ pos 38 ∷ negℤ (pos 10) ∷ pos 9999 ∷ pos 1 ∷ pos 9999 ∷ negℤ (pos 9999) ∷ negℤ (pos 1) ∷ negℤ (pos 6659) ∷ pos 8 ∷ pos 1 ∷ pos 5878 ∷ pos 3795 ∷ pos 2441 ∷ pos 9405 ∷ pos 2 ∷ pos 9999 ∷ pos 9999 ∷ pos 6541 ∷ pos 0 ∷ []) request.Auto false true false false 0 128 (readings (negℤ (pos 1525)) (pos 5753) (negℤ (pos 7278)) (pos 5719)) 197 false false false (One (negℤ (pos 1525)) (pos 5753)) (At 305100) (pos 39742323)) (number 7)
+    ∷ Writes (state 27839 (pos 0 ∷ negℤ (pos 16) ∷ negℤ (pos 1024) ∷ negℤ (pos 6648) ∷ pos 38 ∷ negℤ (pos 10) ∷ pos 9999 ∷ pos 1 ∷ pos 9999 ∷ negℤ (pos 9999) ∷ negℤ (pos 1) ∷ negℤ (pos 6659) ∷ pos 8 ∷ pos 1 ∷ pos 5878 ∷ pos 3795 ∷ pos 2441 ∷ pos 9405 ∷ pos 2 ∷ pos 9999 ∷ pos 9999 ∷ pos 6541 ∷ pos 0 ∷ []) request.Auto false true false false 0 128 (readings (negℤ (pos 1525)) (pos 5753) (negℤ (pos 7278)) (pos 5719)) 197 false false false (One (negℤ (pos 1525)) (pos 5753)) (At 305100) (pos 39742323)) Engineer 5 (negℤ (pos 10)) (state 27839 (pos 0 ∷ negℤ (pos 16) ∷ negℤ (pos 1024) ∷ negℤ (pos 6648) ∷ pos 38 ∷ negℤ (pos 10) ∷ pos 9999 ∷ pos 1 ∷ pos 9999 ∷ negℤ (pos 9999) ∷ negℤ (pos 1) ∷ negℤ (pos 6659) ∷ pos 8 ∷ pos 1 ∷ pos 5878 ∷ pos 3795 ∷ pos 2441 ∷ pos 9405 ∷ pos 2 ∷ pos 9999 ∷ pos 9999 ∷ pos 6541 ∷ pos 0 ∷ []) request.Auto false true false false 0 128 (readings (negℤ (pos 1525)) (pos 5753) (negℤ (pos 7278)) (pos 5719)) 197 false false false (One (negℤ (pos 1525)) (pos 5753)) (At 305100) (pos 39742323)) (number 7)
     -- write: HS limits SL anew
-    ∷ Writes (state 9431 (pos 0 ∷ negℤ (pos 4042) ∷ pos 0 ∷ negℤ (pos 32) ∷ negℤ (pos 2) ∷ negℤ (pos 1583) ∷ pos 9999 ∷ pos 1 ∷ pos 9999 ∷ negℤ (pos 9999) ∷ negℤ (pos 1) ∷ negℤ (pos 4042) ∷ pos 9388 ∷ pos 0 ∷ pos 7748 ∷ pos 5365 ∷ pos 8351 ∷ pos 46 ∷ pos 1 ∷ negℤ (pos 3397) ∷ pos 1 ∷ pos 8355 ∷ pos 1 ∷ []) request.Remote false false true true 84 192 (readings (negℤ (pos 7002)) (negℤ (pos 8243)) (pos 1241) (pos 6415)) 6 false false true (Two (negℤ (pos 7002)) (negℤ (pos 8243)) (negℤ (pos 8243))) (At 107928) (pos 234546475)) 9 (negℤ (pos 9998)) (state 9431 (pos 0 ∷ negℤ (pos 4042) ∷ pos 0 ∷ negℤ (pos 32) ∷ negℤ (pos 2) ∷ negℤ (pos 1583) ∷ pos 9999 ∷ pos 1 ∷ negℤ (pos 9998) ∷ negℤ (pos 9999) ∷ negℤ (pos 1) ∷ negℤ (pos 4042) ∷ pos 9388 ∷ pos 0 ∷ pos 7748 ∷ pos 5365 ∷ pos 8351 ∷ pos 46 ∷ pos 1 ∷ negℤ (pos 9998) ∷ pos 1 ∷ pos 8355 ∷ pos 1 ∷ []) request.Remote false false true true 84 192 (readings (negℤ (pos 7002)) (negℤ (pos 8243)) (pos 1241) (pos 6415)) 6 false false true (Two (negℤ (pos 7002)) (negℤ (pos 8243)) (negℤ (pos 8243))) (At 107928) (pos 234546475)) acceptance
+    ∷ Writes (state 9431 (pos 0 ∷ negℤ (pos 4042) ∷ pos 0 ∷ negℤ (pos 32) ∷ negℤ (pos 2) ∷ negℤ (pos 1583) ∷ pos 9999 ∷ pos 1 ∷ pos 9999 ∷ negℤ (pos 9999) ∷ negℤ (pos 1) ∷ negℤ (pos 4042) ∷ pos 9388 ∷ pos 0 ∷ pos 7748 ∷ pos 5365 ∷ pos 8351 ∷ pos 46 ∷ pos 1 ∷ negℤ (pos 3397) ∷ pos 1 ∷ pos 8355 ∷ pos 1 ∷ []) request.Remote false false true true 84 192 (readings (negℤ (pos 7002)) (negℤ (pos 8243)) (pos 1241) (pos 6415)) 6 false false true (Two (negℤ (pos 7002)) (negℤ (pos 8243)) (negℤ (pos 8243))) (At 107928) (pos 234546475)) Engineer 9 (negℤ (pos 9998)) (state 9431 (pos 0 ∷ negℤ (pos 4042) ∷ pos 0 ∷ negℤ (pos 32) ∷ negℤ (pos 2) ∷ negℤ (pos 1583) ∷ pos 9999 ∷ pos 1 ∷ negℤ (pos 9998) ∷ negℤ (pos 9999) ∷ negℤ (pos 1) ∷ negℤ (pos 4042) ∷ pos 9388 ∷ pos 0 ∷ pos 7748 ∷ pos 5365 ∷ pos 8351 ∷ pos 46 ∷ pos 1 ∷ negℤ (pos 9998) ∷ pos 1 ∷ pos 8355 ∷ pos 1 ∷ []) request.Remote false false true true 84 192 (readings (negℤ (pos 7002)) (negℤ (pos 8243)) (pos 1241) (pos 6415)) 6 false false true (Two (negℤ (pos 7002)) (negℤ (pos 8243)) (negℤ (pos 8243))) (At 107928) (pos 234546475)) acceptance
     -- write: DS takes bits 7 and 6
-    ∷ Writes (state 11391 (pos 8886 ∷ negℤ (pos 3902) ∷ pos 0 ∷ negℤ (pos 6874) ∷ pos 38 ∷ negℤ (pos 27) ∷ pos 9999 ∷ pos 1 ∷ pos 9999 ∷ negℤ (pos 9999) ∷ pos 8885 ∷ negℤ (pos 3902) ∷ pos 5952 ∷ pos 0 ∷ pos 6639 ∷ pos 3902 ∷ pos 2001 ∷ pos 0 ∷ pos 1 ∷ negℤ (pos 9999) ∷ pos 1 ∷ pos 0 ∷ pos 0 ∷ []) request.Remote false true false true 84 165 (readings (pos 9818) (negℤ (pos 4971)) (pos 14789) (negℤ (pos 2527))) 72 true true false (One (pos 9818) (negℤ (pos 4971))) (At 713448) (pos 599197002)) 25 (pos 6326) (state 11391 (pos 8886 ∷ negℤ (pos 3902) ∷ pos 0 ∷ negℤ (pos 6874) ∷ pos 38 ∷ negℤ (pos 27) ∷ pos 9999 ∷ pos 1 ∷ pos 9999 ∷ negℤ (pos 9999) ∷ pos 8885 ∷ negℤ (pos 3902) ∷ pos 5952 ∷ pos 0 ∷ pos 6639 ∷ pos 3902 ∷ pos 2001 ∷ pos 0 ∷ pos 1 ∷ negℤ (pos 9999) ∷ pos 1 ∷ pos 0 ∷ pos 0 ∷ []) request.Remote false false true true 84 165 (readings (pos 9818) (negℤ (pos 4971)) (pos 14789) (negℤ (pos 2527))) 72 true true false (One (pos 9818) (negℤ (pos 4971))) (At 713448) (pos 599197002)) acceptance
+    ∷ Writes (state 11391 (pos 8886 ∷ negℤ (pos 3902) ∷ pos 0 ∷ negℤ (pos 6874) ∷ pos 38 ∷ negℤ (pos 27) ∷ pos 9999 ∷ pos 1 ∷ pos 9999 ∷ negℤ (pos 9999) ∷ pos 8885 ∷ negℤ (pos 3902) ∷ pos 5952 ∷ pos 0 ∷ pos 6639 ∷ pos 3902 ∷ pos 2001 ∷ pos 0 ∷ pos 1 ∷ negℤ (pos 9999) ∷ pos 1 ∷ pos 0 ∷ pos 0 ∷ []) request.Remote false true false true 84 165 (readings (pos 9818) (negℤ (pos 4971)) (pos 14789) (negℤ (pos 2527))) 72 true true false (One (pos 9818) (negℤ (pos 4971))) (At 713448) (pos 599197002)) Engineer 25 (pos 6326) (state 11391 (pos 8886 ∷ negℤ (pos 3902) ∷ pos 0 ∷ negℤ (pos 6874) ∷ pos 38 ∷ negℤ (pos 27) ∷ pos 9999 ∷ pos 1 ∷ pos 9999 ∷ negℤ (pos 9999) ∷ pos 8885 ∷ negℤ (pos 3902) ∷ pos 5952 ∷ pos 0 ∷ pos 6639 ∷ pos 3902 ∷ pos 2001 ∷ pos 0 ∷ pos 1 ∷ negℤ (pos 9999) ∷ pos 1 ∷ pos 0 ∷ pos 0 ∷ []) request.Remote false false true true 84 165 (readings (pos 9818) (negℤ (pos 4971)) (pos 14789) (negℤ (pos 2527))) 72 true true false (One (pos 9818) (negℤ (pos 4971))) (At 713448) (pos 599197002)) acceptance
     -- write: LO limits the output in Manual
-    ∷ Writes (state 48899 (pos 8192 ∷ pos 2048 ∷ negℤ (pos 3407) ∷ negℤ (pos 9482) ∷ pos 2048 ∷ pos 0 ∷ pos 2869 ∷ pos 1 ∷ pos 9999 ∷ negℤ (pos 9999) ∷ negℤ (pos 3209) ∷ negℤ (pos 4096) ∷ pos 0 ∷ pos 2048 ∷ pos 9999 ∷ pos 0 ∷ pos 6426 ∷ pos 0 ∷ pos 3517 ∷ pos 9999 ∷ pos 1 ∷ negℤ (pos 27) ∷ pos 0 ∷ []) request.Manual false true true true 0 165 (readings (pos 5726) (pos 6304) (negℤ (pos 578)) (pos 1216)) 207 false true false (Two (pos 5726) (pos 6304) (pos 6304)) (At 566136) (pos 162781421)) 16 (pos 9999) (state 48899 (pos 8192 ∷ pos 2048 ∷ negℤ (pos 3407) ∷ negℤ (pos 9482) ∷ pos 2048 ∷ pos 0 ∷ pos 2869 ∷ pos 1 ∷ pos 9999 ∷ negℤ (pos 9999) ∷ negℤ (pos 3209) ∷ negℤ (pos 4096) ∷ pos 0 ∷ pos 2048 ∷ pos 9999 ∷ pos 9999 ∷ pos 6426 ∷ pos 0 ∷ pos 3517 ∷ pos 9999 ∷ pos 1 ∷ negℤ (pos 27) ∷ pos 0 ∷ []) request.Manual false true true true 0 165 (readings (pos 5726) (pos 6304) (negℤ (pos 578)) (pos 1216)) 207 false true false (Two (pos 5726) (pos 6304) (pos 6304)) (At 566136) (pos 655294464)) acceptance
+    ∷ Writes (state 48899 (pos 8192 ∷ pos 2048 ∷ negℤ (pos 3407) ∷ negℤ (pos 9482) ∷ pos 2048 ∷ pos 0 ∷ pos 2869 ∷ pos 1 ∷ pos 9999 ∷ negℤ (pos 9999) ∷ negℤ (pos 3209) ∷ negℤ (pos 4096) ∷ pos 0 ∷ pos 2048 ∷ pos 9999 ∷ pos 0 ∷ pos 6426 ∷ pos 0 ∷ pos 3517 ∷ pos 9999 ∷ pos 1 ∷ negℤ (pos 27) ∷ pos 0 ∷ []) request.Manual false true true true 0 165 (readings (pos 5726) (pos 6304) (negℤ (pos 578)) (pos 1216)) 207 false true false (Two (pos 5726) (pos 6304) (pos 6304)) (At 566136) (pos 162781421)) Engineer 16 (pos 9999) (state 48899 (pos 8192 ∷ pos 2048 ∷ negℤ (pos 3407) ∷ negℤ (pos 9482) ∷ pos 2048 ∷ pos 0 ∷ pos 2869 ∷ pos 1 ∷ pos 9999 ∷ negℤ (pos 9999) ∷ negℤ (pos 3209) ∷ negℤ (pos 4096) ∷ pos 0 ∷ pos 2048 ∷ pos 9999 ∷ pos 9999 ∷ pos 6426 ∷ pos 0 ∷ pos 3517 ∷ pos 9999 ∷ pos 1 ∷ negℤ (pos 27) ∷ pos 0 ∷ []) request.Manual false true true true 0 165 (readings (pos 5726) (pos 6304) (negℤ (pos 578)) (pos 1216)) 207 false true false (Two (pos 5726) (pos 6304) (pos 6304)) (At 566136) (pos 655294464)) acceptance
     -- write: MD takes bit 12 as the request; bits 9, 8, 5 and 1 do nothing with no fault
-    ∷ Writes (state 5651 (pos 2970 ∷ pos 0 ∷ negℤ (pos 2) ∷ negℤ (pos 9515) ∷ pos 30 ∷ negℤ (pos 19) ∷ pos 4736 ∷ pos 4459 ∷ pos 2970 ∷ pos 0 ∷ pos 2969 ∷ pos 0 ∷ pos 5614 ∷ pos 6733 ∷ pos 8173 ∷ pos 1927 ∷ pos 8127 ∷ pos 72 ∷ pos 7 ∷ pos 1398 ∷ pos 4644 ∷ pos 0 ∷ pos 0 ∷ []) request.Remote false true true false 0 128 (readings (negℤ (pos 2985)) (negℤ (pos 1154)) (negℤ (pos 1831)) (negℤ (pos 2344))) 142 true true true (Two (negℤ (pos 2985)) (negℤ (pos 1154)) (negℤ (pos 1154))) (At 252540) (pos 165779850)) 24 (pos 4898) (state 5651 (pos 2970 ∷ pos 0 ∷ negℤ (pos 2) ∷ negℤ (pos 9515) ∷ pos 30 ∷ negℤ (pos 19) ∷ pos 4736 ∷ pos 4459 ∷ pos 2970 ∷ pos 0 ∷ pos 2969 ∷ pos 0 ∷ pos 5614 ∷ pos 6733 ∷ pos 8173 ∷ pos 1927 ∷ pos 8127 ∷ pos 72 ∷ pos 7 ∷ pos 1398 ∷ pos 4644 ∷ pos 0 ∷ pos 0 ∷ []) request.Auto false true true false 0 128 (readings (negℤ (pos 2985)) (negℤ (pos 1154)) (negℤ (pos 1831)) (negℤ (pos 2344))) 142 true true true (Two (negℤ (pos 2985)) (negℤ (pos 1154)) (negℤ (pos 1154))) (At 252540) (pos 165779850)) acceptance
+    ∷ Writes (state 5651 (pos 2970 ∷ pos 0 ∷ negℤ (pos 2) ∷ negℤ (pos 9515) ∷ pos 30 ∷ negℤ (pos 19) ∷ pos 4736 ∷ pos 4459 ∷ pos 2970 ∷ pos 0 ∷ pos 2969 ∷ pos 0 ∷ pos 5614 ∷ pos 6733 ∷ pos 8173 ∷ pos 1927 ∷ pos 8127 ∷ pos 72 ∷ pos 7 ∷ pos 1398 ∷ pos 4644 ∷ pos 0 ∷ pos 0 ∷ []) request.Remote false true true false 0 128 (readings (negℤ (pos 2985)) (negℤ (pos 1154)) (negℤ (pos 1831)) (negℤ (pos 2344))) 142 true true true (Two (negℤ (pos 2985)) (negℤ (pos 1154)) (negℤ (pos 1154))) (At 252540) (pos 165779850)) Engineer 24 (pos 4898) (state 5651 (pos 2970 ∷ pos 0 ∷ negℤ (pos 2) ∷ negℤ (pos 9515) ∷ pos 30 ∷ negℤ (pos 19) ∷ pos 4736 ∷ pos 4459 ∷ pos 2970 ∷ pos 0 ∷ pos 2969 ∷ pos 0 ∷ pos 5614 ∷ pos 6733 ∷ pos 8173 ∷ pos 1927 ∷ pos 8127 ∷ pos 72 ∷ pos 7 ∷ pos 1398 ∷ pos 4644 ∷ pos 0 ∷ pos 0 ∷ []) request.Auto false true true false 0 128 (readings (negℤ (pos 2985)) (negℤ (pos 1154)) (negℤ (pos 1831)) (negℤ (pos 2344))) 142 true true true (Two (negℤ (pos 2985)) (negℤ (pos 1154)) (negℤ (pos 1154))) (At 252540) (pos 165779850)) acceptance
     -- write: SL in Remote: 8
-    ∷ Writes (state 7941 (pos 0 ∷ negℤ (pos 2182) ∷ pos 8374 ∷ negℤ (pos 1024) ∷ pos 0 ∷ negℤ (pos 1) ∷ pos 8858 ∷ pos 4449 ∷ pos 0 ∷ negℤ (pos 2182) ∷ pos 0 ∷ negℤ (pos 2181) ∷ pos 32 ∷ pos 0 ∷ pos 8596 ∷ pos 1567 ∷ pos 3317 ∷ pos 427 ∷ pos 1 ∷ negℤ (pos 1596) ∷ pos 6653 ∷ pos 0 ∷ pos 1 ∷ []) request.Remote false true true true 0 165 (readings (negℤ (pos 7047)) (negℤ (pos 956)) (negℤ (pos 6091)) (pos 2334)) 202 false true true (Two (negℤ (pos 7047)) (negℤ (pos 956)) (negℤ (pos 956))) (At 106308) (pos 4763318)) 20 (negℤ (pos 2182)) (state 7941 (pos 0 ∷ negℤ (pos 2182) ∷ pos 8374 ∷ negℤ (pos 1024) ∷ pos 0 ∷ negℤ (pos 1) ∷ pos 8858 ∷ pos 4449 ∷ pos 0 ∷ negℤ (pos 2182) ∷ pos 0 ∷ negℤ (pos 2181) ∷ pos 32 ∷ pos 0 ∷ pos 8596 ∷ pos 1567 ∷ pos 3317 ∷ pos 427 ∷ pos 1 ∷ negℤ (pos 1596) ∷ pos 6653 ∷ pos 0 ∷ pos 1 ∷ []) request.Remote false true true true 0 165 (readings (negℤ (pos 7047)) (negℤ (pos 956)) (negℤ (pos 6091)) (pos 2334)) 202 false true true (Two (negℤ (pos 7047)) (negℤ (pos 956)) (negℤ (pos 956))) (At 106308) (pos 4763318)) (number 8)
+    ∷ Writes (state 7941 (pos 0 ∷ negℤ (pos 2182) ∷ pos 8374 ∷ negℤ (pos 1024) ∷ pos 0 ∷ negℤ (pos 1) ∷ pos 8858 ∷ pos 4449 ∷ pos 0 ∷ negℤ (pos 2182) ∷ pos 0 ∷ negℤ (pos 2181) ∷ pos 32 ∷ pos 0 ∷ pos 8596 ∷ pos 1567 ∷ pos 3317 ∷ pos 427 ∷ pos 1 ∷ negℤ (pos 1596) ∷ pos 6653 ∷ pos 0 ∷ pos 1 ∷ []) request.Remote false true true true 0 165 (readings (negℤ (pos 7047)) (negℤ (pos 956)) (negℤ (pos 6091)) (pos 2334)) 202 false true true (Two (negℤ (pos 7047)) (negℤ (pos 956)) (negℤ (pos 956))) (At 106308) (pos 4763318)) Engineer 20 (negℤ (pos 2182)) (state 7941 (pos 0 ∷ negℤ (pos 2182) ∷ pos 8374 ∷ negℤ (pos 1024) ∷ pos 0 ∷ negℤ (pos 1) ∷ pos 8858 ∷ pos 4449 ∷ pos 0 ∷ negℤ (pos 2182) ∷ pos 0 ∷ negℤ (pos 2181) ∷ pos 32 ∷ pos 0 ∷ pos 8596 ∷ pos 1567 ∷ pos 3317 ∷ pos 427 ∷ pos 1 ∷ negℤ (pos 1596) ∷ pos 6653 ∷ pos 0 ∷ pos 1 ∷ []) request.Remote false true true true 0 165 (readings (negℤ (pos 7047)) (negℤ (pos 956)) (negℤ (pos 6091)) (pos 2334)) 202 false true true (Two (negℤ (pos 7047)) (negℤ (pos 956)) (negℤ (pos 956))) (At 106308) (pos 4763318)) (number 8)
     -- write under the fault: MD bit 12 with bit 8 zero clears the fault, and the request is Manual; bit 4 is taken
-    ∷ Writes (state 0 (pos 1000 ∷ pos 0 ∷ pos 1000 ∷ pos 0 ∷ pos 1 ∷ pos 0 ∷ pos 9999 ∷ pos 1 ∷ pos 1000 ∷ pos 0 ∷ pos 9999 ∷ negℤ (pos 9999) ∷ pos 9999 ∷ pos 9999 ∷ pos 9999 ∷ pos 0 ∷ pos 1000 ∷ pos 0 ∷ pos 0 ∷ pos 0 ∷ pos 100 ∷ pos 0 ∷ pos 0 ∷ []) request.Manual true false false false 0 128 (readings (pos 0) (pos 0) (pos 0) (pos 0)) 0 false false false (Nothing) None (pos 0)) 24 (pos 55039) (state 0 (pos 1000 ∷ pos 0 ∷ pos 1000 ∷ pos 0 ∷ pos 1 ∷ pos 0 ∷ pos 9999 ∷ pos 1 ∷ pos 1000 ∷ pos 0 ∷ pos 9999 ∷ negℤ (pos 9999) ∷ pos 9999 ∷ pos 9999 ∷ pos 9999 ∷ pos 0 ∷ pos 1000 ∷ pos 0 ∷ pos 0 ∷ pos 0 ∷ pos 100 ∷ pos 0 ∷ pos 0 ∷ []) request.Manual false false false true 0 128 (readings (pos 0) (pos 0) (pos 0) (pos 0)) 0 false false false (Nothing) None (pos 0)) acceptance
+    ∷ Writes (state 0 (pos 1000 ∷ pos 0 ∷ pos 1000 ∷ pos 0 ∷ pos 1 ∷ pos 0 ∷ pos 9999 ∷ pos 1 ∷ pos 1000 ∷ pos 0 ∷ pos 9999 ∷ negℤ (pos 9999) ∷ pos 9999 ∷ pos 9999 ∷ pos 9999 ∷ pos 0 ∷ pos 1000 ∷ pos 0 ∷ pos 0 ∷ pos 0 ∷ pos 100 ∷ pos 0 ∷ pos 0 ∷ []) request.Manual true false false false 0 128 (readings (pos 0) (pos 0) (pos 0) (pos 0)) 0 false false false (Nothing) None (pos 0)) Engineer 24 (pos 55039) (state 0 (pos 1000 ∷ pos 0 ∷ pos 1000 ∷ pos 0 ∷ pos 1 ∷ pos 0 ∷ pos 9999 ∷ pos 1 ∷ pos 1000 ∷ pos 0 ∷ pos 9999 ∷ negℤ (pos 9999) ∷ pos 9999 ∷ pos 9999 ∷ pos 9999 ∷ pos 0 ∷ pos 1000 ∷ pos 0 ∷ pos 0 ∷ pos 0 ∷ pos 100 ∷ pos 0 ∷ pos 0 ∷ []) request.Manual false false false true 0 128 (readings (pos 0) (pos 0) (pos 0) (pos 0)) 0 false false false (Nothing) None (pos 0)) acceptance
     -- write under the fault: MD bit 11 with bit 8 zero in an open cause: 11
-    ∷ Writes (state 0 (pos 1000 ∷ pos 0 ∷ pos 1000 ∷ pos 0 ∷ pos 1 ∷ pos 0 ∷ pos 9999 ∷ pos 1 ∷ pos 1000 ∷ pos 0 ∷ pos 9999 ∷ negℤ (pos 9999) ∷ pos 9999 ∷ pos 9999 ∷ pos 9999 ∷ pos 0 ∷ pos 1000 ∷ pos 0 ∷ pos 0 ∷ pos 0 ∷ pos 100 ∷ pos 0 ∷ pos 0 ∷ []) request.Manual true false false false 85 160 (readings (pos 0) (pos 0) (pos 0) (pos 0)) 0 false false false (Nothing) None (pos 0)) 24 (pos 2048) (state 0 (pos 1000 ∷ pos 0 ∷ pos 1000 ∷ pos 0 ∷ pos 1 ∷ pos 0 ∷ pos 9999 ∷ pos 1 ∷ pos 1000 ∷ pos 0 ∷ pos 9999 ∷ negℤ (pos 9999) ∷ pos 9999 ∷ pos 9999 ∷ pos 9999 ∷ pos 0 ∷ pos 1000 ∷ pos 0 ∷ pos 0 ∷ pos 0 ∷ pos 100 ∷ pos 0 ∷ pos 0 ∷ []) request.Manual true false false false 85 160 (readings (pos 0) (pos 0) (pos 0) (pos 0)) 0 false false false (Nothing) None (pos 0)) (number 11)
+    ∷ Writes (state 0 (pos 1000 ∷ pos 0 ∷ pos 1000 ∷ pos 0 ∷ pos 1 ∷ pos 0 ∷ pos 9999 ∷ pos 1 ∷ pos 1000 ∷ pos 0 ∷ pos 9999 ∷ negℤ (pos 9999) ∷ pos 9999 ∷ pos 9999 ∷ pos 9999 ∷ pos 0 ∷ pos 1000 ∷ pos 0 ∷ pos 0 ∷ pos 0 ∷ pos 100 ∷ pos 0 ∷ pos 0 ∷ []) request.Manual true false false false 85 160 (readings (pos 0) (pos 0) (pos 0) (pos 0)) 0 false false false (Nothing) None (pos 0)) Engineer 24 (pos 2048) (state 0 (pos 1000 ∷ pos 0 ∷ pos 1000 ∷ pos 0 ∷ pos 1 ∷ pos 0 ∷ pos 9999 ∷ pos 1 ∷ pos 1000 ∷ pos 0 ∷ pos 9999 ∷ negℤ (pos 9999) ∷ pos 9999 ∷ pos 9999 ∷ pos 9999 ∷ pos 0 ∷ pos 1000 ∷ pos 0 ∷ pos 0 ∷ pos 0 ∷ pos 100 ∷ pos 0 ∷ pos 0 ∷ []) request.Manual true false false false 85 160 (readings (pos 0) (pos 0) (pos 0) (pos 0)) 0 false false false (Nothing) None (pos 0)) (number 11)
+    -- rights: the operator, XP: 20
+    ∷ Writes (state 29931 (pos 32 ∷ pos 0 ∷ pos 4395 ∷ pos 2996 ∷ pos 4 ∷ negℤ (pos 12) ∷ pos 6782 ∷ pos 4669 ∷ pos 7123 ∷ negℤ (pos 7281) ∷ pos 31 ∷ pos 0 ∷ pos 0 ∷ pos 3134 ∷ pos 9999 ∷ pos 0 ∷ pos 2352 ∷ pos 3946 ∷ pos 3 ∷ pos 7123 ∷ pos 4888 ∷ negℤ (pos 8019) ∷ pos 0 ∷ []) request.Manual false false true true 0 191 (readings (pos 6165) (pos 5997) (pos 168) (negℤ (pos 4809))) 75 false true false (One (pos 6165) (pos 5997)) (At 581940) (pos 636816643)) Operator 17 (pos 1234) (state 29931 (pos 32 ∷ pos 0 ∷ pos 4395 ∷ pos 2996 ∷ pos 4 ∷ negℤ (pos 12) ∷ pos 6782 ∷ pos 4669 ∷ pos 7123 ∷ negℤ (pos 7281) ∷ pos 31 ∷ pos 0 ∷ pos 0 ∷ pos 3134 ∷ pos 9999 ∷ pos 0 ∷ pos 2352 ∷ pos 3946 ∷ pos 3 ∷ pos 7123 ∷ pos 4888 ∷ negℤ (pos 8019) ∷ pos 0 ∷ []) request.Manual false false true true 0 191 (readings (pos 6165) (pos 5997) (pos 168) (negℤ (pos 4809))) 75 false true false (One (pos 6165) (pos 5997)) (At 581940) (pos 636816643)) (number 20)
+    -- rights: the operator, MD bit 13 with bit 8 zero: the fault is cleared, bit 4 taken
+    ∷ Writes (state 29931 (pos 32 ∷ pos 0 ∷ pos 4395 ∷ pos 2996 ∷ pos 4 ∷ negℤ (pos 12) ∷ pos 6782 ∷ pos 4669 ∷ pos 7123 ∷ negℤ (pos 7281) ∷ pos 31 ∷ pos 0 ∷ pos 0 ∷ pos 3134 ∷ pos 9999 ∷ pos 0 ∷ pos 2352 ∷ pos 3946 ∷ pos 3 ∷ pos 7123 ∷ pos 4888 ∷ negℤ (pos 8019) ∷ pos 0 ∷ []) request.Manual true false true true 0 128 (readings (pos 6165) (pos 5997) (pos 168) (negℤ (pos 4809))) 75 false true false (One (pos 6165) (pos 5997)) (At 581940) (pos 636816643)) Operator 24 (pos 8208) (state 29931 (pos 32 ∷ pos 0 ∷ pos 4395 ∷ pos 2996 ∷ pos 4 ∷ negℤ (pos 12) ∷ pos 6782 ∷ pos 4669 ∷ pos 7123 ∷ negℤ (pos 7281) ∷ pos 31 ∷ pos 0 ∷ pos 0 ∷ pos 3134 ∷ pos 9999 ∷ pos 0 ∷ pos 2352 ∷ pos 3946 ∷ pos 3 ∷ pos 7123 ∷ pos 4888 ∷ negℤ (pos 8019) ∷ pos 0 ∷ []) request.Manual false false true true 0 128 (readings (pos 6165) (pos 5997) (pos 168) (negℤ (pos 4809))) 75 false true false (One (pos 6165) (pos 5997)) (At 581940) (pos 636816643)) acceptance
+    -- rights: the computer, its pin at 0 and all others at 1, DS: 19
+    ∷ Writes (state 29931 (pos 32 ∷ pos 0 ∷ pos 4395 ∷ pos 2996 ∷ pos 4 ∷ negℤ (pos 12) ∷ pos 6782 ∷ pos 4669 ∷ pos 7123 ∷ negℤ (pos 7281) ∷ pos 31 ∷ pos 0 ∷ pos 0 ∷ pos 3134 ∷ pos 9999 ∷ pos 0 ∷ pos 2352 ∷ pos 3946 ∷ pos 3 ∷ pos 7123 ∷ pos 4888 ∷ negℤ (pos 8019) ∷ pos 0 ∷ []) request.Manual false false true true 0 239 (readings (pos 6165) (pos 5997) (pos 168) (negℤ (pos 4809))) 75 false true false (One (pos 6165) (pos 5997)) (At 581940) (pos 636816643)) Computer 25 (pos 64) (state 29931 (pos 32 ∷ pos 0 ∷ pos 4395 ∷ pos 2996 ∷ pos 4 ∷ negℤ (pos 12) ∷ pos 6782 ∷ pos 4669 ∷ pos 7123 ∷ negℤ (pos 7281) ∷ pos 31 ∷ pos 0 ∷ pos 0 ∷ pos 3134 ∷ pos 9999 ∷ pos 0 ∷ pos 2352 ∷ pos 3946 ∷ pos 3 ∷ pos 7123 ∷ pos 4888 ∷ negℤ (pos 8019) ∷ pos 0 ∷ []) request.Manual false false true true 0 239 (readings (pos 6165) (pos 5997) (pos 168) (negℤ (pos 4809))) 75 false true false (One (pos 6165) (pos 5997)) (At 581940) (pos 636816643)) (number 19)
+    -- rights: the computer, its pin at 1 and all others at 0, RB
+    ∷ Writes (state 29931 (pos 32 ∷ pos 0 ∷ pos 4395 ∷ pos 2996 ∷ pos 4 ∷ negℤ (pos 12) ∷ pos 6782 ∷ pos 4669 ∷ pos 7123 ∷ negℤ (pos 7281) ∷ pos 31 ∷ pos 0 ∷ pos 0 ∷ pos 3134 ∷ pos 9999 ∷ pos 0 ∷ pos 2352 ∷ pos 3946 ∷ pos 3 ∷ pos 7123 ∷ pos 4888 ∷ negℤ (pos 8019) ∷ pos 0 ∷ []) request.Manual false false true true 0 16 (readings (pos 6165) (pos 5997) (pos 168) (negℤ (pos 4809))) 75 false true false (One (pos 6165) (pos 5997)) (At 581940) (pos 636816643)) Computer 22 (negℤ (pos 77)) (state 29931 (pos 32 ∷ pos 0 ∷ pos 4395 ∷ pos 2996 ∷ pos 4 ∷ negℤ (pos 12) ∷ pos 6782 ∷ pos 4669 ∷ pos 7123 ∷ negℤ (pos 7281) ∷ pos 31 ∷ pos 0 ∷ pos 0 ∷ pos 3134 ∷ pos 9999 ∷ pos 0 ∷ pos 2352 ∷ pos 3946 ∷ pos 3 ∷ pos 7123 ∷ pos 4888 ∷ negℤ (pos 77) ∷ pos 0 ∷ []) request.Manual false false true true 0 16 (readings (pos 6165) (pos 5997) (pos 168) (negℤ (pos 4809))) 75 false true false (One (pos 6165) (pos 5997)) (At 581940) (pos 636816643)) acceptance
+    -- rights: the computer, its pin at 0, PV: 19 goes before 20 and 5
+    ∷ Writes (state 29931 (pos 32 ∷ pos 0 ∷ pos 4395 ∷ pos 2996 ∷ pos 4 ∷ negℤ (pos 12) ∷ pos 6782 ∷ pos 4669 ∷ pos 7123 ∷ negℤ (pos 7281) ∷ pos 31 ∷ pos 0 ∷ pos 0 ∷ pos 3134 ∷ pos 9999 ∷ pos 0 ∷ pos 2352 ∷ pos 3946 ∷ pos 3 ∷ pos 7123 ∷ pos 4888 ∷ negℤ (pos 8019) ∷ pos 0 ∷ []) request.Manual false false true true 0 175 (readings (pos 6165) (pos 5997) (pos 168) (negℤ (pos 4809))) 75 false true false (One (pos 6165) (pos 5997)) (At 581940) (pos 636816643)) Computer 30 (pos 5) (state 29931 (pos 32 ∷ pos 0 ∷ pos 4395 ∷ pos 2996 ∷ pos 4 ∷ negℤ (pos 12) ∷ pos 6782 ∷ pos 4669 ∷ pos 7123 ∷ negℤ (pos 7281) ∷ pos 31 ∷ pos 0 ∷ pos 0 ∷ pos 3134 ∷ pos 9999 ∷ pos 0 ∷ pos 2352 ∷ pos 3946 ∷ pos 3 ∷ pos 7123 ∷ pos 4888 ∷ negℤ (pos 8019) ∷ pos 0 ∷ []) request.Manual false false true true 0 175 (readings (pos 6165) (pos 5997) (pos 168) (negℤ (pos 4809))) 75 false true false (One (pos 6165) (pos 5997)) (At 581940) (pos 636816643)) (number 19)
+    -- rights: the engineer, PV: 5
+    ∷ Writes (state 29931 (pos 32 ∷ pos 0 ∷ pos 4395 ∷ pos 2996 ∷ pos 4 ∷ negℤ (pos 12) ∷ pos 6782 ∷ pos 4669 ∷ pos 7123 ∷ negℤ (pos 7281) ∷ pos 31 ∷ pos 0 ∷ pos 0 ∷ pos 3134 ∷ pos 9999 ∷ pos 0 ∷ pos 2352 ∷ pos 3946 ∷ pos 3 ∷ pos 7123 ∷ pos 4888 ∷ negℤ (pos 8019) ∷ pos 0 ∷ []) request.Manual false false true true 0 128 (readings (pos 6165) (pos 5997) (pos 168) (negℤ (pos 4809))) 75 false true false (One (pos 6165) (pos 5997)) (At 581940) (pos 636816643)) Engineer 30 (pos 5) (state 29931 (pos 32 ∷ pos 0 ∷ pos 4395 ∷ pos 2996 ∷ pos 4 ∷ negℤ (pos 12) ∷ pos 6782 ∷ pos 4669 ∷ pos 7123 ∷ negℤ (pos 7281) ∷ pos 31 ∷ pos 0 ∷ pos 0 ∷ pos 3134 ∷ pos 9999 ∷ pos 0 ∷ pos 2352 ∷ pos 3946 ∷ pos 3 ∷ pos 7123 ∷ pos 4888 ∷ negℤ (pos 8019) ∷ pos 0 ∷ []) request.Manual false false true true 0 128 (readings (pos 6165) (pos 5997) (pos 168) (negℤ (pos 4809))) 75 false true false (One (pos 6165) (pos 5997)) (At 581940) (pos 636816643)) (number 5)
     -- read: SP
     ∷ (read (state 29931 (pos 32 ∷ pos 0 ∷ pos 4395 ∷ pos 2996 ∷ pos 4 ∷ negℤ (pos 12) ∷ pos 6782 ∷ pos 4669 ∷ pos 7123 ∷ negℤ (pos 7281) ∷ pos 31 ∷ pos 0 ∷ pos 0 ∷ pos 3134 ∷ pos 9999 ∷ pos 0 ∷ pos 2352 ∷ pos 3946 ∷ pos 3 ∷ pos 7123 ∷ pos 4888 ∷ negℤ (pos 8019) ∷ pos 0 ∷ []) request.Auto false false true true 0 128 (readings (pos 6165) (pos 5997) (pos 168) (negℤ (pos 4809))) 75 false true false (One (pos 6165) (pos 5997)) (At 581940) (pos 636816643)) 29 ≡ (reading (pos 5997)))
     -- restart: a sound image: request Auto, user bits and MD bit 4, OP limited to HO; PV is 1L, SP is SL

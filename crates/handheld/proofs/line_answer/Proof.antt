@@ -7,10 +7,10 @@ use lib.ListN.{length, take}
 use Rattle.formatting.specs.Buffer.{buffer, appendAll}
 use Rattle.lines.specs.Lines.{startOf}
 use Rattle.lines.specs.LinesLaws.{start-most}
-use Rattle.terminal.specs.Terminal.{LineOutcome}
 use Rattle.handheld.specs.Answers.{answerLine}
 use Rattle.handheld.specs.AnswerLaws.{answer-fits}
-use Rattle.handheld.specs.PlantLaws.{valid-typed}
+use Rattle.handheld.specs.SessionLaws.{valid-typed}
+use Rattle.handheld.specs.Sessions.{SessionOutcome}
 use borrow.Author.Needs.{needs}
 use Rattle.handheld.proofs.line_answer.Statement.{statement}
 use Rattle.handheld.proofs.line_answer.Tie as tie
@@ -59,13 +59,13 @@ returns c =
     let line = take (s .args .len) (s .args .line .now) in
     let o = rw (sub-zero, k .kept .ensures .1, empty .reply-buffer .ensures .0) at (a .answer .ensures) in
     let start = startOf (s .args .used) in
-    let text = ap (λ (x : LineOutcome). answerLine (x .answer) (x .buffer)) o in
+    let text = ap (λ (x : SessionOutcome). answerLine (x .answer) (x .buffer)) o in
     let output = rw (room .room .ensures) at (p .append-answer .ensures) in
     let short : length (a .answer .last .1 .1 .0) ≤ 9 = omega (arith, a .answer .kept .1 .1 .0, empty .reply-buffer .ensures .1) in
-    let next = ap (λ (x : LineOutcome). x .next) o in (
-      rw next (valid-typed (s .args .controller) line _ (s .pre)),
+    let next = ap (λ (x : SessionOutcome). x .session) o in (
+      rw next (valid-typed (s .args .session) line _ (s .pre)),
       record {
-        controller = next;
+        session = next;
         output = output ∙ ap (appendAll (buffer (s .args .out .now) start)) text;
         whole = λ size.
             rw (← text)

@@ -3,25 +3,24 @@ use mathlib.Core.Path.{_≡_, refl, _∙_}
 use native.Mathlib.Omega.{arith}
 use lib.ListN.{length}
 use Rattle.controller.specs.Valid.{Valid}
-use Rattle.controller.specs.ValidLaws.{valid-fresh}
 use Rattle.handheld.proofs.run.Statement.{statement}
 use Rattle.handheld.proofs.run.Tie as tie
 
 abbrev Inv-loop : tie.InvT-loop
-Inv-loop input₀ line₀ out₀ controller₀ place₀ turns₀ input line out controller place turns = (length input ≡ length input₀) ×
-    (length line ≡ length line₀) × (length out ≡ length out₀) × Valid controller
+Inv-loop input₀ line₀ out₀ session₀ place₀ turns₀ input line out session place turns = (length input ≡ length input₀) ×
+    (length line ≡ length line₀) × (length out ≡ length out₀) × Valid (session .controller)
 
 abbrev μ-loop : tie.MeasureT-loop
-μ-loop input₀ line₀ out₀ controller₀ place₀ turns₀ input line out controller place turns = turns
+μ-loop input₀ line₀ out₀ session₀ place₀ turns₀ input line out session place turns = turns
 
-fresh-requires : tie.Need-fresh-requires Inv-loop μ-loop
-fresh-requires c κs = tt
+first-requires : tie.Need-first-requires Inv-loop μ-loop
+first-requires c κs = tt
 
 start-requires : tie.Need-start-requires Inv-loop μ-loop
 start-requires c κs = tt
 
 loop-holds : tie.Need-loop-holds Inv-loop μ-loop
-loop-holds c = (refl, refl, refl, rw (c .before .fresh .ensures) (valid-fresh 0))
+loop-holds c = (refl, refl, refl, c .before .first .ensures .1)
 
 next-line-requires : tie.Need-next-line-requires Inv-loop μ-loop
 next-line-requires c κs = tt
@@ -83,7 +82,7 @@ run-spec =
     (tie.spec
     Inv-loop
     μ-loop
-    fresh-requires
+    first-requires
     start-requires
     loop-holds
     next-line-requires

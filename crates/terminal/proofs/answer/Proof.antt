@@ -63,18 +63,19 @@ same-length : tie.Need-same-length
 same-length c = search needs
 
 returns-3 : tie.Need-returns-3
-unfolding answered
+unfolding answered answeredTo
 returns-3 c =
     let r = c .before .before in
     let e = r .before .before .before in
     let p = e .before .before in
-    r .read .ensures ∙ ap (answeredTo _ _) (sym (e .command .given .1) ∙ p .parse .ensures)
+    let s = p .before .before .before in
+    r .read .ensures ∙ ap (answeredTo (s .args .controller) (s .args .writer) _) (sym (e .command .given .1) ∙ p .parse .ensures)
 
 same-length-2 : tie.Need-same-length-2
 same-length-2 c = search needs
 
 returns-4 : tie.Need-returns-4
-unfolding answered
+unfolding answered answeredTo
 returns-4 c =
     let r = c .before .before in
     let e = r .before .before .before in
@@ -82,7 +83,9 @@ returns-4 c =
     let n = e .command2 .given .0 .0 in
     let v = e .command2 .given .0 .1 .0 in
     let held = back w32 v (r .before .before .known-told2 .given .1 .0 .1) in
-    r .write .ensures ∙ ap (answeredTo _ _) (ap (Write n) held ∙ sym (e .command2 .given .1) ∙ p .parse .ensures)
+    let s = p .before .before .before in
+    r .write .ensures ∙
+    ap (answeredTo (s .args .controller) (s .args .writer) _) (ap (Write n) held ∙ sym (e .command2 .given .1) ∙ p .parse .ensures)
 
 pub answer-spec : {M : Type 1} → statement M
 answer-spec =

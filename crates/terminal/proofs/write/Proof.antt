@@ -4,9 +4,8 @@ use mir.Facts.{toZ-ofZ}
 use borrow.Author.Tests.{lt-ltb, le-ltb}
 use Rattle.controller.specs.Answers.{Response, replyOfVerdict}
 use Rattle.controller.specs.Valid.{Valid}
-use Rattle.controller.specs.WriteLaws.{valid-write}
-use Rattle.terminal.specs.Terminal.{answeredTo}
-use Rattle.terminal.specs.TerminalLaws.{write-accepted, write-refused}
+use Rattle.controller.specs.WriteLaws.{valid-write, write-accepted, write-refused}
+use Rattle.terminal.specs.Terminal.{writtenTo}
 use borrow.Author.Needs.{needs}
 use Rattle.terminal.proofs.write.Statement.{statement}
 use Rattle.terminal.proofs.write.Tie as tie
@@ -15,7 +14,7 @@ refused-requires : tie.Need-refused-requires
 refused-requires c κs = search needs
 
 returns : tie.Need-returns
-unfolding answeredTo
+unfolding writtenTo
 returns c = rw (c .refused .ensures) (simp (lt-ltb _ _ (c .before .if1 .taken)))
 
 write-requires : tie.Need-write-requires
@@ -35,17 +34,17 @@ show-requires c κs =
     let w = c .before .before .before .before in
     let s = w .before .before .before in
     let valid : Valid (w .write .result .controller) =
-    rw (ap (λ (r : Response). r .next) (w .write .ensures)) (valid-write _ _ _ (s .pre .0)) in
+    rw (ap (λ (r : Response). r .next) (w .write .ensures)) (valid-write _ _ _ _ (s .pre .0)) in
     (valid, s .pre .1, s .pre .2, search needs)
 
 returns-2 : tie.Need-returns-2
-unfolding answeredTo
+unfolding writtenTo
 returns-2 c =
     let v = c .before .before in
     let w = v .before .before .before in
     let s = w .before .before .before in
     let is = rw (toZ-ofZ (s .fits .value)) at (w .write .ensures) in
-    let refusal = write-refused (s .args .controller) (s .args .number) (s .args .value) _
+    let refusal = write-refused (s .args .controller) (s .args .writer) (s .args .number) (s .args .value) _
     (sym (ap (λ (r : Response). r .answer) is) ∙ ap replyOfVerdict (v .verdict .given .1)) in
     rw (c .refused2 .ensures) (simp (le-ltb _ _ (w .before .if1 .left), refusal))
 
@@ -53,13 +52,13 @@ same-length : tie.Need-same-length
 same-length c = search needs
 
 returns-3 : tie.Need-returns-3
-unfolding answeredTo
+unfolding writtenTo
 returns-3 c =
     let d = c .before .before in
     let w = d .before .before .before .before .before in
     let s = w .before .before .before in
     let is = rw (toZ-ofZ (s .fits .value)) at (w .write .ensures) in
-    let accepted = write-accepted (s .args .controller) (s .args .number) (s .args .value)
+    let accepted = write-accepted (s .args .controller) (s .args .writer) (s .args .number) (s .args .value)
     (sym (ap (λ (r : Response). r .answer) is) ∙ ap replyOfVerdict (d .before .before .enum-told .given .1)) in
     let next = ap (λ (r : Response). r .next) is in
     simp (le-ltb _ _ (w .before .if1 .left), accepted) (d .show .ensures ∙ rw next refl)

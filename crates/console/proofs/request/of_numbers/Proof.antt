@@ -13,14 +13,18 @@ slice-aggregate-is-call c = refl
 is-call-requires : tie.Need-is-call-requires
 is-call-requires c κs = tt
 
-write-requires : tie.Need-write-requires
-write-requires c κs = tt
+array-copy-out-number-in : tie.Need-array-copy-out-number-in
+array-copy-out-number-in c = omega arith
+
+number-in-requires : tie.Need-number-in-requires
+number-in-requires c κs = tt
 
 returns : tie.Need-returns
 unfolding numbersCommand
 returns c =
-    let test1 = c .before in
-    rw (sym (test1 .before .is-call .ensures) ∙ test1 .if1 .taken) (c .write .ensures)
+    let test1 = c .before .before in
+    let number = rw (back w64 _ (c .before .number-in-arg .given)) at (c .number-in .ensures) in
+    rw (sym (test1 .before .is-call .ensures) ∙ test1 .if1 .taken, number) refl
 
 slice-aggregate-is-call-2 : tie.Need-slice-aggregate-is-call-2
 slice-aggregate-is-call-2 c = refl
@@ -28,21 +32,18 @@ slice-aggregate-is-call-2 c = refl
 is-call-requires-2 : tie.Need-is-call-requires-2
 is-call-requires-2 c κs = tt
 
-array-copy-out-number-in : tie.Need-array-copy-out-number-in
-array-copy-out-number-in c = omega arith
-
-number-in-requires : tie.Need-number-in-requires
-number-in-requires c κs = tt
+fresh-requires : tie.Need-fresh-requires
+fresh-requires c κs = tt
 
 returns-2 : tie.Need-returns-2
 unfolding numbersCommand
 returns-2 c =
-    let test2 = c .before .before in
+    let test2 = c .before in
     let test1 = test2 .before .before .before in
     rw (
       sym (test1 .before .is-call .ensures) ∙ test1 .if1 .left,
       sym (test2 .before .is-call2 .ensures) ∙ test2 .if2 .taken,
-    ) (rw (rw (back w64 _ (c .before .number-in-arg .given)) at (c .number-in .ensures)) refl)
+    ) (c .fresh .ensures)
 
 slice-aggregate-is-call-3 : tie.Need-slice-aggregate-is-call-3
 slice-aggregate-is-call-3 c = refl
@@ -50,8 +51,8 @@ slice-aggregate-is-call-3 c = refl
 is-call-requires-3 : tie.Need-is-call-requires-3
 is-call-requires-3 c κs = tt
 
-fresh-requires : tie.Need-fresh-requires
-fresh-requires c κs = tt
+save-requires : tie.Need-save-requires
+save-requires c κs = tt
 
 returns-3 : tie.Need-returns-3
 unfolding numbersCommand
@@ -63,7 +64,7 @@ returns-3 c =
       sym (test1 .before .is-call .ensures) ∙ test1 .if1 .left,
       sym (test2 .before .is-call2 .ensures) ∙ test2 .if2 .left,
       sym (test3 .before .is-call3 .ensures) ∙ test3 .if3 .taken,
-    ) (c .fresh .ensures)
+    ) (c .save .ensures)
 
 slice-aggregate-is-call-4 : tie.Need-slice-aggregate-is-call-4
 slice-aggregate-is-call-4 c = refl
@@ -71,13 +72,10 @@ slice-aggregate-is-call-4 c = refl
 is-call-requires-4 : tie.Need-is-call-requires-4
 is-call-requires-4 c κs = tt
 
-save-requires : tie.Need-save-requires
-save-requires c κs = tt
-
 returns-4 : tie.Need-returns-4
 unfolding numbersCommand
 returns-4 c =
-    let test4 = c .before in
+    let test4 = c in
     let test3 = test4 .before .before .before in
     let test2 = test3 .before .before .before in
     let test1 = test2 .before .before .before in
@@ -86,38 +84,15 @@ returns-4 c =
       sym (test2 .before .is-call2 .ensures) ∙ test2 .if2 .left,
       sym (test3 .before .is-call3 .ensures) ∙ test3 .if3 .left,
       sym (test4 .before .is-call4 .ensures) ∙ test4 .if4 .taken,
-    ) (c .save .ensures)
-
-slice-aggregate-is-call-5 : tie.Need-slice-aggregate-is-call-5
-slice-aggregate-is-call-5 c = refl
-
-is-call-requires-5 : tie.Need-is-call-requires-5
-is-call-requires-5 c κs = tt
-
-returns-5 : tie.Need-returns-5
-unfolding numbersCommand
-returns-5 c =
-    let test5 = c in
-    let test4 = test5 .before .before .before in
-    let test3 = test4 .before .before .before in
-    let test2 = test3 .before .before .before in
-    let test1 = test2 .before .before .before in
-    rw (
-      sym (test1 .before .is-call .ensures) ∙ test1 .if1 .left,
-      sym (test2 .before .is-call2 .ensures) ∙ test2 .if2 .left,
-      sym (test3 .before .is-call3 .ensures) ∙ test3 .if3 .left,
-      sym (test4 .before .is-call4 .ensures) ∙ test4 .if4 .left,
-      sym (test5 .before .is-call5 .ensures) ∙ test5 .if5 .taken,
     ) refl
 
 of-word-requires : tie.Need-of-word-requires
 of-word-requires c κs = tt
 
-returns-6 : tie.Need-returns-6
+returns-5 : tie.Need-returns-5
 unfolding numbersCommand
-returns-6 c =
-    let test5 = c .before in
-    let test4 = test5 .before .before .before in
+returns-5 c =
+    let test4 = c .before in
     let test3 = test4 .before .before .before in
     let test2 = test3 .before .before .before in
     let test1 = test2 .before .before .before in
@@ -126,7 +101,6 @@ returns-6 c =
       sym (test2 .before .is-call2 .ensures) ∙ test2 .if2 .left,
       sym (test3 .before .is-call3 .ensures) ∙ test3 .if3 .left,
       sym (test4 .before .is-call4 .ensures) ∙ test4 .if4 .left,
-      sym (test5 .before .is-call5 .ensures) ∙ test5 .if5 .left,
     ) (c .of-word .ensures)
 
 pub of-numbers-spec : {M : Type 1} → statement M
@@ -135,23 +109,19 @@ of-numbers-spec =
     (tie.spec
     slice-aggregate-is-call
     is-call-requires
-    write-requires
+    array-copy-out-number-in
+    number-in-requires
     returns
     slice-aggregate-is-call-2
     is-call-requires-2
-    array-copy-out-number-in
-    number-in-requires
+    fresh-requires
     returns-2
     slice-aggregate-is-call-3
     is-call-requires-3
-    fresh-requires
+    save-requires
     returns-3
     slice-aggregate-is-call-4
     is-call-requires-4
-    save-requires
     returns-4
-    slice-aggregate-is-call-5
-    is-call-requires-5
-    returns-5
     of-word-requires
-    returns-6)
+    returns-5)

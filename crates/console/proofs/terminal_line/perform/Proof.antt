@@ -100,9 +100,9 @@ returns c =
     let o = rw (sub-zero, sub-zero, f .fill .ensures, line-is a .1) at (w .answer .ensures) in
     let whole = filled-replicate (length bytes) in
     let checked = checked-line part rest (filled-take size (filled bytes) whole) (filled-drop size (filled bytes) whole)
-    (s .args .controller) (take count bytes) in
-    let outcome = terminalOutcome (s .args .controller) count size bytes in
-    let after : w .answer .last .1 .1 .0 ++ drop (size - 0) (f .fill .last .0) ≡ outcome .buffer ++ rest =
+    (s .args .controller) (s .args .writer) (take count bytes) in
+    let outcome = terminalOutcome (s .args .controller) (s .args .writer) count size bytes in
+    let after : w .answer .last .1 .1 .1 .0 ++ drop (size - 0) (f .fill .last .0) ≡ outcome .buffer ++ rest =
     rw (sub-zero, f .fill .ensures, ap (λ (x : LineOutcome). x .buffer) o) refl in
     let reply =
     c .reply-to-answer .ensures ∙ ap (checkedTerminal (replyOfLine (w .answer .result .answer))) after ∙

@@ -9,6 +9,7 @@ use Rattle.integers.specs.Machine.{back}
 use Rattle.signals.specs.Refusals.{numberOf, numberIn, refusedBy}
 use Rattle.outputs.specs.Instruction.{executed, changed, limitedTo}
 use Rattle.controller.specs.Write.{writeTests, writeAccepted, writeCore, controllerWritten, write}
+use Rattle.controller.specs.RightLaws.{common-passed}
 use Rattle.controller.specs.Scan.{controllerAfter, refused, responseFrom}
 use Rattle.controller.proofs.Controller.write.Statement.{statement}
 use Rattle.controller.proofs.Controller.write.Tie as tie
@@ -30,21 +31,24 @@ value-is : (c : tie.After-wide) → toZ w64 (ofZ w64 (c .wide .result)) ≡ c .b
 value-is c = back w64 (c .wide .result) (c .wide .ok) ∙ c .wide .ensures ∙ toZ-ofZ {w = w32} (c .before .before .fits .value)
 
 verdict-is : (c : tie.After-write-verdict) → let start = c .before .before .before in
-    numberIn (c .write-verdict .result) ≡ refusedBy (writeTests (start .args .self .core) (start .args .number) (start .args .value))
+    numberIn (c .write-verdict .result)
+    ≡ refusedBy (writeTests (start .args .self .core) (start .args .writer) (start .args .number) (start .args .value))
 verdict-is c = rw (value-is (c .before)) at (c .write-verdict .ensures)
 
 -- what an accepted verdict says, and a refusal
 none-refuses : (c : tie.After-enum-told) → let start = c .before .before .before .before .before in
-    refusedBy (writeTests (start .args .self .core) (start .args .number) (start .args .value)) ≡ none
+    refusedBy (writeTests (start .args .self .core) (start .args .writer) (start .args .number) (start .args .value)) ≡ none
 none-refuses c = sym (verdict-is (c .before .before)) ∙ ap numberIn (c .enum-told .given .1)
 
 some-refuses : (c : tie.After-verdict) → let start = c .before .before .before .before .before in
-    refusedBy (writeTests (start .args .self .core) (start .args .number) (start .args .value)) ≡ some (numberOf (c .verdict .given .0 .0))
+    refusedBy (writeTests (start .args .self .core) (start .args .writer) (start .args .number) (start .args .value))
+    ≡ some (numberOf (c .verdict .given .0 .0))
 some-refuses c = sym (verdict-is (c .before .before)) ∙ ap numberIn (c .verdict .given .1)
 
 written-requires : tie.Need-written-requires
 written-requires c κs = let start = c .before .before .before .before .before in
-    simp (value-is (c .before .before .before)) (start .pre, none-refuses c)
+    simp (value-is (c .before .before .before))
+    (start .pre, common-passed (start .args .self .core) (start .args .writer) (start .args .number) (start .args .value) (none-refuses c))
 
 returns : tie.Need-returns
 unfolding write writeCore responseFrom controllerAfter refused executed changed limitedTo

@@ -33,7 +33,7 @@ returns c =
     let p = o .before .before in
     let a = p .before .before .before .args in
     r .scan .ensures ∙
-    ap (λ (own : PlantLine). outcomeOfLine own (a .controller) (a .line .now) (a .reply .now))
+    ap (λ (own : PlantLine). outcomeOfLine own (a .controller) (a .writer) (a .line .now) (a .reply .now))
     (sym (o .own .given .1) ∙ p .parse .ensures)
 
 same-length-2 : tie.Need-same-length-2
@@ -47,7 +47,7 @@ returns-2 c =
     let p = o .before .before in
     let a = p .before .before .before .args in
     r .answer .ensures ∙
-    ap (λ (own : PlantLine). outcomeOfLine own (a .controller) (a .line .now) (a .reply .now))
+    ap (λ (own : PlantLine). outcomeOfLine own (a .controller) (a .writer) (a .line .now) (a .reply .now))
     (sym (o .enum-told .given .1) ∙ p .parse .ensures)
 
 pub answer-spec : {M : Type 1} → statement M

@@ -4,7 +4,6 @@ use Rattle.signals.specs.declared.clock.ClockReading.{ClockReading}
 use Rattle.controller.specs.Answers.{Reply, Response, replyOf, responseOf}
 use Rattle.controller.specs.Scan.{scan}
 use Rattle.handheld.specs.Plant.{scanInput, outcomeBy, scanOutcome}
-use Rattle.handheld.specs.PlantLaws.{two-set}
 use borrow.Author.Needs.{needs}
 use Rattle.handheld.proofs.plant.scan.Statement.{statement}
 use Rattle.handheld.proofs.plant.scan.Tie as tie
@@ -21,11 +20,8 @@ scan-requires c κs = search needs
 enum-told : tie.Need-enum-told
 enum-told c = search needs
 
-slice-write-reply : tie.Need-slice-write-reply
-slice-write-reply c = search needs
-
-slice-write-reply-2 : tie.Need-slice-write-reply-2
-slice-write-reply-2 c = search needs
+write-requires : tie.Need-write-requires
+write-requires c κs = search needs
 
 enum-known-answer : tie.Need-enum-known-answer
 enum-known-answer c = search needs
@@ -45,11 +41,13 @@ scanned r =
 returns : tie.Need-returns
 unfolding scanOutcome outcomeBy
 returns c =
-    let r = c .before .before .before in
+    let w = c .before .before in
+    let t = w .before .before in
+    let r = t .before .before .before in
     let s = r .before .before .before .before in
     let bytes = s .args .reply .now in
-    let taken = ap replyOf (c .enum-told .given .1) in
-    rw (two-set 111 107 bytes (s .pre .1))
+    let taken = ap replyOf (t .enum-told .given .1) in
+    rw (w .write .ensures .0, w .write .ensures .1)
     (sym (ap (λ (a : Reply). outcomeBy (r .scan .result .controller) a bytes) taken) ∙
     ap (λ (h : Response). outcomeBy (h .next) (h .answer) bytes) (scanned r))
 
@@ -71,8 +69,7 @@ scan-spec =
     scan-input-requires
     scan-requires
     enum-told
-    slice-write-reply
-    slice-write-reply-2
+    write-requires
     enum-known-answer
     same-length
     returns
