@@ -162,49 +162,49 @@ access-told {c = c} l w n r e =
 
 -- ---- a write by someone without the right
 
--- it doesn't come to the value
-or-without : (pins : ℕ) (w : Writer) (n : ℕ) (a b : Option ℕ) → hasRight pins w n ≡ false → accessOr pins w n a ≡ accessOr pins w n b
+-- what `accessOr` says in each case, of two answers to the value at once; each case has what the ones before it leave
+pub by-access : (P : Option ℕ → Option ℕ → Type 0) (pins : ℕ) (w : Writer) (n : ℕ) (a b : Option ℕ) →
+    ((eqb n 0 || ltb 32 n) ≡ true → P (some 4) (some 4)) → (isShutOut pins w ≡ true → P (some 19) (some 19)) →
+    (isShutOut pins w ≡ false → isOf n w ≡ false → P (some 20) (some 20)) →
+    (hasRight pins w n ≡ true → ltb 25 n ≡ true → P (some 5) (some 5)) →
+    (hasRight pins w n ≡ true → 1 ≤ n → n ≤ 25 → P a b) → P (accessOr pins w n a) (accessOr pins w n b)
 unfolding accessOr hasRight
-or-without pins w n a b e = go (eqb n 0 || ltb 32 n) (isShutOut pins w) (isOf n w) e
+by-access P pins w n a b four nineteen twenty five rest =
+    go (eqb n 0 || ltb 32 n) refl (isShutOut pins w) refl (isOf n w) refl (ltb 25 n) refl
   where
-    go : (t p h : Bool) → (h && not p) ≡ false →
-        (if t then some 4 else if p then some 19 else if not h then some 20 else if ltb 25 n then some 5 else a)
-        ≡ (if t then some 4 else if p then some 19 else if not h then some 20 else if ltb 25 n then some 5 else b)
-    go true p h f = refl
-    go false true h f = refl
-    go false false false f = refl
-    go false false true f = never (sym f)
+    chosen : Bool → Bool → Bool → Bool → Option ℕ → Option ℕ
+    chosen t p h r o = if t then some 4 else if p then some 19 else if not h then some 20 else if r then some 5 else o
+
+    go : (t : Bool) → (eqb n 0 || ltb 32 n) ≡ t → (p : Bool) → isShutOut pins w ≡ p → (h : Bool) → isOf n w ≡ h →
+        (r : Bool) → ltb 25 n ≡ r → P (chosen t p h r a) (chosen t p h r b)
+    go true e p f h g r k = four e
+    go false e true f h g r k = nineteen f
+    go false e false f false g r k = twenty f g
+    go false e false f true g true k = five (rw (f, g) refl) k
+    go false e false f true g false k = rest (rw (f, g) refl) (inside-table n e .0) (ltb-false 25 n k)
 
 pub refused-without : (c : Core) (w : Writer) (n : ℕ) (v : ℤ) → hasRight (c .conditions .pins) w n ≡ false →
     refusedBy (writeTests c w n v) ≡ accessOr (c .conditions .pins) w n option.none
 unfolding writeTests
-refused-without c w n v e = access-tests c w n (valueTests c n v) ∙ or-without (c .conditions .pins) w n _ option.none e
+refused-without c w n v e =
+    access-tests c w n (valueTests c n v) ∙
+    by-access (λ x y. x ≡ y) (c .conditions .pins) w n (refusedBy (valueTests c n v)) option.none (λ t. refl) (λ s. refl) (λ f h. refl)
+    (λ right k. refl) (λ right least most. never (sym e ∙ right))
 
 -- and it is refused, with 4, 19 or 20
 by-refusal : (P : Option ℕ → Type 0) (pins : ℕ) (w : Writer) (n : ℕ) → hasRight pins w n ≡ false → ((k : ℕ) → P (some k)) →
     P (accessOr pins w n option.none)
-unfolding accessOr hasRight
-by-refusal P pins w n e refuses = go (eqb n 0 || ltb 32 n) (isShutOut pins w) (isOf n w) e
-  where
-    go : (t p h : Bool) → (h && not p) ≡ false →
-        P (if t then some 4 else if p then some 19 else if not h then some 20 else if ltb 25 n then some 5 else option.none)
-    go true p h f = refuses 4
-    go false true h f = refuses 19
-    go false false false f = refuses 20
-    go false false true f = never (sym f)
+by-refusal P pins w n e refuses =
+    by-access (λ x y. P x) pins w n option.none option.none (λ t. refuses 4) (λ s. refuses 19) (λ f h. refuses 20)
+    (λ right k. never (sym e ∙ right)) (λ right least most. never (sym e ∙ right))
 
 -- of a number that has a parameter
 pub some-without : (pins : ℕ) (w : Writer) (n : ℕ) → 1 ≤ n → n ≤ 32 → hasRight pins w n ≡ false →
     accessOr pins w n option.none ≡ some (numberWithout pins w)
-unfolding accessOr hasRight
-some-without pins w n least most e =
-    rw (ne-eqb n 0 (λ q. omega arith), le-ltb 32 n most) (go (isShutOut pins w) (isOf n w) e)
-  where
-    go : (p h : Bool) → (h && not p) ≡ false →
-        (if p then some 19 else if not h then some 20 else if ltb 25 n then some 5 else option.none) ≡ some (if_then_else_ {A = ℕ} p 19 20)
-    go true h f = refl
-    go false false f = refl
-    go false true f = never (sym f)
+some-without pins w n first last e =
+    let inside : (eqb n 0 || ltb 32 n) ≡ false = rw (ne-eqb n 0 (λ q. omega arith), le-ltb 32 n last) refl in
+    by-access (λ x y. x ≡ some (numberWithout pins w)) pins w n option.none option.none (λ t. never (sym inside ∙ t)) (λ s. rw s refl)
+    (λ f h. rw f refl) (λ right k. never (sym e ∙ right)) (λ right least most. never (sym e ∙ right))
 
 write-without : (c : Controller) (w : Writer) (n : ℕ) (v : ℤ) → let pins = c .core .conditions .pins in hasRight pins w n ≡ false →
     writes.write c w n v ≡ record { next = c; answer = replyBy (accessOr pins w n option.none) }

@@ -51,7 +51,7 @@ pub record Demand3 (word : ℕ) (calls : Calls) (rs : List Response) (c : Contro
   -- and one by someone with the right is refused with document 01's numbers alone, if at all
   pub with-right : (w : Writer) (n : ℕ) (v : ℤ) (r : CallResult) → WriteEnsures c w n v r →
       hasRight (lastPins word calls) w n ≡ true → (k : ℕ) → replyOfVerdict (r .verdict) ≡ number k → (4 ≤ k) × (k ≤ 11)
-  -- so is a host told before there is a value
+  -- and a host is told, before there is a value, the same of the writer and the number: 4, 19, 20, 5, or none of them
   pub access-told : (w : Writer) (n : ℕ) (r : Verdict) → AccessEnsures c w n r →
       replyOfVerdict r ≡ replyBy (accessOr (lastPins word calls) w n none)
   -- an accepted scan never comes less than 30 ms after the accepted scan before it where no accepted restart came

@@ -8,8 +8,8 @@ use native.Mathlib.Omega.{arith}
 use lib.Dec.{eqb, ltb}
 use lib.IntN.{ℤ, pos, natAbs}
 use lib.Signed.{leZ}
-use borrow.Author.Tests.{eqb-true, ne-eqb, ltb-false, le-ltb}
-use Rattle.integers.specs.Choice.{if_then_else_, both}
+use borrow.Author.Tests.{eqb-true, ne-eqb, le-ltb}
+use Rattle.integers.specs.Choice.{if_then_else_, both, never}
 use Rattle.integers.specs.Operations as operations
 use Rattle.integers.specs.Parts.{integers, apart}
 use Rattle.integers.specs.Listed.{listed, listed-same}
@@ -38,11 +38,11 @@ use Rattle.controller.specs.Write.{wordOf, setpointTests, stateTests, valueTest
 use Rattle.controller.specs.declared.Controller.{Controller}
 use Rattle.controller.specs.declared.Core.{Core}
 use Rattle.guarantee.specs.Modes.{automaticMode}
-use Rattle.guarantee.specs.Rights.{isOf, isShutOut, hasRight, accessOr}
+use Rattle.guarantee.specs.Rights.{hasRight, accessOr}
 use Rattle.guarantee.proofs.Faults.{kept-or-cleared}
 use Rattle.guarantee.proofs.Modes.{mode-is-first}
 use Rattle.guarantee.proofs.Clock.{soon-is}
-use Rattle.guarantee.proofs.Rights.{inside-table, access-tests, has-both}
+use Rattle.guarantee.proofs.Rights.{access-tests, by-access, has-both}
 use Rattle.promises.specs.Refusals.{refusalIn}
 use Rattle.promises.specs.RefusalCauses.{scanRefusal, ScanRefusals, replaced, setpointRefused, requestBits, wordRefusal, valueRefusal}
 use Rattle.promises.specs.RefusalCauses.{writeRefusal, WriteRefusals, ReadRefusals, RefusalNumbers, inOrderOfNumbers, NumberedFrom}
@@ -163,33 +163,21 @@ value-tests c n v first last =
 
 -- ---- the writer's right, before what is asked of the value
 
--- where it comes to the value, the number is one of 1 to 25
-or-same : (pins : ℕ) (w : Writer) (n : ℕ) (a b : Option ℕ) → (1 ≤ n → n ≤ 25 → a ≡ b) → accessOr pins w n a ≡ accessOr pins w n b
-unfolding accessOr
-or-same pins w n a b f = go (eqb n 0 || ltb 32 n) refl (isShutOut pins w) (isOf n w) (ltb 25 n) refl
-  where
-    go : (t : Bool) → (eqb n 0 || ltb 32 n) ≡ t → (p h r : Bool) → ltb 25 n ≡ r →
-        (if t then some 4 else if p then some 19 else if not h then some 20 else if r then some 5 else a)
-        ≡ (if t then some 4 else if p then some 19 else if not h then some 20 else if r then some 5 else b)
-    go true e p h r q = refl
-    go false e true h r q = refl
-    go false e false false r q = refl
-    go false e false true true q = refl
-    go false e false true false q = f (inside-table n e .0) (ltb-false 25 n q)
-
--- and it comes to the value where the writer has the right
+-- it comes to the value where the writer has the right
 pub right-passes : (pins : ℕ) (w : Writer) (n : ℕ) (o : Option ℕ) → hasRight pins w n ≡ true → 1 ≤ n → n ≤ 25 →
     accessOr pins w n o ≡ o
-unfolding accessOr
 right-passes pins w n o right first last =
     let h = has-both pins w n right in
-    rw (ne-eqb n 0 (λ q. omega arith), le-ltb 32 n (omega arith), h .1, h .0, le-ltb 25 n last) refl
+    let inside : (eqb n 0 || ltb 32 n) ≡ false = rw (ne-eqb n 0 (λ q. omega arith), le-ltb 32 n (omega arith)) refl in
+    by-access (λ x y. x ≡ o) pins w n o o (λ t. never (sym inside ∙ t)) (λ s. never (sym (h .1) ∙ s)) (λ f g. never (sym g ∙ h .0))
+    (λ r k. never (sym (le-ltb 25 n last) ∙ k)) (λ r least most. refl)
 
 pub write-tests : (c : Core) (w : Writer) (n : ℕ) (v : ℤ) → refusedBy (writeTests c w n v) ≡ writeRefusal c w n v
 unfolding writeTests
 write-tests c w n v =
     access-tests c w n (valueTests c n v) ∙
-    or-same (c .conditions .pins) w n (refusedBy (valueTests c n v)) (valueRefusal c n v) (value-tests c n v)
+    by-access (λ x y. x ≡ y) (c .conditions .pins) w n (refusedBy (valueTests c n v)) (valueRefusal c n v) (λ t. refl) (λ s. refl)
+    (λ f h. refl) (λ right k. refl) (λ right first last. value-tests c n v first last)
 
 write-refusal : (d : Controller) (w : Writer) (n : ℕ) (v : ℤ) → refusalIn (writes.write d w n v .answer) ≡ writeRefusal (d .core) w n v
 unfolding writes.write writeCore responseFrom writeAccepted

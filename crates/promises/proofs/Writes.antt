@@ -4,10 +4,10 @@ use mathlib.Core.Bool.{Bool, true, false, _&&_, _||_}
 use mathlib.Core.Option.{none}
 use Prim.Native.Nat.{ℕ, _≤_}
 use native.Mathlib.Omega.{arith}
-use lib.Dec.{eqb, leb, ltb}
+use lib.Dec.{eqb, leb}
 use lib.IntN.{ℤ, pos, natAbs, _*ℤ_}
 use lib.Signed.{leZ}
-use borrow.Author.Tests.{eqb-true, eqb-false, ne-eqb, le-leb, ltb-false}
+use borrow.Author.Tests.{eqb-true, eqb-false, ne-eqb, le-leb}
 use Rattle.integers.specs.Choice.{if_then_else_}
 use Rattle.integers.specs.Limit.{limited}
 use Rattle.modes.specs.declared.Conditions.{Conditions}
@@ -30,10 +30,10 @@ use Rattle.controller.specs.Write as writes
 use Rattle.controller.specs.Write.{coreWith, mdWritten, dsWritten, parameterWritten, coreWritten, writeTests, writeAccepted, writeCore}
 use Rattle.controller.specs.declared.Controller.{Controller}
 use Rattle.controller.specs.declared.Core.{Core}
-use Rattle.guarantee.specs.Rights.{isOf, isShutOut, accessOr}
 use Rattle.guarantee.proofs.ExactOutput.{either, limiting-is}
 use Rattle.guarantee.proofs.Faults.{kept-or-cleared}
 use Rattle.guarantee.proofs.Modes.{mode-is-first}
+use Rattle.guarantee.proofs.Rights.{by-access}
 use Rattle.promises.specs.RefusalCauses.{valueRefusal, writeRefusal}
 use Rattle.promises.specs.Table.{least, most}
 use Rattle.promises.specs.Writes.{Untouched, WriteEffect, expectedOutput, WriteEffects}
@@ -126,20 +126,15 @@ pub record InRange (c : Core) (n : ℕ) (v : ℤ) : Type 0 where
   pub ranged : within-range c n v ≡ true
 
 in-range : (c : Core) (w : Writer) (n : ℕ) (v : ℤ) → writeRefusal c w n v ≡ none → InRange c n v
-unfolding accessOr valueRefusal
-in-range c w n v e =
-    go (eqb n 0) refl (ltb 32 n) refl (isShutOut (c .conditions .pins) w) refl (isOf n w) refl (ltb 25 n) refl (within-range c n v) refl
+unfolding valueRefusal
+in-range c w n v =
+    by-access (λ x y. x ≡ none → InRange c n v) (c .conditions .pins) w n (valueRefusal c n v) none (λ t e. not-both (sym e))
+    (λ s e. not-both (sym e)) (λ f h e. not-both (sym e)) (λ right k e. not-both (sym e))
+    (λ right first last e. go first last e (within-range c n v) refl)
   where
-    go : (a : Bool) → eqb n 0 ≡ a → (b : Bool) → ltb 32 n ≡ b → (p : Bool) → isShutOut (c .conditions .pins) w ≡ p →
-        (h : Bool) → isOf n w ≡ h → (d : Bool) → ltb 25 n ≡ d → (r : Bool) → within-range c n v ≡ r → InRange c n v
-    go true f b q p k h l d s r t = not-both {n = 4} (sym e ∙ rw f refl)
-    go false f true q p k h l d s r t = not-both {n = 4} (sym e ∙ rw (f, q) refl)
-    go false f false q true k h l d s r t = not-both {n = 19} (sym e ∙ rw (f, q, k) refl)
-    go false f false q false k false l d s r t = not-both {n = 20} (sym e ∙ rw (f, q, k, l) refl)
-    go false f false q false k true l true s r t = not-both {n = 5} (sym e ∙ rw (f, q, k, l, s) refl)
-    go false f false q false k true l false s false t = not-both {n = 6} (sym e ∙ rw (f, q, k, l, s, t) refl)
-    go false f false q false k true l false s true t =
-        let z = eqb-false n 0 f in record { first = omega arith; last = ltb-false 25 n s; ranged = t }
+    go : 1 ≤ n → n ≤ 25 → valueRefusal c n v ≡ none → (r : Bool) → within-range c n v ≡ r → InRange c n v
+    go first last e false t = not-both {n = 6} (sym e ∙ rw t refl)
+    go first last e true t = record { first = first; last = last; ranged = t }
 
 -- the ranges of MD and DS
 word-in-range : (c : Core) (n m : ℕ) (v : ℤ) → n ≡ m → InRange c n v → within-range c m v ≡ true
