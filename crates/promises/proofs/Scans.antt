@@ -23,9 +23,9 @@ use Rattle.parameters.specs.declared.Parameters.{Parameters}
 use Rattle.scaling.specs.Ratio.{ratioQuotient, inverseQuotient}
 use Rattle.scaling.specs.Root.{rootOf}
 use Rattle.scaling.specs.Scale.{scaled}
-use Rattle.setpoints.specs.Setpoints.{firstSample, processVariable, thirdChannel, movedByHand, ratioAfter, setpointMoved, setpointAfter}
-use Rattle.setpoints.specs.Setpoints.{trimOf, localSetpoint, remoteSetpoint, quotientOf, ratioSetpoint}
-use Rattle.setpoints.specs.Setpoints.{setpointIn, setpointOf, measuredPower}
+use Rattle.local_setpoint.specs.LocalSetpoint.{movedByHand, ratioAfter, setpointMoved, setpointAfter}
+use Rattle.setpoints.specs.Setpoints.{firstSample, processVariable, thirdChannel, trimOf, localSetpoint, remoteSetpoint, quotientOf}
+use Rattle.setpoints.specs.Setpoints.{ratioSetpoint, setpointIn, setpointOf, measuredPower}
 use Rattle.setpoints.specs.Computation.{computed, lowAlarm, highAlarm}
 use Rattle.setpoints.specs.ComputationLaws.{SampleRange, ratio-range}
 use Rattle.controller.specs.Scan.{modeNow, contextOf, computedIn, indicationsAfter, coreAfter, accepted}

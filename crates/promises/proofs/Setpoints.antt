@@ -23,8 +23,8 @@ use Rattle.modes.specs.declared.Mode.the-variants.{Hold, Track, Forced, Manual,
 use Rattle.scaling.specs.Root as roots
 use Rattle.scaling.specs.Root.{rootOf}
 use Rattle.scaling.specs.Scale.{scaled}
-use Rattle.setpoints.specs.Setpoints as setpoints
-use Rattle.setpoints.specs.Setpoints.{movedByHand}
+use Rattle.local_setpoint.specs.LocalSetpoint as rules
+use Rattle.local_setpoint.specs.LocalSetpoint.{movedByHand}
 use Rattle.guarantee.specs.Modes.{automaticMode, trackMode}
 use Rattle.promises.specs.Scans.{NearestUp, Scaled, RootOf, NearestEven, OneQuotient, moved}
 use Rattle.promises.specs.Words.{remoteOrRatio, ratioMode}
@@ -88,7 +88,7 @@ by-choice : (sp raise lower : Bool) (step low high v : ℤ) →
     (if sp && (raise && not lower) then limited low high (v +ℤ step) else
     if sp && (lower && not raise) then limited low high (v -ℤ step) else v)
     ≡ (if sp && true
-    then setpoints.moved (if raise then (if lower then Neither else Raise) else if lower then Lower else Neither) step low high v
+    then rules.moved (if raise then (if lower then Neither else Raise) else if lower then Lower else Neither) step low high v
     else v)
 by-choice false raise lower step low high v = refl
 by-choice true true true step low high v = refl

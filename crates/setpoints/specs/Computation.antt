@@ -9,7 +9,8 @@ use Rattle.modes.specs.Modes.{isRemote, isRatio}
 use Rattle.modes.specs.declared.Mode.{Mode}
 use Rattle.parameters.specs.Table.{withValue, HA, LA, HD, LD}
 use Rattle.parameters.specs.declared.Parameters.{Parameters}
-use Rattle.setpoints.specs.Setpoints.{processVariable, ratioAfter, setpointAfter, trimOf, setpointOf, measuredPower}
+use Rattle.local_setpoint.specs.LocalSetpoint.{ratioAfter, setpointAfter}
+use Rattle.setpoints.specs.Setpoints.{processVariable, trimOf, setpointOf, measuredPower}
 use Rattle.setpoints.specs.declared.Readings.{Readings}
 use Rattle.setpoints.specs.declared.Computed.{Computed}
 

@@ -1,35 +1,33 @@
--- How large the readings are, and that SL and RS stay within their limits.
+-- How large the readings are, that SP comes within its limits, and that the parameters stay legal.
 use mathlib.Core.Path.{_≡_}
-use mathlib.Core.Bool.{Bool, true, not, _&&_, _||_}
+use mathlib.Core.Bool.{Bool, true, _||_}
 use Prim.Native.Nat.{ℕ, _≤_}
 use native.Mathlib.Omega.{arith}
 use lib.Dec.{eqb}
-use lib.IntN.{ℤ, pos, negℤ, natAbs, _+ℤ_, _-ℤ_}
+use lib.IntN.{ℤ, pos, negℤ, natAbs, _-ℤ_}
 use lib.Signed.{leZ, _≤ℤ_, _<ℤ_}
 use mir.Syntax.{w64}
 use mir.Val.{toZ, ofZ}
 use Rattle.integers.specs.Choice.{if_then_else_, by-cases}
-use Rattle.integers.specs.Limit.{limited, limited-low, limited-high}
+use Rattle.integers.specs.Limit.{limited}
 use Rattle.integers.specs.Machine.{Small, back}
 use Rattle.integers.specs.Operations.{number, sum, difference, negation}
 use Rattle.integers.specs.Parts.{integers, apart}
-use Rattle.signals.specs.Signals.{buttonsOf, adjustmentOf, isOpen}
+use Rattle.signals.specs.Signals.{isOpen}
 use Rattle.signals.specs.declared.Input.{Input}
-use Rattle.signals.specs.declared.Adjustment.{Adjustment}
-use Rattle.signals.specs.declared.Adjustment.the-variants.{Raise, Lower, Neither}
 use Rattle.signals.specs.declared.Switches.{Switches}
-use Rattle.modes.specs.Modes.{isAutomatic, isTrack, isRemote, isRatio}
+use Rattle.modes.specs.Modes.{isTrack, isRemote, isRatio}
 use Rattle.modes.specs.declared.Mode.{Mode}
 use Rattle.parameters.specs.Legal.{Legal, isWithin}
 use Rattle.parameters.specs.LegalLaws.{Ordered, Inside, ranges, settings-legal, value-most}
-use Rattle.parameters.specs.Table.{value, H1, L1, H2, L2, H3, L3, HR, LR, HS, LS, SL, RS, RB, IC, LD}
+use Rattle.parameters.specs.Table.{value, H1, L1, H2, L2, H3, L3, HR, LR, HS, LS, SL, RB, IC, LD}
 use Rattle.parameters.specs.declared.Parameters.{Parameters}
 use Rattle.scaling.specs.Ratio.{RatioRange, ratioQuotient, inverseQuotient, ratio-size, inverse-size}
 use Rattle.scaling.specs.Root.{rootOf, root-most}
 use Rattle.scaling.specs.Scale.{scaled, ChannelRange, scaled-within}
+use Rattle.local_setpoint.specs.LocalSetpointLaws.{limited-inside, chosen-inside, ratio-inside, setpoint-inside, setpoint-limited}
 use Rattle.setpoints.specs.Computation.{computed}
-use Rattle.setpoints.specs.Setpoints.{firstSample, processVariable, thirdChannel, moved, movedByHand, ratioAfter}
-use Rattle.setpoints.specs.Setpoints.{setpointMoved, setpointAfter, trimOf, quotientOf, setpointOf, measuredPower}
+use Rattle.setpoints.specs.Setpoints.{firstSample, processVariable, thirdChannel, trimOf, quotientOf, setpointOf, measuredPower}
 
 -- the samples of an accepted scan
 pub record SampleRange (i : Input) : Type 0 where
@@ -89,12 +87,6 @@ module _ (p : Parameters) (legal : Legal p) where
   pub setpoint-reading : InReadingRange (SL p)
   setpoint-reading = parameter-reading 20 (omega arith) (omega arith)
 
-  pub setpoint-small : Small (SL p)
-  setpoint-small = reading-small (SL p) setpoint-reading
-
-  pub ratio-small : Small (RS p)
-  ratio-small = reading-small (RS p) (parameter-reading 21 (omega arith) (omega arith))
-
   pub deviation-small : Small (LD p)
   deviation-small = reading-small (LD p) (parameter-reading 14 (omega arith) (omega arith))
 
@@ -110,54 +102,10 @@ module _ (p : Parameters) (legal : Legal p) where
 pub zero-minus : (z : ℤ) → pos 0 -ℤ z ≡ negℤ z
 zero-minus z = omega (arith, integers, difference (pos 0) z, negation z)
 
--- ---- SL and RS stay within their limits, SP comes within them
-
-limited-inside : (low high x : ℤ) → low ≤ℤ high → Inside low (limited low high x) high
-limited-inside low high x h = record { not-below = limited-low low high x h; not-above = limited-high low high x }
-
-chosen-inside : (t : Bool) (low high x y : ℤ) → Inside low x high → Inside low y high → Inside low (if t then x else y) high
-chosen-inside t low high x y h k = by-cases (λ v. Inside low v high) t x y (λ e. h) (λ e. k)
-
-moved-inside : (adjustment : Adjustment) (by low high v : ℤ) → low ≤ℤ high → Inside low v high →
-    Inside low (moved adjustment by low high v) high
-moved-inside Raise by low high v o h = limited-inside low high (v +ℤ by) o
-moved-inside Lower by low high v o h = limited-inside low high (v -ℤ by) o
-moved-inside Neither by low high v o h = h
-
-by-hand-inside : (i : Input) (here : Bool) (by low high v : ℤ) → low ≤ℤ high → Inside low v high →
-    Inside low (movedByHand i here by low high v) high
-unfolding movedByHand
-by-hand-inside i here by low high v o h =
-    let b = buttonsOf (i .buttons) in
-    chosen-inside (b .sp && here) low high _ _ (moved-inside (adjustmentOf b) by low high v o h) h
-
 module _ (p : Parameters) (legal : Legal p) where
-  pub ratio-inside : (mode : Mode) (i : Input) → Inside (LR p) (ratioAfter p mode i) (HR p)
-  unfolding ratioAfter
-  ratio-inside mode i =
-      let r = ranges p legal in by-hand-inside i (isRatio mode) (pos 12) (LR p) (HR p) (RS p) (r .ratios .order) (r .ratio)
-
-  setpoint-moved-inside : (mode : Mode) (i : Input) → Inside (LS p) (setpointMoved p mode i) (HS p)
-  unfolding setpointMoved
-  setpoint-moved-inside mode i =
-      let r = ranges p legal in
-      by-hand-inside i (not (isRatio mode) && not (isRemote mode)) (pos 1) (LS p) (HS p) (SL p) (r .setpoints .order) (r .setpoint)
-
-  pub setpoint-inside : (setpointtracks : Bool) (mode : Mode) (i : Input) (pv : ℤ) →
-      Inside (LS p) (setpointAfter p setpointtracks mode i pv) (HS p)
-  unfolding setpointAfter
-  setpoint-inside setpointtracks mode i pv =
-      let r = ranges p legal in
-      chosen-inside (setpointtracks && not (isAutomatic mode)) (LS p)
-      (HS p) _ _ (chosen-inside (isOpen i) (LS p) (HS p) _ _ (r .setpoint) (limited-inside (LS p) (HS p) pv (r .setpoints .order)))
-      (setpoint-moved-inside mode i)
-
-  pub setpoint-limited : (x : ℤ) → Inside (LS p) (limited (LS p) (HS p) x) (HS p)
-  setpoint-limited x = limited-inside (LS p) (HS p) x (ranges p legal .setpoints .order)
-
   pub limited-setpoint : (s : Switches) (mode : Mode) (sl rs trim : ℤ) (i : Input) → Inside (LS p) (setpointOf p s mode sl rs trim i) (HS p)
   unfolding setpointOf
-  limited-setpoint s mode sl rs trim i = setpoint-limited _
+  limited-setpoint s mode sl rs trim i = setpoint-limited p legal _
 
   pub setpoint-read : {v : ℤ} → Inside (LS p) v (HS p) → InReadingRange v
   setpoint-read {v} h =

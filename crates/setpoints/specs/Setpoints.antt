@@ -1,21 +1,19 @@
--- Document 01, One scan, steps 1, 4 and 5: PV, the setpoint moved by hand, trim and SP.
-use mathlib.Core.Bool.{Bool, not, _&&_, _||_}
+-- Document 01, One scan, steps 1 and 5: PV, trim and SP.
+use mathlib.Core.Bool.{Bool, _||_}
 use Prim.Native.Nat.{ℕ}
 use lib.Dec.{eqb}
-use lib.IntN.{ℤ, pos, natAbs, _+ℤ_, _-ℤ_}
+use lib.IntN.{ℤ, pos, natAbs, _+ℤ_}
 use Rattle.integers.specs.Choice.{if_then_else_}
 use Rattle.integers.specs.Limit.{limited}
 use Rattle.scaling.specs.Ratio.{ratioQuotient, inverseQuotient}
 use Rattle.scaling.specs.Root.{rootOf}
 use Rattle.scaling.specs.Scale.{scaled}
-use Rattle.signals.specs.Signals.{buttonsOf, adjustmentOf, isOpen}
+use Rattle.signals.specs.Signals.{isOpen}
 use Rattle.signals.specs.declared.Input.{Input}
-use Rattle.signals.specs.declared.Adjustment.{Adjustment}
-use Rattle.signals.specs.declared.Adjustment.the-variants.{Raise, Lower, Neither}
 use Rattle.signals.specs.declared.Switches.{Switches}
-use Rattle.modes.specs.Modes.{isAutomatic, isTrack, isRemote, isRatio}
+use Rattle.modes.specs.Modes.{isTrack, isRemote, isRatio}
 use Rattle.modes.specs.declared.Mode.{Mode}
-use Rattle.parameters.specs.Table.{H1, L1, H2, L2, H3, L3, HR, LR, HS, LS, SL, RS, RB, IC}
+use Rattle.parameters.specs.Table.{H1, L1, H2, L2, H3, L3, HR, LR, HS, LS, RB, IC}
 use Rattle.parameters.specs.declared.Parameters.{Parameters}
 
 -- ---- step 1
@@ -31,35 +29,6 @@ processVariable p i = if isOpen i then L1 p else scaled (L1 p) (H1 p) (firstSamp
 -- channel 3, scaled
 unfoldable pub thirdChannel : Parameters → Input → ℤ
 thirdChannel p i = scaled (L3 p) (H3 p) (i .sample3)
-
--- ---- step 4
-
--- "one of them moves .. by .., the result then limited to"; "Raise and Lower together do nothing": `adjustmentOf`
-abbrev pub moved : Adjustment → ℤ → ℤ → ℤ → ℤ → ℤ
-moved Raise by low high v = limited low high (v +ℤ by)
-moved Lower by low high v = limited low high (v -ℤ by)
-moved Neither by low high v = v
-
--- "With SP held, one of them moves" v, in the modes where it is v that they move
-unfoldable pub movedByHand : Input → Bool → ℤ → ℤ → ℤ → ℤ → ℤ
-movedByHand i here by low high v =
-    let b = buttonsOf (i .buttons) in
-    if b .sp && here then moved (adjustmentOf b) by low high v else v
-
--- "RS by 12 in Ratio"
-unfoldable pub ratioAfter : Parameters → Mode → Input → ℤ
-ratioAfter p mode i = movedByHand i (isRatio mode) (pos 12) (LR p) (HR p) (RS p)
-
--- "else SL by 1, .. not in Remote"
-unfoldable pub setpointMoved : Parameters → Mode → Input → ℤ
-setpointMoved p mode i = movedByHand i (not (isRatio mode) && not (isRemote mode)) (pos 1) (LS p) (HS p) (SL p)
-
--- "With S2.6 ON in a non-automatic mode SL isn't moved; if channel 1 isn't open it becomes PV, limited to LS..HS."
-unfoldable pub setpointAfter : Parameters → Bool → Mode → Input → ℤ → ℤ
-setpointAfter p setpointtracks mode i pv =
-    if setpointtracks && not (isAutomatic mode)
-    then (if isOpen i then SL p else limited (LS p) (HS p) pv)
-    else setpointMoved p mode i
 
 -- ---- step 5
 

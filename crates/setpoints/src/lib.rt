@@ -1,20 +1,17 @@
-// Steps 1, 4 and 5 of a scan: PV, the setpoint and the ratio moved by hand, trim, SP, ER and MP; and the alarms.
+// Steps 1, 4 and 5 of a scan: PV, trim, SP, ER and MP, step 4 by `local_setpoint`; and the alarms.
 ghost use mathlib.Core.Path.{_≡_};
 ghost use Prim.Native.Nat.{_≤_};
-ghost use Rattle.integers.specs.Limit.{limited};
 ghost use Rattle.integers.specs.Machine.{Small};
 ghost use Rattle.scaling.specs.Ratio.{RatioRange};
 ghost use Rattle.scaling.specs.Scale.{scaled, ChannelRange};
 ghost use Rattle.parameters.specs.Legal.{Legal};
-ghost use Rattle.parameters.specs.Table.{value, HS, LS};
+ghost use Rattle.parameters.specs.Table.{value};
 ghost use Rattle.setpoints.specs.Computation.{computed, lowAlarm, highAlarm};
 ghost use Rattle.setpoints.specs.ComputationLaws.{SampleRange};
-ghost use Rattle.setpoints.specs.Setpoints.{firstSample, processVariable, thirdChannel, moved, movedByHand};
-ghost use Rattle.setpoints.specs.Setpoints.{ratioAfter, setpointMoved, setpointAfter, trimOf, localSetpoint};
+ghost use Rattle.setpoints.specs.Setpoints.{firstSample, processVariable, thirdChannel, trimOf, localSetpoint};
 ghost use Rattle.setpoints.specs.Setpoints.{remoteSetpoint, quotientOf, ratioSetpoint, setpointIn, measuredPower};
 use modes::Mode;
 use parameters::Parameters;
-use signals::Adjustment;
 use signals::Input;
 use signals::Switches;
 
@@ -31,11 +28,6 @@ pub struct Computed {
     pub parameters: Parameters,
     pub readings: Readings,
 }
-
-// What Raise or Lower moves RS and SL by while SP is held.
-const RATIO_STEP: i64 = 12;
-
-const SETPOINT_STEP: i64 = 1;
 
 // The magnitude of IC where channel 1's sample is rooted.
 const ROOT: u64 = parameters::ROOT as u64;
@@ -79,70 +71,6 @@ fn third_channel(p: Parameters, input: Input) -> i64
     ensures { λ r. ⌜ r ≡ thirdChannel p input ⌝ }
 {
     channel(p, parameters::L3, parameters::H3, input.sample3)
-}
-
-fn moved(adjustment: Adjustment, by: i64, low: i64, high: i64, v: i64) -> i64
-    requires { ⌜ Small by × Small v ⌝ }
-    ensures { λ r. ⌜ r ≡ moved adjustment by low high v ⌝ }
-{
-    match adjustment {
-        Adjustment::Raise => {
-            let to = integers::plus(v, by);
-            integers::limit(low, high, to)
-        }
-        Adjustment::Lower => {
-            let to = integers::minus(v, by);
-            integers::limit(low, high, to)
-        }
-        Adjustment::Neither => v,
-    }
-}
-
-fn moved_by_hand(input: Input, here: bool, by: i64, low: i64, high: i64, v: i64) -> i64
-    requires { ⌜ Small by × Small v ⌝ }
-    ensures { λ r. ⌜ r ≡ movedByHand input here by low high v ⌝ }
-{
-    let b = signals::buttons_of(input.buttons);
-    let adjustment = signals::adjustment_of(b);
-    let to = moved(adjustment, by, low, high, v);
-    integers::choose(b.sp & here, to, v)
-}
-
-fn ratio_after(p: Parameters, mode: Mode, input: Input) -> i64
-    requires { ⌜ Legal p ⌝ }
-    ensures { λ r. ⌜ r ≡ ratioAfter p mode input ⌝ }
-{
-    let ratio = modes::is_ratio(mode);
-    let rs = p.get(parameters::RS);
-    let low = p.get(parameters::LR);
-    let high = p.get(parameters::HR);
-    moved_by_hand(input, ratio, RATIO_STEP, low, high, rs)
-}
-
-fn setpoint_moved(p: Parameters, mode: Mode, input: Input) -> i64
-    requires { ⌜ Legal p ⌝ }
-    ensures { λ r. ⌜ r ≡ setpointMoved p mode input ⌝ }
-{
-    let ratio = modes::is_ratio(mode);
-    let remote = modes::is_remote(mode);
-    let sl = p.get(parameters::SL);
-    let low = p.get(parameters::LS);
-    let high = p.get(parameters::HS);
-    moved_by_hand(input, !ratio & !remote, SETPOINT_STEP, low, high, sl)
-}
-
-// SL after step 4. The contract rules out a setpoint that follows PV in an automatic mode or while channel 1 is open.
-fn setpoint_after(p: Parameters, setpointtracks: bool, mode: Mode, input: Input, pv: i64) -> i64
-    requires { ⌜ Legal p ⌝ }
-    ensures { λ r. ⌜ r ≡ setpointAfter p setpointtracks mode input pv ⌝ }
-{
-    let sl = p.get(parameters::SL);
-    let isopen = signals::is_open(input);
-    let limited = limited_setpoint(p, pv);
-    let followed = integers::choose(isopen, sl, limited);
-    let by_hand = setpoint_moved(p, mode, input);
-    let automatic = modes::is_automatic(mode);
-    integers::choose(setpointtracks & !automatic, followed, by_hand)
 }
 
 fn trim_of(p: Parameters, measuredpower: bool, mode: Mode, input: Input) -> i64
@@ -219,15 +147,6 @@ fn setpoint_in(
     local_setpoint(sl, s.ratio, trim)
 }
 
-// A setpoint limited to LS..HS.
-fn limited_setpoint(p: Parameters, v: i64) -> i64
-    ensures { λ r. ⌜ r ≡ limited (LS p) (HS p) v ⌝ }
-{
-    let low = p.get(parameters::LS);
-    let high = p.get(parameters::HS);
-    integers::limit(low, high, v)
-}
-
 fn measured_power(p: Parameters, measuredpower: bool, input: Input) -> i64
     requires { ⌜ Legal p × SampleRange input ⌝ }
     ensures { λ r. ⌜ r ≡ measuredPower p measuredpower input ⌝ }
@@ -249,11 +168,11 @@ pub fn compute(
     ensures { λ r. ⌜ r ≡ computed p s measuredpower mode input ⌝ }
 {
     let pv = process_variable(p, input);
-    let sl = setpoint_after(p, s.setpointtracks, mode, input, pv);
-    let rs = ratio_after(p, mode, input);
+    let sl = local_setpoint::setpoint_after(p, s.setpointtracks, mode, input, pv);
+    let rs = local_setpoint::ratio_after(p, mode, input);
     let trim = trim_of(p, measuredpower, mode, input);
     let unlimited = setpoint_in(p, s, mode, sl, rs, trim, input);
-    let sp = limited_setpoint(p, unlimited);
+    let sp = local_setpoint::limited_setpoint(p, unlimited);
     let er = integers::minus(pv, sp);
     let mp = measured_power(p, measuredpower, input);
     let remote = modes::is_remote(mode);

@@ -13,6 +13,7 @@ use Rattle.parameters.specs.Written.{written}
 use Rattle.rights.specs.Rights as g
 use Rattle.scaling.specs.Scale.{scaled}
 use Rattle.setpoints.specs.Computation as r
+use Rattle.local_setpoint.specs.LocalSetpoint as l
 use Rattle.setpoints.specs.Setpoints as p
 use Rattle.outputs.specs.History as h
 use Rattle.outputs.specs.Instruction as o
@@ -40,8 +41,8 @@ unfolding lineFigures held t.answered t.answeredTo t.readTo t.writtenTo t.replie
     s.responseFrom s.controllerAfter s.contextOf s.computedIn s.indicationsAfter s.coreAfter s.statusOf s.modeNow
     State.freshController State.freshCore State.startReadings a.opOf a.electricalOf refusedBy scanTests buttonsOf pinsOf
     switchesOf adjustmentOf m.counted m.openCountAfter m.conditionsAfter m.modeOf m.goesToMinimum byteOf mdHigh mdLow MD dsLow DS
-    value withValue r.computed r.lowAlarm r.highAlarm p.firstSample p.processVariable p.thirdChannel p.movedByHand
-    p.ratioAfter p.setpointMoved p.setpointAfter p.trimOf p.localSetpoint p.setpointIn p.setpointOf p.measuredPower
+    value withValue r.computed r.lowAlarm r.highAlarm p.firstSample p.processVariable p.thirdChannel l.movedByHand
+    l.ratioAfter l.setpointMoved l.setpointAfter p.trimOf p.localSetpoint p.setpointIn p.setpointOf p.measuredPower
     scaled halfUp Limit.limited Limit.atLeast Limit.atMost o.storedArithmetic o.changed o.limitedTo o.executed
     u.termsOf u.byTerms u.limitsIn u.instructionOf
 line-figures-hold =

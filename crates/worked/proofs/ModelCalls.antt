@@ -23,6 +23,7 @@ use Rattle.scaling.specs.Ratio.{ratioQuotient, inverseQuotient}
 use Rattle.scaling.specs.Root.{greatestTo, rootOf}
 use Rattle.scaling.specs.Scale.{scaled}
 use Rattle.setpoints.specs.Computation as e
+use Rattle.local_setpoint.specs.LocalSetpoint as l
 use Rattle.setpoints.specs.Setpoints as p
 use Rattle.terms.specs.Fraction.{whole, atLeast, atMost, limited, stored, storedUnits, limitedStored}
 use Rattle.terms.specs.Terms.{proportionalTerm, integralTerm, derivativeTerm, limitedTerm, storedTerm}
@@ -46,7 +47,7 @@ unfolding modelCalls s.scan s.scanCore s.accepted s.earlierScans h.historyBefore
     s.indicationsAfter s.coreAfter s.statusOf s.modeNow s.refused a.opOf a.electricalOf refusedBy scanTests buttonsOf
     pinsOf switchesOf adjustmentOf m.counted m.openCountAfter m.conditionsAfter m.modeOf m.goesToMinimum byteOf mdHigh
     mdLow MD dsLow DS value withValue e.computed e.lowAlarm e.highAlarm p.firstSample p.processVariable p.thirdChannel
-    p.movedByHand p.ratioAfter p.setpointMoved p.setpointAfter p.trimOf p.localSetpoint p.remoteSetpoint
+    l.movedByHand l.ratioAfter l.setpointMoved l.setpointAfter p.trimOf p.localSetpoint p.remoteSetpoint
     p.ratioSetpoint p.setpointIn p.setpointOf p.measuredPower scaled halfUp Limit.limited Limit.atLeast Limit.atMost
     d.controlDifference d.earlierSetpoint d.changeOfDifference d.secondDifference d.tuningOf h.historyAfter
     o.storedArithmetic o.changed o.limitedTo o.executed u.termsOf u.byTerms u.byHand u.minimumOf u.limitsIn

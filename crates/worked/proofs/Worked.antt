@@ -26,6 +26,7 @@ use Rattle.scaling.specs.Ratio.{ratioQuotient, inverseQuotient}
 use Rattle.scaling.specs.Root.{rootOf, root-from, root-is, root-same}
 use Rattle.scaling.specs.Scale.{scaled}
 use Rattle.setpoints.specs.Computation as r
+use Rattle.local_setpoint.specs.LocalSetpoint as l
 use Rattle.setpoints.specs.Setpoints as p
 use Rattle.terms.specs.Fraction.{whole, plus, atLeast, atMost, limited, stored, storedUnits, limitedStored}
 use Rattle.terms.specs.Terms.{proportionalTerm, integralTerm, derivativeTerm, limitedTerm, storedTerm}
@@ -55,8 +56,8 @@ unfolding scanFigures onceScanned biased s.refused h.historyAfter s.scan s.scanC
     s.controllerAfter s.contextOf s.computedIn s.indicationsAfter s.coreAfter s.statusOf s.modeNow State.freshController
     State.freshCore State.startReadings a.opOf a.electricalOf refusedBy scanTests buttonsOf pinsOf switchesOf
     adjustmentOf m.counted m.openCountAfter m.conditionsAfter m.modeOf m.goesToMinimum byteOf mdHigh mdLow MD dsLow DS
-    value withValue r.computed r.lowAlarm r.highAlarm p.firstSample p.processVariable p.thirdChannel p.movedByHand
-    p.ratioAfter p.setpointMoved p.setpointAfter p.trimOf p.localSetpoint p.setpointIn p.setpointOf p.measuredPower
+    value withValue r.computed r.lowAlarm r.highAlarm p.firstSample p.processVariable p.thirdChannel l.movedByHand
+    l.ratioAfter l.setpointMoved l.setpointAfter p.trimOf p.localSetpoint p.setpointIn p.setpointOf p.measuredPower
     scaled halfUp Limit.limited Limit.atLeast Limit.atMost d.controlDifference d.earlierSetpoint d.changeOfDifference
     d.secondDifference d.tuningOf o.storedArithmetic o.changed o.limitedTo o.executed u.termsOf u.byTerms u.limitsIn
     u.instructionOf proportionalTerm integralTerm derivativeTerm limitedTerm storedTerm whole atLeast atMost limited

@@ -3,7 +3,7 @@ use mir.Syntax.{w64}
 use borrow.Author.Needs.{needs}
 use Rattle.integers.specs.Machine.{back}
 use Rattle.controller.specs.State.{startReadings}
-use Rattle.setpoints.specs.ComputationLaws.{reading-small, low-reading, setpoint-small}
+use Rattle.setpoints.specs.ComputationLaws.{reading-small, low-reading, setpoint-reading}
 use Rattle.controller.proofs.start_readings.Statement.{statement}
 use Rattle.controller.proofs.start_readings.Tie as tie
 
@@ -20,7 +20,7 @@ minus-requires c κs =
     let start = c .before .before in
     simp (back w64 (get .result) (get .ok), back w64 (get2 .result) (get2 .ok)) (
       rw (get .ensures) (reading-small _ (low-reading (start .args .p) (start .pre))),
-      rw (get2 .ensures) (setpoint-small (start .args .p) (start .pre)),
+      rw (get2 .ensures) (reading-small _ (setpoint-reading (start .args .p) (start .pre))),
     )
 
 returns : tie.Need-returns

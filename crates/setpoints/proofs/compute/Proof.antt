@@ -1,8 +1,8 @@
 -- `setpoints::compute` meets its contract.
 use mir.Syntax.{w64}
 use borrow.Author.Needs.{needs}
-use Rattle.setpoints.specs.ComputationLaws.{reading-small, setpoint-read, ratio-read, setpoint-inside}
-use Rattle.setpoints.specs.ComputationLaws.{ratio-inside, trim-reading, pv-reading, setpoint-limited}
+use Rattle.local_setpoint.specs.LocalSetpointLaws.{ratio-inside, setpoint-inside, setpoint-limited}
+use Rattle.setpoints.specs.ComputationLaws.{reading-small, setpoint-read, ratio-read, trim-reading, pv-reading}
 use Rattle.setpoints.specs.Setpoints.{setpointOf}
 use Rattle.integers.specs.Machine.{back}
 use Rattle.setpoints.specs.Computation.{computed}

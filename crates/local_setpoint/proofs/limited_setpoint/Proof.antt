@@ -1,10 +1,10 @@
--- `setpoints::limited_setpoint` meets its contract.
+-- `local_setpoint::limited_setpoint` meets its contract.
 use mir.Facts.{toZ-ofZ}
 use mir.Syntax.{w64}
 use borrow.Author.Needs.{needs}
 use Rattle.integers.specs.Machine.{back}
-use Rattle.setpoints.proofs.limited_setpoint.Statement.{statement}
-use Rattle.setpoints.proofs.limited_setpoint.Tie as tie
+use Rattle.local_setpoint.proofs.limited_setpoint.Statement.{statement}
+use Rattle.local_setpoint.proofs.limited_setpoint.Tie as tie
 
 get-requires : tie.Need-get-requires
 get-requires c κs = search needs

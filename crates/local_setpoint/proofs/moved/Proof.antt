@@ -1,10 +1,10 @@
--- `setpoints::moved` meets its contract.
+-- `local_setpoint::moved` meets its contract.
 use mir.Facts.{toZ-ofZ}
 use mir.Syntax.{w64}
 use borrow.Author.Needs.{needs}
 use Rattle.integers.specs.Machine.{back}
-use Rattle.setpoints.proofs.moved.Statement.{statement}
-use Rattle.setpoints.proofs.moved.Tie as tie
+use Rattle.local_setpoint.proofs.moved.Statement.{statement}
+use Rattle.local_setpoint.proofs.moved.Tie as tie
 
 enum-told : tie.Need-enum-told
 enum-told c = search needs

@@ -1,11 +1,11 @@
--- `setpoints::setpoint_after` meets its contract.
+-- `local_setpoint::setpoint_after` meets its contract.
 use mir.Facts.{toZ-ofZ}
 use mir.Syntax.{w64}
 use borrow.Author.Needs.{needs}
 use Rattle.integers.specs.Machine.{back}
-use Rattle.setpoints.specs.Setpoints.{setpointAfter}
-use Rattle.setpoints.proofs.setpoint_after.Statement.{statement}
-use Rattle.setpoints.proofs.setpoint_after.Tie as tie
+use Rattle.local_setpoint.specs.LocalSetpoint.{setpointAfter}
+use Rattle.local_setpoint.proofs.setpoint_after.Statement.{statement}
+use Rattle.local_setpoint.proofs.setpoint_after.Tie as tie
 
 get-requires : tie.Need-get-requires
 get-requires c κs = search needs

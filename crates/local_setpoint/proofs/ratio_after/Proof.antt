@@ -1,12 +1,12 @@
--- `setpoints::ratio_after` meets its contract.
+-- `local_setpoint::ratio_after` meets its contract.
 use native.Mathlib.Omega.{arith}
 use mir.Syntax.{w64}
 use borrow.Author.Needs.{needs}
-use Rattle.setpoints.specs.ComputationLaws.{ratio-small}
+use Rattle.local_setpoint.specs.LocalSetpointLaws.{ratio-small}
 use Rattle.integers.specs.Machine.{back}
-use Rattle.setpoints.specs.Setpoints.{ratioAfter}
-use Rattle.setpoints.proofs.ratio_after.Statement.{statement}
-use Rattle.setpoints.proofs.ratio_after.Tie as tie
+use Rattle.local_setpoint.specs.LocalSetpoint.{ratioAfter}
+use Rattle.local_setpoint.proofs.ratio_after.Statement.{statement}
+use Rattle.local_setpoint.proofs.ratio_after.Tie as tie
 
 is-ratio-requires : tie.Need-is-ratio-requires
 is-ratio-requires c κs = search needs

@@ -1,12 +1,12 @@
--- `setpoints::setpoint_moved` meets its contract.
+-- `local_setpoint::setpoint_moved` meets its contract.
 use native.Mathlib.Omega.{arith}
 use mir.Syntax.{w64}
 use borrow.Author.Needs.{needs}
-use Rattle.setpoints.specs.ComputationLaws.{setpoint-small}
+use Rattle.local_setpoint.specs.LocalSetpointLaws.{setpoint-small}
 use Rattle.integers.specs.Machine.{back}
-use Rattle.setpoints.specs.Setpoints.{setpointMoved}
-use Rattle.setpoints.proofs.setpoint_moved.Statement.{statement}
-use Rattle.setpoints.proofs.setpoint_moved.Tie as tie
+use Rattle.local_setpoint.specs.LocalSetpoint.{setpointMoved}
+use Rattle.local_setpoint.proofs.setpoint_moved.Statement.{statement}
+use Rattle.local_setpoint.proofs.setpoint_moved.Tie as tie
 
 is-ratio-requires : tie.Need-is-ratio-requires
 is-ratio-requires c κs = search needs

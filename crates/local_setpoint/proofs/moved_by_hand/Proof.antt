@@ -1,11 +1,11 @@
--- `setpoints::moved_by_hand` meets its contract.
+-- `local_setpoint::moved_by_hand` meets its contract.
 use mir.Facts.{toZ-ofZ}
 use mir.Syntax.{w64}
 use borrow.Author.Needs.{needs}
 use Rattle.integers.specs.Machine.{back}
-use Rattle.setpoints.specs.Setpoints.{movedByHand}
-use Rattle.setpoints.proofs.moved_by_hand.Statement.{statement}
-use Rattle.setpoints.proofs.moved_by_hand.Tie as tie
+use Rattle.local_setpoint.specs.LocalSetpoint.{movedByHand}
+use Rattle.local_setpoint.proofs.moved_by_hand.Statement.{statement}
+use Rattle.local_setpoint.proofs.moved_by_hand.Tie as tie
 
 buttons-of-requires : tie.Need-buttons-of-requires
 buttons-of-requires c κs = search needs

@@ -1,0 +1,2 @@
+pub mod LocalSetpoint
+pub mod LocalSetpointLaws
