@@ -6,9 +6,11 @@ Usage: python3 -B -m demo.feed LEADING FOLLOWING CONSOLE
 LEADING and FOLLOWING are sessions in the form that demo/play.py reads, with equally many scans. The PV that a scan of
 the leading dryer answers, turned back into a sample by that dryer's range, becomes sample 2 of the following dryer's
 scan before it is played, and must be the one recorded. A line is shown for each scan behind which SP and SL are read in
-both sessions. Behind them come the drying sheets of both.
+both sessions. Behind them it is told of each drop-out of Remote or Ratio whether the setpoint stayed; then come the
+drying sheets of both.
 """
 
+import itertools
 import sys
 import textwrap
 from typing import NamedTuple
@@ -78,6 +80,17 @@ def show(leading, following):
             notes = []
 
 
+def drop_outs(scans):
+    """What became of the setpoint, in words, at each scan that fell back from Remote or Ratio."""
+    for number, (before, now) in enumerate(itertools.pairwise(scans), 2):
+        if now.answer.mode != "Fall-back" or before.answer.mode not in ("Remote", "Ratio"):
+            continue
+        (SP_before, SP), lower = (scan.read["SP"] / 10 for scan in (before, now)), (now.read["SP"] - now.read["SL"]) / 10
+        moved = f"stays at {SP:.1f} degrees" if SP == SP_before else f"moves from {SP_before:.1f} to {SP:.1f} degrees"
+        local = f"though SL is {abs(lower):.1f} degrees {'lower' if lower > 0 else 'higher'}" if lower else "and SL is equal to it"
+        yield f"Scan {number}: {before.answer.mode} drops out, and the setpoint of the following dryer {moved}, {local}."
+
+
 def main():
     leading_session, following_session, console = sys.argv[1:]
     calls = list(read_session(leading_session))
@@ -91,6 +104,7 @@ def main():
     following = scans_of(calls, answers)
     show(leading, following)
     print(f"\n{len(following)} scans: sample 2 of the following dryer is the leading dryer's PV, as recorded, in each.")
+    print(*(textwrap.fill(told, WIDTH, subsequent_indent="    ") for told in drop_outs(following)), sep="\n")
     show_sheets("The drying sheets of both lots", {"leading dryer": leading_sheet, "following dryer": following_sheet}, "degrees")
     return 0
 

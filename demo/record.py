@@ -29,9 +29,10 @@ HEADS = {
     FOLLOWING: """\
 # The following dryer, call by call: what the console is given. Text behind a # is a comment. Made with a simple drum,
 # not measured. Sample 2 of each scan is the sample that gives the PV of the leading dryer, leading.txt, in the same
-# scan. Pins: 128 Hold at 15 V, 64 Track, 32 Remote, 2 unit address; buttons: 64 Raise, 8 SP, 4 R. The last number is
-# that of another host's milliseconds, 36 from scan to scan too. A write names its writer. Parameters: 1 1H, 3 2H, 7 HR,
-# 8 LR, 9 HS, 17 XP, 18 TI, 20 SL, 21 RS, 22 RB, 29 SP.
+# scan. Sample 3 is the preset in Track, else the trim: with 3H 100 and 3L -100 sample 5750 is 15. Pins: 128 Hold at 15
+# V, 64 Track, 32 Remote, 2 unit address; buttons: 64 Raise, 8 SP, 4 R. The last number is that of another host's
+# milliseconds, 36 from scan to scan too. A write names its writer. Parameters: 1 1H, 3 2H, 5 3H, 6 3L, 7 HR, 8 LR, 9
+# HS, 17 XP, 18 TI, 20 SL, 21 RS, 22 RB, 29 SP.
 """}
 SCANS, DISPLAY_EVERY, APART = 120, 6, 36  # the last in milliseconds
 RANGE = 1200            # 0 to 120.0 degrees on channels 1 and 2
@@ -81,13 +82,20 @@ class Dryer:
 # What happens before a scan, by its number; each as a note and the writes.
 LEADING_WRITES = {34: ("The setpoint is written: 75 degrees", {"SL": 750}), 70: ("The setpoint is written: 55 degrees", {"SL": 550}),
                   100: ("The setpoint is written: 68 degrees", {"SL": 680})}
-# The parts of the following dryer's session: its first scan, SW, note and parameters.
-PARTS = {1: (0x0000, "Remote: S2.1 is OFF; the setpoint is the leading dryer's PV", {"SL": 430}),
-         45: (0x8000, "Ratio: started fresh with S2.1 ON; the setpoint is 100 x PV / RS + RB, RS in hundredths",
-              {"SL": 520, "RS": 125, "RB": -20}),
-         85: (0xA000, "Inverse ratio: started fresh with S2.3 ON too; the setpoint is PV x RS / 100 + RB", {"SL": 560, "RS": 80, "RB": 30})}
+# The parts of the following dryer's session: its first scan, SW, note, sample 3 and parameters.
+TRIM, TRIM_RANGE = 5750, {"channel_3L": -100, "channel_3H": 100}  # a trim of 15
+PARTS = {1: (0x0000, "Remote: S2.1 is OFF; the setpoint is the leading dryer's PV and a trim of 1.5 degrees on channel 3", TRIM,
+             {**TRIM_RANGE, "SL": 430}),
+         45: (0x8000, "Ratio: started fresh with S2.1 ON; the setpoint is 100 x PV / (RS + trim) + RB, RS and the trim, 0.15, "
+              "in hundredths", TRIM, {**TRIM_RANGE, "SL": 520, "RS": 110, "RB": -20}),
+         85: (0xA000, "Inverse ratio: started fresh with S2.3 ON too, no trim; the setpoint is PV x RS / 100 + RB", 0,
+              {"SL": 560, "RS": 80, "RB": 30})}
 WITHOUT_REMOTE = {**dict.fromkeys(range(22, 31), "Remote"), **dict.fromkeys(range(72, 79), "Ratio"),
                   **dict.fromkeys(range(106, 113), "Ratio")}
+# What is noted where the Remote pin goes to 0 V, by the first scan without it
+DROPPED_OUT = {22: "Fall-back; the setpoint stays, though SL is 1.5 degrees lower, without the trim",
+               72: "Fall-back, which has no trim with S2.1 ON; the setpoint stays",
+               106: "Fall-back, the setpoint stays"}
 RAISED, RS_WRITTEN, SL_REFUSED, SL_WRITTEN = (56, 57), 64, 60, 74
 DISPLAYED = {1, 3, 4, 5, 21, 22, 30, 31, 45, 46, 47, 55, 56, 57, 60, 64, 71, 72, 74, 78, 79, 85, 86, 87, 105, 106, 112, 113}
 
@@ -115,7 +123,7 @@ def lead(dryer, number):
 def before_scan(dryer, number):
     """The following dryer's writes: a fresh start and the parameters of a part, and some between scans."""
     if number in PARTS:
-        SW, note, parameters = PARTS[number]
+        SW, note, _, parameters = PARTS[number]
         dryer.call("fresh", SW, note=note)
         dryer.write(channel_1H=RANGE, channel_2H=RANGE, HS=900, XP=250, TI=4, LR=50, HR=200, **parameters)
     if number == SL_REFUSED:
@@ -123,7 +131,7 @@ def before_scan(dryer, number):
     if number == SL_WRITTEN:
         dryer.call("write", "operator", NUMBER["SL"], 480, note="SL can be written in Fall-back: 48 degrees")
     if number == RS_WRITTEN:
-        dryer.call("write", "operator", NUMBER["RS"], 110, note="RS is written: 1.10")
+        dryer.call("write", "operator", NUMBER["RS"], 95, note="RS is written: 0.95")
         dryer.read("RS")
 
 
@@ -131,19 +139,19 @@ def follow(dryer, number, sample):
     """One scan of the following dryer, with the leading dryer's PV as channel 2."""
     before_scan(dryer, number)
     first = max(start for start in PARTS if start <= number)
+    trim = PARTS[first][2]
     if number == first:
         dryer.scan(TRACK | NO_REMOTE, sample, dryer.OP or 3000, note="Track: the output is taken over where it stands")
     elif number == first + 1:
-        dryer.scan(REMOTE, sample, buttons=R_BUTTON, note="R is pressed, the Remote pin is at 15 V: "
-                   + ("Remote" if first == 1 else "Ratio"))
+        dryer.scan(REMOTE, sample, trim, R_BUTTON, "R is pressed, the Remote pin is at 15 V: " + ("Remote" if first == 1 else "Ratio"))
     elif number in WITHOUT_REMOTE:
-        dryer.scan(NO_REMOTE, sample, note="The Remote pin goes to 0 V: Fall-back, the setpoint stays" if number - 1 not in WITHOUT_REMOTE
-                   else "")
+        dropped_out = DROPPED_OUT.get(number)
+        dryer.scan(NO_REMOTE, sample, trim, note=f"Remote pin at 0 V: {dropped_out}" if dropped_out else "")
     else:
         back = WITHOUT_REMOTE.get(number - 1)
         raised = "SP and Raise are held: RS goes up by 12 a scan" if number == RAISED[0] else ""
-        dryer.scan(REMOTE, sample, buttons=SP_AND_RAISE if number in RAISED else 0,
-                   note=f"The Remote pin is at 15 V again: {back}" if back else raised)
+        dryer.scan(REMOTE, sample, trim, SP_AND_RAISE if number in RAISED else 0,
+                   f"The Remote pin is at 15 V again: {back}" if back else raised)
     dryer.show(number, DISPLAYED)
 
 

@@ -19,6 +19,7 @@ from tests.comparison.program import NO_END, PROGRAM_SECONDS, SHORT_SECONDS, run
 from tests.comparison.shortest import print_broken_claim, print_wrong_answer
 from tests.coverage.clock import ClockCoverage
 from tests.coverage.coverage import print_counts
+from tests.coverage.drop_outs import DropOutCoverage
 from tests.coverage.images import ImageCoverage
 from tests.coverage.parameters import ParameterCoverage
 from tests.coverage.power_cuts import PowerCutCoverage
@@ -32,7 +33,7 @@ from tests.coverage.writes import WriteCoverage
 from tests.figures import check as figure_check
 from tests.gate import tally
 from tests.lists import clock as clock_lists
-from tests.lists import power_cuts
+from tests.lists import drop_outs, power_cuts
 from tests.lists import images as image_lists
 from tests.lists import parameters as parameter_lists
 from tests.lists import ratio_halves
@@ -50,11 +51,11 @@ from tests.model.pair import Pair, answers_of
 DEFAULT_SEED = 6360
 INPUTS, AT_ONCE = 4, 2     # the lists are shared out among so many runs of the program, so many of them at once
 COVERAGES = (ScanCoverage, ParameterCoverage, WriteCoverage, ImageCoverage, PowerCutCoverage, SheetCoverage, ClockCoverage,
-             RootCoverage, TerminalCoverage, RatioHalfCoverage, RightsCoverage)
+             RootCoverage, TerminalCoverage, RatioHalfCoverage, RightsCoverage, DropOutCoverage)
 KINDS = ((scan_lists, ScanCoverage), (parameter_lists, ParameterCoverage), (write_lists, WriteCoverage), (image_lists, ImageCoverage),
          (restart_lists, ImageCoverage), (power_cuts, PowerCutCoverage), (sheet_lists, SheetCoverage),
          (clock_lists, ClockCoverage), (root_lists, RootCoverage), (terminal_lists, TerminalCoverage),
-         (ratio_halves, RatioHalfCoverage), (rights_lists, RightsCoverage))
+         (ratio_halves, RatioHalfCoverage), (rights_lists, RightsCoverage), (drop_outs, DropOutCoverage))
 FAULTS_PRINTED = 10
 
 

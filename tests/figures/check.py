@@ -1,6 +1,7 @@
 """Compares what was worked by hand, and the manual's own figures, with the model and with a program."""
 
 from tests.figures import clock as clock_figures
+from tests.figures import drop_outs as drop_out_figures
 from tests.figures import images as image_figures
 from tests.figures import manual as manual_figures
 from tests.figures import rights as rights_figures
@@ -16,7 +17,7 @@ from tests.model.lines import line_of, text_of
 from tests.model.state import Exact, Parameters, Stored
 from tests.model.table import NUMBER
 
-CASES = (*scan_figures.CASES, *write_figures.CASES, *image_figures.CASES, *clock_figures.CASES)
+CASES = (*scan_figures.CASES, *write_figures.CASES, *image_figures.CASES, *clock_figures.CASES, *drop_out_figures.CASES)
 # "requests Manual with output 0, user bits and MD bit 4 zero, no memory fault, and no earlier PV or SP remembered";
 # "pins 80h, no buttons, open count 0, PV = 1L, SP = SL, ER = PV - SP, MP 0, battery good, no alarms"; 1L and SL are 0.
 FRESH = {"SW": 0x1234, "request": "M", "output": 0, "user_bits": 0, "measured_power": False, "memory_fault": False, "previous_PV": None,
@@ -117,7 +118,8 @@ def all_lines():
     """
     for case in CASES:
         yield from ((case.name, *line) for line in lines_of(case))
-    for name, steps in (*manual_figures.FIGURES, *sheet_figures.FIGURES, *terminal_figures.FIGURES, *rights_figures.FIGURES):
+    for name, steps in (*manual_figures.FIGURES, *sheet_figures.FIGURES, *terminal_figures.FIGURES, *rights_figures.FIGURES,
+                        *drop_out_figures.FIGURES):
         yield from ((name, *line) for line in timed((("fresh 0", "ok"), *steps)))
 
 

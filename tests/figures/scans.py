@@ -128,7 +128,7 @@ CASES = (
     Case("root", 0, {"IC": 1}, [scan(0xA0, 400, 400, buttons=R)], {"PV": 200, "SP": 40, "ER": 160}),
     Case("open reads 1L", 0, {"channel_1L": -7}, [scan(first=5000, sensors=1)], {"PV": -7, "ER": -7}),
     Case("Remote by 1L, 1H, with trim", 0, {"channel_1L": -500, "channel_1H": 500, "LS": -999}, [scan(0xA0, 0, 2500, 5000, R)],
-         {"SP": -249, "SL": -249, "ER": -251}),
+         {"SP": -249, "SL": -250, "ER": -251}),
     Case("no trim in Track", 0, {"channel_3H": 100}, [track(5000)], {"SP": 0, "MP": 0}),
     Case("no trim with S2.1 ON", S2_1, {"channel_3H": 100}, [scan(third=5000)], {"SP": 0}),
     Case("no trim with MD bit 4", 0, {"channel_3H": 100, "measured_power": True}, [scan(third=5000)], {"SP": 0, "MP": 50}),

@@ -5,13 +5,14 @@ It is written apart from the rules: the conditions of the modes, the causes, the
 outright settings are written out here again from the paper's words, and are read from the exact controller.  So is the
 clock of document 02, request 2: the reading that is remembered, and what a gap forgets, are told from the calls and
 their answers.  A line of request 4 is taken for the read or write that it names (`line_claim.py`), and who may write
-what is told from the list by request 6 (`rights_claim.py`).  Nothing of the rules is called, and of the model only the
-names of the state items are used.
+what is told from the list by request 6 (`rights_claim.py`).  So is what request 7 promises where Remote drops out
+(`drop_out_claim.py`).  Nothing of the rules is called, and of the model only the names of the state items are used.
 """
 
 from functools import lru_cache
 from operator import itemgetter
 
+from tests.model.drop_out_claim import DropOutClaim
 from tests.model.line_claim import LineClaim
 from tests.model.rights_claim import RightsClaim
 from tests.model.state import Controller
@@ -97,7 +98,7 @@ class Claim:
         self.restart_brought_fault = False  # whether the last accepted restart brought the memory fault
         self.cleared_since = False          # an accepted write of MD with bit 8 zero came after that restart
         self.reading, self.remembered = None, 0
-        self.lines, self.rights = LineClaim(), RightsClaim()
+        self.lines, self.rights, self.drop_outs = LineClaim(), RightsClaim(), DropOutClaim()
 
     def broken(self, call, before, after, answers, mode_of):
         """The parts of the claim that this call has broken.
@@ -116,7 +117,8 @@ class Claim:
             return [*untimely, *broken_line, *broken_answers(call, after, None, answers)]
         mode, indicated = first_mode_present(exact), mode_of(stored)
         self.follow(call, before[1], exact, answers[1], mode)
-        return [*untimely, *broken_line, *self.broken_states(after), *broken_leaving(call, before, after, answers),
+        return [*untimely, *broken_line, *self.drop_outs.broken(call, before, after, answers),
+                *self.broken_states(after), *broken_leaving(call, before, after, answers),
                 *broken_answers(call, after, mode, answers),
                 *self.broken_output(stored, exact, mode),
                 *([] if indicated == mode else [f"the mode is {indicated}, the first condition present is that of {mode}"])]

@@ -148,7 +148,10 @@ def ratio_setpoint(SW, parameters, trim, sample_2):
 
 
 def with_setpoint(now, parameters, mode, given):
-    """Step 5: SP, SL, ER and MP of this scan; and the alarms, which follow from PV and ER."""
+    """Step 5: SP, SL, ER and MP of this scan; and the alarms, which follow from PV and ER.
+
+    Document 02, request 7: "in Remote, SL takes SP less the trim, limited to LS..HS.  Ratio keeps SL equal to SP".
+    """
     scaled_3 = scale(parameters.channel_3L, parameters.channel_3H, given.sample_3)
     trim = 0 if mode == "Track" or now.measured_power else scaled_3
     if mode == "Remote":
@@ -159,7 +162,7 @@ def with_setpoint(now, parameters, mode, given):
         SP = parameters.SL if now.SW & S2_1 else parameters.SL + trim
     SP = limit(parameters.LS, parameters.HS, SP)
     if mode in ("Remote", "Ratio"):
-        parameters = parameters._replace(SL=SP)
+        parameters = parameters._replace(SL=SP if mode == "Ratio" else limit(parameters.LS, parameters.HS, SP - trim))
     ER = now.PV - SP
     return now._replace(parameters=parameters, SP=SP, ER=ER, MP=scaled_3 if now.measured_power else 0,
                         low_alarm=now.PV < parameters.LA or ER < -parameters.LD,

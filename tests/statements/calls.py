@@ -36,7 +36,7 @@ KEPT = {
         700: "Manual, open: Raise without SP moves the output 12 units; S2.6 ON, SL stays",
         1233: "the memory fault: Forced Manual, request Manual; Raise and Lower together; S2.6 ON, SL limited to LS",
         2370: "85th open scan in Fall-back, behind a gap, S2.5 ON: Forced Manual, the output goes to LO",
-        2660: "Remote: SP is channel 2 by 1L, 1H, and trim; SL becomes SP; derivative in seconds; high alarm by ER",
+        2660: "Remote: SP is channel 2 by 1L, 1H, and trim; SL is SP less the trim; derivative in seconds; high alarm by ER",
         2688: "Auto, S1.1 OFF: c1 has the present SP; SP is SL and trim; A pressed",
         4953: "Hold, behind a gap: only this scan is remembered; output kept beyond HO; A pressed; SP with Lower moves SL by 1",
         6564: "Fall-back, S2.4 ON: integral in seconds; no trim with S2.1 ON; low alarm by ER",
@@ -52,6 +52,13 @@ KEPT = {
     "ratio": {
         0: "S2.3 OFF, channel 2 at an exact half, which goes up, to q 305: 762.5 goes to 762, and RB 7 is added after",
         1: "S2.3 ON, channel 2 at an exact half, which goes up, to q -93: -46.5 goes to -46, and RB -9 is added after",
+    },
+    "drop-out": {
+        0: "Remote, trim 15: SP limited to HS 700, and SL takes it less the trim, 685, not channel 2",
+        1: "Remote, trim -25: SP 695 less the trim is above HS, SL is limited to it",
+        2: "Remote, open, trim 30: SP -280 less the trim is below LS, SL is limited to it",
+        3: "Remote, MD bit 4 set: no trim though channel 3 is 15, so SL becomes SP",
+        4: "Fall-back straight after the first of these, with the same channel 3: SP is SL and trim, 700 again",
     },
     "write": {
         55: "HR limits RS anew, in Hold",
@@ -91,6 +98,10 @@ IN_AUTO = 11597  # a scan in which forgetting PV alone, SP alone or the PV befor
 # and s 50.  Halves away from zero or to odd, RB added before the rounding and channel 2 to even each give another SP.
 AT_A_HALF = ((0, 5045, 2000, {"channel_2H": 800, "channel_2L": -200, "channel_3H": 20, "channel_3L": -20, "RS": 52, "RB": 7}),
              (S2_3, 4130, 3000, {"channel_2H": 200, "channel_2L": -300, "channel_3H": 40, "channel_3L": 0, "RS": 38, "RB": -9}))
+
+# Remote with LS -300 and HS 700: samples 2 and 3, the sensor byte, MD bit 4, 3H and 3L.  Channel 2 reads 690, 720, -310
+# and 122, channel 3 reads 15, -25, 30 and 15.
+TRIMMED = ((6725, 5833, 0, False, 40, -20), (6800, 6500, 0, False, 10, -90), (4225, 6000, 1, False, 50, 0), (5305, 5833, 2, True, 40, -20))
 
 
 # The calls drawn, as the state before and the call ------------------------------------
@@ -135,6 +146,21 @@ def ratio_scans():
         before = state._replace(SW=state.SW & ~S2_3 | S2_1 | switches, parameters=parameters, request="R", pins=0xA0, open_count=0,
                                 measured_power=False, PV=20, SP=30, ER=-10, previous_PV=20, previous_SP=30)
         yield before, ("scan", 0xA5, generator.randint(0, 10000), sample_2, sample_3, 0, 0, before.clock + 36)
+
+
+def drop_out_scans():
+    """Scans in Remote with a trim, or with measured power in its place, in drawn states; and Fall-back behind one."""
+    generator, scanned = random.Random(SEED), []
+    for sample_2, sample_3, sensors, power, channel_3H, channel_3L in TRIMMED:
+        state = drawn_state(generator)
+        parameters = state.parameters._replace(channel_1H=2000, channel_1L=-2000, channel_3H=channel_3H, channel_3L=channel_3L, HS=700,
+                                               LS=-300, SL=generator.randint(-300, 700), HO=9999, LO=0, XP=9000, TD=0, IC=0)
+        before = state._replace(SW=state.SW & ~S2_1, parameters=parameters, request="R", pins=0xA0, open_count=0, measured_power=power,
+                                PV=20, SP=30, ER=-10, previous_PV=20, previous_SP=30)
+        scanned.append((before, ("scan", 0xA5, generator.randint(0, 10000), sample_2, sample_3, 0, sensors, before.clock + 36)))
+    yield from scanned
+    (before, call), *_ = scanned
+    yield loop.make(before, call, Stored)[0], ("scan", 0x85, generator.randint(0, 10000), 0, call[4], 0, 0, call[-1] + 36)
 
 
 def drawn_state(generator):
@@ -224,7 +250,7 @@ def saves():
 
 def statements():
     """Each statement that is kept, with what it shows."""
-    drawn = {"scan": scans, "clock": clock_scans, "ratio": ratio_scans, "write": drawn_writes,
+    drawn = {"scan": scans, "clock": clock_scans, "ratio": ratio_scans, "drop-out": drop_out_scans, "write": drawn_writes,
              "write under the fault": writes_under_the_fault, "rights": writes_by_right, "read": reads, "restart": restarts, "save": saves}
     for kind, kept in KEPT.items():
         for number, call in enumerate(itertools.islice(drawn[kind](), max(kept) + 1)):

@@ -1,4 +1,5 @@
--- Document 01, One scan, step 4: the local setpoint SL and the ratio setpoint RS, moved by hand; SL that tracks PV.
+-- Document 01, One scan: the local setpoint SL and the ratio setpoint RS. Step 4: moved by hand; SL that tracks PV.
+-- Step 5: SL that follows SP.
 use mathlib.Core.Bool.{Bool, not, _&&_}
 use lib.IntN.{ℤ, pos, _+ℤ_, _-ℤ_}
 use Rattle.integers.specs.Choice.{if_then_else_}
@@ -11,6 +12,8 @@ use Rattle.modes.specs.Modes.{isAutomatic, isRemote, isRatio}
 use Rattle.modes.specs.declared.Mode.{Mode}
 use Rattle.parameters.specs.Table.{HR, LR, HS, LS, SL, RS}
 use Rattle.parameters.specs.declared.Parameters.{Parameters}
+
+-- ---- step 4
 
 -- "one of them moves .. by .., the result then limited to"; "Raise and Lower together do nothing": `adjustmentOf`
 abbrev pub moved : Adjustment → ℤ → ℤ → ℤ → ℤ → ℤ
@@ -38,3 +41,12 @@ setpointAfter p setpointtracks mode i pv =
     if setpointtracks && not (isAutomatic mode)
     then (if isOpen i then SL p else limited (LS p) (HS p) pv)
     else setpointMoved p mode i
+
+-- ---- step 5
+
+-- "In Remote and Ratio SL becomes SP.", of which document 02, request 7: "From now on, in Remote, SL takes SP less the
+-- trim, limited to LS..HS. Ratio keeps SL equal to SP."; in any other mode it is what step 4 has left, sl
+unfoldable pub followingSetpoint : Parameters → Mode → ℤ → ℤ → ℤ → ℤ
+followingSetpoint p mode sl sp trim =
+    if isRemote mode then limited (LS p) (HS p) (sp -ℤ trim) else
+    if isRatio mode then sp else sl

@@ -17,6 +17,7 @@ use Rattle.parameters.specs.LegalLaws.{Inside, ranges, value-most}
 use Rattle.parameters.specs.Table.{HR, LR, HS, LS, SL, RS}
 use Rattle.parameters.specs.declared.Parameters.{Parameters}
 use Rattle.local_setpoint.specs.LocalSetpoint.{moved, movedByHand, ratioAfter, setpointMoved, setpointAfter}
+use Rattle.local_setpoint.specs.LocalSetpoint.{followingSetpoint}
 
 module _ (p : Parameters) (legal : Legal p) where
   pub setpoint-small : Small (SL p)
@@ -67,3 +68,9 @@ module _ (p : Parameters) (legal : Legal p) where
 
   pub setpoint-limited : (x : ℤ) → Inside (LS p) (limited (LS p) (HS p) x) (HS p)
   setpoint-limited x = limited-inside (LS p) (HS p) x (ranges p legal .setpoints .order)
+
+  pub following-inside : (mode : Mode) (sl sp trim : ℤ) → Inside (LS p) sl (HS p) → Inside (LS p) sp (HS p) →
+      Inside (LS p) (followingSetpoint p mode sl sp trim) (HS p)
+  unfolding followingSetpoint
+  following-inside mode sl sp trim h k =
+      chosen-inside (isRemote mode) _ _ _ _ (setpoint-limited (sp -ℤ trim)) (chosen-inside (isRatio mode) _ _ _ _ k h)

@@ -26,7 +26,7 @@ use Rattle.promises.specs.RefusalCauses.{scanRefusal}
 use Rattle.promises.specs.Refusals.{refusalIn}
 use Rattle.promises.specs.Scans.{ScanAnswer}
 use Rattle.promises.proofs.RefusalCauses.{scan-refusals}
-use Rattle.promises.proofs.Scans.{scan-effects}
+use Rattle.promises.proofs.Scans.{same-values, scan-effects}
 use Rattle.lots.specs.Lots.{withAnswer, Answered, started, scanned, wrote, restarted, Right, AllRight, no-call, accepted-scan}
 use Rattle.lots.specs.Lots.{refused-scan, a-write, a-restart, LotsRight, AlwaysAnswered}
 
@@ -44,17 +44,13 @@ clock-same : (c : Controller) (exactly : Core) → capped (c .core) ≡ capped e
 unfolding capped
 clock-same c exactly same = ap (λ (k : Core). k .clock) same
 
-abbrev valuesOr : ScanValues → Answer → ScanValues
-valuesOr v (Accepted w) = w
-valuesOr v (Refused refusal) = v
-
 -- of a controller c and the exact one's state, which are alike but for the output and counts above 85
 right : (c : Controller) (exactly : Core) (v : ScanValues) → capped (c .core) ≡ capped exactly → modeIn exactly ≡ modeIn (c .core) →
     ScanAnswer c (Accepted v) → Right exactly v
 unfolding capped
 right c exactly v same mode a =
     let w = a .values in
-    let is : v ≡ w = ap (valuesOr v) (a .accepted) in
+    let is = same-values v w (a .accepted) in
     let readings = ap (λ (k : Core). k .readings .pv) same in
     let low = ap (λ (k : Core). not (k .indications .lowalarm)) same in
     let high = ap (λ (k : Core). not (k .indications .highalarm)) same in

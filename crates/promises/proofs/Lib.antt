@@ -1,4 +1,5 @@
 pub mod Clock
+pub mod FallBack
 pub mod Images
 pub mod Limits
 pub mod Places
@@ -8,6 +9,7 @@ pub mod Refusals
 pub mod Restarts
 pub mod Rights
 pub mod Saves
+pub mod ScanEffect
 pub mod Scans
 pub mod Setpoints
 pub mod StoredOutputs

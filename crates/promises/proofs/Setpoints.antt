@@ -1,6 +1,6 @@
 -- Quotients by how near they are, and the setpoints that steps 4 and 5 choose, mode by mode.
-use mathlib.Core.Path.{_≡_, refl, sym, ap}
-use mathlib.Core.Bool.{Bool, true, false, not, _&&_, _||_}
+use mathlib.Core.Path.{_≡_, refl, sym, ap, _∙_}
+use mathlib.Core.Bool.{Bool, true, false, not, _&&_}
 use mathlib.Core.Option.{Option, some, none}
 use Prim.Native.Nat.{ℕ, suc, _+_, _*_, _<_, _≤_}
 use native.Mathlib.Nat.{le-antisymm, mul-le-mul-right}
@@ -26,7 +26,7 @@ use Rattle.scaling.specs.Scale.{scaled}
 use Rattle.local_setpoint.specs.LocalSetpoint as rules
 use Rattle.local_setpoint.specs.LocalSetpoint.{movedByHand}
 use Rattle.guarantee.specs.Modes.{automaticMode, trackMode}
-use Rattle.promises.specs.Scans.{NearestUp, Scaled, RootOf, NearestEven, OneQuotient, moved}
+use Rattle.promises.specs.Scans.{NearestUp, Scaled, OneScaling, RootOf, NearestEven, OneQuotient, moved}
 use Rattle.promises.specs.Words.{remoteOrRatio, ratioMode}
 
 -- ---- quotients
@@ -38,6 +38,13 @@ pub scaled-is : (low high : ℤ) (sample : ℕ) → Scaled low high sample (scal
 unfolding scaled
 scaled-is low high sample =
     record { quotient = halfUp (sample * natAbs (high -ℤ low)) 10000; nearest = nearest-up _ 10000 (omega arith); above = refl }
+
+-- two that are nearest, halves up, lie less than one apart
+pub one-scaling : OneScaling
+one-scaling low high sample x y a b =
+    let same : a .quotient ≡ b .quotient =
+    omega (arith, a .nearest .not-above, a .nearest .below-next, b .nearest .not-above, b .nearest .below-next) in
+    a .above ∙ ap (λ (k : ℕ). low +ℤ pos k) same ∙ sym (b .above)
 
 pub root-found : (s : ℕ) → s ≤ 10000 → RootOf s (rootOf s)
 root-found s h =
@@ -107,27 +114,6 @@ unfolding movedByHand buttonsOf adjustmentOf
 by-hand i true step low high v = sym (by-choice (bit (i .buttons) 3) (bit (i .buttons) 6) (bit (i .buttons) 7) step low high v)
 by-hand i false step low high v = never-moved (bit (i .buttons) 3) _ v
 
--- SL after step 4, and what becomes of it in Remote and Ratio; `pushed` is SL moved by hand where hands move it
-pub setpoint-in : (m : Mode) (follows isopen : Bool) (sp sl near pushed : ℤ) (hand : Bool → ℤ) → hand true ≡ pushed →
-    (if isRemote m || isRatio m then sp else
-    if follows && not (isAutomatic m) then (if isopen then sl else near) else hand (not (isRatio m) && not (isRemote m)))
-    ≡ (if remoteOrRatio (some m) then sp else
-    if not (automaticMode (some m)) && follows then (if isopen then sl else near) else pushed)
-setpoint-in Hold true isopen sp sl near pushed hand e = refl
-setpoint-in Hold false isopen sp sl near pushed hand e = e
-setpoint-in Track true isopen sp sl near pushed hand e = refl
-setpoint-in Track false isopen sp sl near pushed hand e = e
-setpoint-in Forced true isopen sp sl near pushed hand e = refl
-setpoint-in Forced false isopen sp sl near pushed hand e = e
-setpoint-in Manual true isopen sp sl near pushed hand e = refl
-setpoint-in Manual false isopen sp sl near pushed hand e = e
-setpoint-in Auto true isopen sp sl near pushed hand e = e
-setpoint-in Auto false isopen sp sl near pushed hand e = e
-setpoint-in Remote follows isopen sp sl near pushed hand e = refl
-setpoint-in Ratio follows isopen sp sl near pushed hand e = refl
-setpoint-in Fallback true isopen sp sl near pushed hand e = e
-setpoint-in Fallback false isopen sp sl near pushed hand e = e
-
 -- outside Remote and Ratio
 neither : (m : Mode) → remoteOrRatio (some m) ≡ false → (isRemote m ≡ false) × (isRatio m ≡ false)
 neither Hold e = (refl, refl)
@@ -148,13 +134,25 @@ module _ (m : Mode) (outside : remoteOrRatio (some m) ≡ false) where
       go false true e d = never (sym d)
       go false false e d = refl
 
-  pub stays-local : (sp sl : ℤ) → (if isRemote m || isRatio m then sp else sl) ≡ sl
-  stays-local sp sl = go (isRemote m) (isRatio m) (neither m outside .0) (neither m outside .1)
-    where
-      go : (a b : Bool) → a ≡ false → b ≡ false → (if a || b then sp else sl) ≡ sl
-      go true b e d = never (sym e)
-      go false true e d = never (sym d)
-      go false false e d = refl
+-- SL after step 4, outside Remote and Ratio; `pushed` is SL moved by hand where hands move it
+pub setpoint-in : (m : Mode) → remoteOrRatio (some m) ≡ false → (follows isopen : Bool) (sl near pushed : ℤ) (hand : Bool → ℤ) →
+    hand true ≡ pushed →
+    (if follows && not (isAutomatic m) then (if isopen then sl else near) else hand (not (isRatio m) && not (isRemote m)))
+    ≡ (if not (automaticMode (some m)) && follows then (if isopen then sl else near) else pushed)
+setpoint-in Hold o true isopen sl near pushed hand e = refl
+setpoint-in Hold o false isopen sl near pushed hand e = e
+setpoint-in Track o true isopen sl near pushed hand e = refl
+setpoint-in Track o false isopen sl near pushed hand e = e
+setpoint-in Forced o true isopen sl near pushed hand e = refl
+setpoint-in Forced o false isopen sl near pushed hand e = e
+setpoint-in Manual o true isopen sl near pushed hand e = refl
+setpoint-in Manual o false isopen sl near pushed hand e = e
+setpoint-in Auto o true isopen sl near pushed hand e = e
+setpoint-in Auto o false isopen sl near pushed hand e = e
+setpoint-in Remote o follows isopen sl near pushed hand e = never (sym o)
+setpoint-in Ratio o follows isopen sl near pushed hand e = never (sym o)
+setpoint-in Fallback o true isopen sl near pushed hand e = e
+setpoint-in Fallback o false isopen sl near pushed hand e = e
 
 pub track-is : (m : Mode) → isTrack m ≡ trackMode (some m)
 track-is Hold = refl

@@ -1,4 +1,5 @@
 pub mod Clock
+pub mod FallBack
 pub mod Images
 pub mod Limits
 pub mod Reads

@@ -43,6 +43,10 @@ pub record Scaled (low high : ℤ) (sample : ℕ) (x : ℤ) : Type 0 where
   pub nearest : NearestUp (sample * natAbs (high -ℤ low)) 10000 quotient
   pub above : x ≡ low +ℤ pos quotient
 
+-- that is one number and no other
+abbrev pub OneScaling : Type 0
+OneScaling = (low high : ℤ) (sample : ℕ) (x y : ℤ) → Scaled low high sample x → Scaled low high sample y → x ≡ y
+
 -- step 1: "the greatest whole r with r × r ≤ 10000 × s"
 pub record RootOf (s r : ℕ) : Type 0 where
   pub fits : r * r ≤ 10000 * s
@@ -75,18 +79,22 @@ expectedRatio before now i =
     if ratioMode (modeIn now) then moved (i .buttons) (pos 12) (v 8) (v 7) (v 21) else v 21
 
 -- "else SL by 1, .. limited to .. LS..HS; not in Remote. With S2.6 ON in a non-automatic mode SL isn't moved; if
--- channel 1 isn't open it becomes PV, limited to LS..HS."; step 5: "In Remote and Ratio SL becomes SP.": SL is
--- parameter 20, LS 10 and HS 9; S2.6 is SW bit 10; sensor bit 0 says that channel 1 is open
+-- channel 1 isn't open it becomes PV, limited to LS..HS.": SL is parameter 20, LS 10 and HS 9; S2.6 is SW bit 10;
+-- sensor bit 0 says that channel 1 is open. In Remote and Ratio it is step 5's
 unfoldable pub expectedSetpoint : Core → Core → Input → ℤ
 expectedSetpoint before now i =
     let v = value (before .parameters) in
     let mode = modeIn now in
-    if remoteOrRatio mode then now .readings .sp else
     if not (automaticMode mode) && bit (now .sw) 10
     then (if bit (i .sensors) 0 then v 20 else limited (v 10) (v 9) (now .readings .pv))
     else moved (i .buttons) (pos 1) (v 10) (v 9) (v 20)
 
 -- ---- the scan: made in the state `before`, it left the state `now`
+
+-- step 5: "Trim is scaled channel 3, or 0 in Track or with MD bit 4 set.": 3H is parameter 5, 3L 6
+pub record Trim (before now : Core) (i : Input) (channel3 trim : ℤ) : Type 0 where
+  pub channel3-scaled : Scaled (value (before .parameters) 6) (value (before .parameters) 5) (i .sample3) channel3
+  pub trim-is : trim ≡ (if trackMode (modeIn now) || before .userbits .measuredpower then pos 0 else channel3)
 
 pub record ScanEffect (before now : Core) (i : Input) : Type 0 where
   -- step 1: 1H is parameter 1, 1L 2, IC 23
@@ -107,13 +115,11 @@ pub record ScanEffect (before now : Core) (i : Input) : Type 0 where
   pub opencount : now .conditions .opencount ≡ (if bit (i .sensors) 0 then min 85 (before .conditions .opencount + 1) else 0)
   -- step 4
   pub ratio-moved : value (now .parameters) 21 ≡ expectedRatio before now i
-  pub setpoint-moved : value (now .parameters) 20 ≡ expectedSetpoint before now i
-  -- step 5: "Trim is scaled channel 3, or 0 in Track or with MD bit 4 set."; "MP is scaled channel 3 if MD bit 4 is
-  -- set, else 0.": 3H is parameter 5, 3L 6
+  pub setpoint-moved : remoteOrRatio (modeIn now) ≡ false → value (now .parameters) 20 ≡ expectedSetpoint before now i
+  -- step 5; "MP is scaled channel 3 if MD bit 4 is set, else 0."
   pub channel3 : ℤ
-  pub channel3-scaled : Scaled (value (before .parameters) 6) (value (before .parameters) 5) (i .sample3) channel3
   pub trim : ℤ
-  pub trim-is : trim ≡ (if trackMode (modeIn now) || before .userbits .measuredpower then pos 0 else channel3)
+  pub trim-of : Trim before now i channel3 trim
   pub mp-is : now .readings .mp ≡ (if before .userbits .measuredpower then channel3 else pos 0)
   -- "SP is SL + trim, without trim if S2.1 is ON", SW bit 15; "SP is then limited to LS..HS."
   pub sp-local : remoteOrRatio (modeIn now) ≡ false →
@@ -137,6 +143,11 @@ pub record ScanEffect (before now : Core) (i : Input) : Type 0 where
   pub inverse-is : modeIn now ≡ some Ratio → bit (now .sw) 13 ≡ true → NearestEven (q *ℤ pos s) 100 quotient
   pub sp-ratio : modeIn now ≡ some Ratio →
       now .readings .sp ≡ limited (value (before .parameters) 10) (value (before .parameters) 9) (quotient +ℤ value (before .parameters) 22)
+  -- "In Remote and Ratio SL becomes SP.", of which document 02, request 7: "From now on, in Remote, SL takes SP less
+  -- the trim, limited to LS..HS. Ratio keeps SL equal to SP."
+  pub setpoint-remote : modeIn now ≡ some Remote →
+      value (now .parameters) 20 ≡ limited (value (before .parameters) 10) (value (before .parameters) 9) (now .readings .sp -ℤ trim)
+  pub setpoint-ratio : modeIn now ≡ some Ratio → value (now .parameters) 20 ≡ now .readings .sp
   -- "ER = PV - SP."
   pub er-is : now .readings .er ≡ now .readings .pv -ℤ now .readings .sp
   -- Words: "low alarm (PV < LA or ER < -LD), .. high (PV > HA or ER > HD)": HA is parameter 11, LA 12, HD 13, LD 14

@@ -16,7 +16,7 @@ use Rattle.integers.specs.Parts.{integers, apart}
 use Rattle.signals.specs.Signals.{isOpen}
 use Rattle.signals.specs.declared.Input.{Input}
 use Rattle.signals.specs.declared.Switches.{Switches}
-use Rattle.modes.specs.Modes.{isTrack, isRemote, isRatio}
+use Rattle.modes.specs.Modes.{isTrack}
 use Rattle.modes.specs.declared.Mode.{Mode}
 use Rattle.parameters.specs.Legal.{Legal, isWithin}
 use Rattle.parameters.specs.LegalLaws.{Ordered, Inside, ranges, settings-legal, value-most}
@@ -25,7 +25,7 @@ use Rattle.parameters.specs.declared.Parameters.{Parameters}
 use Rattle.scaling.specs.Ratio.{RatioRange, ratioQuotient, inverseQuotient, ratio-size, inverse-size}
 use Rattle.scaling.specs.Root.{rootOf, root-most}
 use Rattle.scaling.specs.Scale.{scaled, ChannelRange, scaled-within}
-use Rattle.local_setpoint.specs.LocalSetpointLaws.{limited-inside, chosen-inside, ratio-inside, setpoint-inside, setpoint-limited}
+use Rattle.local_setpoint.specs.LocalSetpointLaws.{limited-inside, ratio-inside, setpoint-inside, setpoint-limited, following-inside}
 use Rattle.setpoints.specs.Computation.{computed}
 use Rattle.setpoints.specs.Setpoints.{firstSample, processVariable, thirdChannel, trimOf, quotientOf, setpointOf, measuredPower}
 
@@ -169,8 +169,8 @@ pub computed-legal : (p : Parameters) (s : Switches) (measuredpower : Bool) (mod
 unfolding computed
 computed-legal p s measuredpower mode i legal =
     settings-legal p legal _ _
-    (is-within _ _ _ (chosen-inside (isRemote mode || isRatio mode) _ _ _ _ (limited-setpoint p legal s mode _ _ _ i)
-    (setpoint-inside p legal (s .setpointtracks) mode i _)))
+    (is-within _ _ _ (following-inside p legal mode _ _ _ (setpoint-inside p legal (s .setpointtracks) mode i _)
+    (limited-setpoint p legal s mode _ _ _ i)))
     (is-within _ _ _ (ratio-inside p legal mode i))
 
 -- a reading is read back from the machine as it is

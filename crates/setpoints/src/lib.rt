@@ -1,4 +1,4 @@
-// Steps 1, 4 and 5 of a scan: PV, trim, SP, ER and MP, step 4 by `local_setpoint`; and the alarms.
+// Steps 1, 4 and 5 of a scan: PV, trim, SP, ER and MP; SL and RS by `local_setpoint`; and the alarms.
 ghost use mathlib.Core.Path.{_≡_};
 ghost use Prim.Native.Nat.{_≤_};
 ghost use Rattle.integers.specs.Machine.{Small};
@@ -156,7 +156,7 @@ fn measured_power(p: Parameters, measuredpower: bool, input: Input) -> i64
 }
 
 // Steps 1, 4 and 5 of an accepted scan in this mode. The contract rules out a rule of another mode, a
-// limit left out, a trim added twice, and any other parameter changed.
+// limit left out, a trim added twice, an SL that follows SP before it is limited, and any other parameter changed.
 pub fn compute(
     p: Parameters,
     s: Switches,
@@ -175,9 +175,7 @@ pub fn compute(
     let sp = local_setpoint::limited_setpoint(p, unlimited);
     let er = integers::minus(pv, sp);
     let mp = measured_power(p, measuredpower, input);
-    let remote = modes::is_remote(mode);
-    let ratio = modes::is_ratio(mode);
-    let to = integers::choose(remote | ratio, sp, sl);
+    let to = local_setpoint::following_setpoint(p, mode, sl, sp, trim);
     let moved = p.with(parameters::SL, to);
     let parameters = moved.with(parameters::RS, rs);
     Computed {

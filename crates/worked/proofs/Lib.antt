@@ -1,4 +1,4 @@
-pub mod ModelCalls
-pub mod Worked
 pub mod LineFigures
+pub mod ModelCalls
 pub mod RightFigures
+pub mod Worked

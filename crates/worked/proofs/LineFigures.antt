@@ -42,7 +42,7 @@ unfolding lineFigures held t.answered t.answeredTo t.readTo t.writtenTo t.replie
     State.freshController State.freshCore State.startReadings a.opOf a.electricalOf refusedBy scanTests buttonsOf pinsOf
     switchesOf adjustmentOf m.counted m.openCountAfter m.conditionsAfter m.modeOf m.goesToMinimum byteOf mdHigh mdLow MD dsLow DS
     value withValue r.computed r.lowAlarm r.highAlarm p.firstSample p.processVariable p.thirdChannel l.movedByHand
-    l.ratioAfter l.setpointMoved l.setpointAfter p.trimOf p.localSetpoint p.setpointIn p.setpointOf p.measuredPower
+    l.ratioAfter l.setpointMoved l.setpointAfter l.followingSetpoint p.trimOf p.localSetpoint p.setpointIn p.setpointOf p.measuredPower
     scaled halfUp Limit.limited Limit.atLeast Limit.atMost o.storedArithmetic o.changed o.limitedTo o.executed
     u.termsOf u.byTerms u.limitsIn u.instructionOf
 line-figures-hold =

@@ -47,7 +47,7 @@ unfolding modelCalls s.scan s.scanCore s.accepted s.earlierScans h.historyBefore
     s.indicationsAfter s.coreAfter s.statusOf s.modeNow s.refused a.opOf a.electricalOf refusedBy scanTests buttonsOf
     pinsOf switchesOf adjustmentOf m.counted m.openCountAfter m.conditionsAfter m.modeOf m.goesToMinimum byteOf mdHigh
     mdLow MD dsLow DS value withValue e.computed e.lowAlarm e.highAlarm p.firstSample p.processVariable p.thirdChannel
-    l.movedByHand l.ratioAfter l.setpointMoved l.setpointAfter p.trimOf p.localSetpoint p.remoteSetpoint
+    l.movedByHand l.ratioAfter l.setpointMoved l.setpointAfter l.followingSetpoint p.trimOf p.localSetpoint p.remoteSetpoint
     p.ratioSetpoint p.setpointIn p.setpointOf p.measuredPower scaled halfUp Limit.limited Limit.atLeast Limit.atMost
     d.controlDifference d.earlierSetpoint d.changeOfDifference d.secondDifference d.tuningOf h.historyAfter
     o.storedArithmetic o.changed o.limitedTo o.executed u.termsOf u.byTerms u.byHand u.minimumOf u.limitsIn
@@ -66,6 +66,7 @@ model-calls-hold =
     refl and refl and refl and refl and refl and refl and refl and refl and
     refl and refl and refl and refl and refl and refl and refl and refl and
     refl and refl and
+    refl and refl and refl and refl and refl and
     refl and refl and refl and refl and refl and refl and refl and refl and refl and
     refl and refl and refl and refl and refl and refl and
     refl and

@@ -1,22 +1,27 @@
 -- Document 01's figures worked by hand, and further ones, hold of the rules: each side of each equation computes to the
 -- same number.
-use mathlib.Core.Path.{_≡_, refl}
+use mathlib.Core.Path.{_≡_, refl, sym}
 use mathlib.Core.List.{[], _∷_}
 use Prim.Native.Nat.{ℕ, _+_, _*_}
 use lib.Dec.{T, leb, ltb, lit<, lit≤}
-use lib.IntN.{pos}
+use native.Mathlib.Omega.{arith}
+use lib.IntN.{pos, negℤ}
 use lib.ListN.{drop}
 use Rattle.integers.specs.Limit as Limit
 use Rattle.integers.specs.Listed.{listed}
+use Rattle.integers.specs.Parts.{integers}
 use Rattle.integers.specs.Rounding.{halfUp, halfEven, nearestEven}
 use Rattle.integers.specs.TwosComplement.{asWord}
 use Rattle.signals.specs.Refusals.{refusedBy, scanTests}
+use Rattle.signals.specs.declared.Verdict.the-variants as verdict
 use Rattle.signals.specs.Signals.{buttonsOf, pinsOf, switchesOf, adjustmentOf}
 use Rattle.fields.specs.Fields as f
 use Rattle.modes.specs.Modes as m
 use Rattle.modes.specs.Modes.{counted, openCountAfter}
+use Rattle.modes.specs.declared.Mode.the-variants.{Remote, Fallback}
+use Rattle.answers.specs.declared.ScanValues.{ScanValues}
 use Rattle.words.specs.Words.{byteOf, mdHigh, mdLow, MD, dsLow, DS}
-use Rattle.words.specs.Written.{mdTests}
+use Rattle.words.specs.Written.{mdTests, conditionsWritten, powerWritten}
 use Rattle.parameters.specs.Table.{value, withValue, ruleOf}
 use Rattle.parameters.specs.Written.{written, limitedAnew}
 use Rattle.rights.specs.Rights as g
@@ -44,27 +49,89 @@ use Rattle.controller.specs.State as State
 use Rattle.controller.specs.State.{freshController}
 use Rattle.controller.specs.Write as w
 use Rattle.controller.specs.Write.{write}
+use Rattle.controller.specs.declared.Answer.the-variants.{Accepted}
+use Rattle.controller.specs.declared.CallResult.{CallResult}
 use Rattle.controller.specs.declared.Controller.{Controller}
+use Rattle.guarantee.specs.Exact as call
+use Rattle.guarantee.specs.Exact.{none, _then_}
+use Rattle.guarantee.specs.Modes as q
+use Rattle.guarantee.specs.Linked.{ChainTo, started, wrote}
+use Rattle.promises.specs.Scans.{Scaled}
+use Rattle.worked.specs.FallBackFigures.{trimmed, pinAtOne, pinAtZero, afterRemote, afterFallBack, formerly}
+use Rattle.worked.specs.FallBackFigures.{fallBackFigures}
 use Rattle.worked.specs.Figures.{AllHold, figures, furtherFigures, onceScanned, biased, scanFigures}
+
+-- the answers of the two scans of Fall-back's figures
+abbrev remoteValues : ScanValues
+remoteValues = record { md = 0x0C04; ds = 0xA02F; op = 0; electrical = 0; mode = Remote; pv = pos 0 }
+
+abbrev fallBackValues : ScanValues
+fallBackValues = record { md = 0x1000; ds = 0x803F; op = 0; electrical = 0; mode = Fallback; pv = pos 300 }
 
 infixr 5 _and_
 pub _and_ : {A B : Type 0} → A → B → A × B
 a and b = (a, b)
 
-pub scan-figures-hold : AllHold scanFigures
-unfolding scanFigures onceScanned biased s.refused h.historyAfter s.scan s.scanCore s.accepted s.earlierScans h.historyBefore s.responseFrom
+-- of -100 to 100, sample 5750
+fifteen : Scaled (negℤ (pos 100)) (pos 100) 5750 (pos 15)
+fifteen = record { quotient = 115; nearest = record { not-above = omega arith; below-next = omega arith }; above = refl }
+
+-- two writes that are accepted lead to the controller of the figures of Fall-back
+trimmed-chain : (c : Controller) → write (freshController 0) Engineer 6 (negℤ (pos 100)) ≡ record { next = c; answer = a.acceptance } →
+    write c Engineer 5 (pos 100) ≡ record { next = trimmed 0; answer = a.acceptance } →
+    ChainTo 0 (none then call.write Engineer 6 (negℤ (pos 100)) then call.write Engineer 5 (pos 100)) (trimmed 0)
+trimmed-chain c e d =
+    let one = wrote Engineer 6 (negℤ (pos 100)) (accepted c) (started (freshController 0) refl) (sym e) in
+    record { responses = _; chain = wrote Engineer 5 (pos 100) (accepted (trimmed 0)) one (sym d) }
+  where
+    accepted : Controller → CallResult
+    accepted next = record { controller = next; verdict = verdict.Accepted }
+
+pub scan-figures-hold : AllHold scanFigures × AllHold fallBackFigures
+unfolding scanFigures onceScanned biased fallBackFigures trimmed formerly q.sameRequest q.condition q.priority q.first
+    s.refused h.historyAfter s.scan s.scanCore s.accepted s.earlierScans h.historyBefore s.responseFrom
     s.controllerAfter s.contextOf s.computedIn s.indicationsAfter s.coreAfter s.statusOf s.modeNow State.freshController
     State.freshCore State.startReadings a.opOf a.electricalOf refusedBy scanTests buttonsOf pinsOf switchesOf
     adjustmentOf m.counted m.openCountAfter m.conditionsAfter m.modeOf m.goesToMinimum byteOf mdHigh mdLow MD dsLow DS
     value withValue r.computed r.lowAlarm r.highAlarm p.firstSample p.processVariable p.thirdChannel l.movedByHand
-    l.ratioAfter l.setpointMoved l.setpointAfter p.trimOf p.localSetpoint p.setpointIn p.setpointOf p.measuredPower
+    l.ratioAfter l.setpointMoved l.setpointAfter l.followingSetpoint p.trimOf p.localSetpoint p.remoteSetpoint
+    p.ratioSetpoint p.setpointIn p.setpointOf p.measuredPower
     scaled halfUp Limit.limited Limit.atLeast Limit.atMost d.controlDifference d.earlierSetpoint d.changeOfDifference
     d.secondDifference d.tuningOf o.storedArithmetic o.changed o.limitedTo o.executed u.termsOf u.byTerms u.limitsIn
     u.instructionOf proportionalTerm integralTerm derivativeTerm limitedTerm storedTerm whole atLeast atMost limited
     stored storedUnits limitedStored nearestEven halfEven w.write w.writeCore w.writeAccepted w.writeTests w.accessNow
-    w.valueTests g.mayWrite g.pinTests g.rightTests g.accessTests w.stateTests w.coreWith
-    w.coreWritten w.parameterWritten ruleOf written limitedAnew u.limitsWritten p.ratioSetpoint ratioQuotient inverseQuotient
-scan-figures-hold = refl and refl and refl and refl and refl and refl and refl and refl and tt
+    w.valueTests g.mayWrite g.pinTests g.rightTests g.accessTests w.stateTests w.coreWith w.coreWritten w.mdWritten
+    w.parameterWritten mdTests conditionsWritten powerWritten ruleOf written limitedAnew u.limitsWritten ratioQuotient
+    inverseQuotient
+scan-figures-hold = (
+  refl and refl and refl and refl and refl and refl and refl and refl and tt,
+  (refl, refl) and (refl, refl) and (refl, refl) and (refl, refl) and (refl, refl) and (refl, refl) and (refl, refl) and
+      (refl, refl) and (refl, refl) and (refl, refl) and (refl, refl) and (refl, refl) and (refl, refl) and
+      (refl, refl) and (refl, refl) and (refl, refl) and (refl, refl) and
+      record {
+        word = 0;
+        calls = _;
+        d = trimmed 0;
+        before = trimmed-chain _ refl refl;
+        i = pinAtOne 5000 5750 0;
+        j = pinAtZero 5750;
+        r = record { controller = afterRemote (trimmed 0) 5000 5750; answer = Accepted remoteValues };
+        q = record { controller = afterFallBack (afterRemote (trimmed 0) 5000 5750) 5750; answer = Accepted fallBackValues };
+        falls-back = record {
+          remote = record { made = refl; values = remoteValues; accepted = refl; in-mode = refl };
+          fall-back = record { made = refl; values = fallBackValues; accepted = refl; in-mode = refl };
+          channel3 = pos 15;
+          trim-of = record { channel3-scaled = fifteen; trim-is = refl };
+          not-below = omega (arith, integers);
+          not-above = omega (arith, integers);
+          same-channel3 = fifteen;
+          no-raise = refl;
+          no-lower = refl;
+        };
+        setpoint = refl;
+      } and
+      tt,
+)
 
 -- each word is refused with 9 whatever else the state is
 write-figures : (c : Controller) → (write c Engineer 24 (pos 0x0000) ≡ record { next = c; answer = number 9 }) ×

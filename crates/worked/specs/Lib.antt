@@ -1,4 +1,5 @@
+pub mod FallBackFigures
 pub mod Figures
-pub mod ModelCalls
 pub mod LineFigures
+pub mod ModelCalls
 pub mod RightFigures

@@ -91,10 +91,10 @@ modelCalls =
     ∷ Scans (state 22444 (negℤ (pos 2690) ∷ negℤ (pos 6637) ∷ pos 1 ∷ pos 0 ∷ pos 4 ∷ negℤ (pos 26) ∷ pos 1 ∷ pos 1 ∷ pos 499 ∷ pos 0 ∷ negℤ (pos 2691) ∷ negℤ (pos 6637) ∷ pos 512 ∷ pos 0 ∷ pos 9587 ∷ pos 2023 ∷ pos 2675 ∷ pos 512 ∷ pos 512 ∷ pos 0 ∷ pos 1 ∷ pos 0 ∷ pos 0 ∷ []) request.Auto true false false true 0 182 (readings (negℤ (pos 5104)) (pos 0) (negℤ (pos 5104)) (negℤ (pos 18))) 192 false true false (Two (negℤ (pos 5104)) (pos 0) (negℤ (pos 5106))) (At 9223372036854775588) (pos 628293632)) (input 182 3883 7484 2701 192 0 9223372036854775624) (state 22444 (negℤ (pos 2690) ∷ negℤ (pos 6637) ∷ pos 1 ∷ pos 0 ∷ pos 4 ∷ negℤ (pos 26) ∷ pos 1 ∷ pos 1 ∷ pos 499 ∷ pos 0 ∷ negℤ (pos 2691) ∷ negℤ (pos 6637) ∷ pos 512 ∷ pos 0 ∷ pos 9587 ∷ pos 2023 ∷ pos 2675 ∷ pos 512 ∷ pos 512 ∷ pos 0 ∷ pos 1 ∷ pos 0 ∷ pos 0 ∷ []) request.Manual true false false true 0 182 (readings (negℤ (pos 5104)) (pos 0) (negℤ (pos 5104)) (negℤ (pos 18))) 192 false true false (Two (negℤ (pos 5104)) (pos 0) (negℤ (pos 5104))) (At 9223372036854775624) (pos 628293632)) (words 9680 46617 9587 412 Forced (negℤ (pos 5104)))
     -- scan: 85th open scan in Fall-back, behind a gap, S2.5 ON: Forced Manual, the output goes to LO
     ∷ Scans (state 48004 (pos 9092 ∷ pos 0 ∷ pos 9755 ∷ pos 1024 ∷ pos 33 ∷ negℤ (pos 19) ∷ pos 9999 ∷ pos 1 ∷ pos 9092 ∷ pos 0 ∷ pos 9092 ∷ pos 1 ∷ pos 8 ∷ pos 0 ∷ pos 7862 ∷ pos 6333 ∷ pos 1367 ∷ pos 0 ∷ pos 2 ∷ pos 9092 ∷ pos 9987 ∷ pos 0 ∷ pos 0 ∷ []) request.Remote false true true true 84 158 (readings (pos 0) (pos 9092) (negℤ (pos 9092)) (pos 22)) 196 false true false (Nothing) (At 2147486354) (pos 515244032)) (input 156 4999 7341 7850 8 1 2152486354) (state 48004 (pos 9092 ∷ pos 0 ∷ pos 9755 ∷ pos 1024 ∷ pos 33 ∷ negℤ (pos 19) ∷ pos 9999 ∷ pos 1 ∷ pos 9092 ∷ pos 0 ∷ pos 9092 ∷ pos 1 ∷ pos 8 ∷ pos 0 ∷ pos 7862 ∷ pos 6333 ∷ pos 1367 ∷ pos 0 ∷ pos 2 ∷ pos 9092 ∷ pos 9987 ∷ pos 0 ∷ pos 0 ∷ []) request.Manual false true true true 85 156 (readings (pos 0) (pos 9092) (negℤ (pos 9092)) (pos 22)) 8 false true false (Nothing) (At 2152486354) (pos 415039488)) (words 8728 40153 6333 6333 Forced (pos 0))
-    -- scan: Remote: SP is channel 2 by 1L, 1H, and trim; SL becomes SP; derivative in seconds; high alarm by ER
-    ∷ Scans (state 8714 (pos 7327 ∷ negℤ (pos 3902) ∷ pos 8886 ∷ negℤ (pos 6874) ∷ pos 5 ∷ negℤ (pos 25) ∷ pos 8593 ∷ pos 8 ∷ pos 9999 ∷ negℤ (pos 9999) ∷ pos 7327 ∷ negℤ (pos 3901) ∷ pos 0 ∷ pos 5952 ∷ pos 9999 ∷ pos 0 ∷ pos 2593 ∷ pos 0 ∷ pos 2 ∷ pos 9999 ∷ pos 7335 ∷ pos 3 ∷ pos 0 ∷ []) request.Manual false true true false 0 199 (readings (pos 1805) (pos 9999) (negℤ (pos 8194)) (pos 0)) 0 false true false (Two (pos 1805) (pos 9999) (pos 1811)) (At 72) (pos 331939840)) (input 188 5090 3427 5072 4 0 108) (state 8714 (pos 7327 ∷ negℤ (pos 3902) ∷ pos 8886 ∷ negℤ (pos 6874) ∷ pos 5 ∷ negℤ (pos 25) ∷ pos 8593 ∷ pos 8 ∷ pos 9999 ∷ negℤ (pos 9999) ∷ pos 7327 ∷ negℤ (pos 3901) ∷ pos 0 ∷ pos 5952 ∷ pos 9999 ∷ pos 0 ∷ pos 2593 ∷ pos 0 ∷ pos 2 ∷ negℤ (pos 64) ∷ pos 7335 ∷ pos 3 ∷ pos 0 ∷ []) request.Remote false true true false 0 188 (readings (pos 1814) (negℤ (pos 64)) (pos 1878) (pos 0)) 4 false false true (Two (pos 1814) (negℤ (pos 64)) (pos 1805)) (At 108) (pos 103363900)) (words 3076 48366 1577 1577 Remote (pos 1814))
+    -- scan: Remote: SP is channel 2 by 1L, 1H, and trim; SL is SP less the trim; derivative in seconds; high alarm by ER
+    ∷ Scans (state 8714 (pos 7327 ∷ negℤ (pos 3902) ∷ pos 8886 ∷ negℤ (pos 6874) ∷ pos 5 ∷ negℤ (pos 25) ∷ pos 8593 ∷ pos 8 ∷ pos 9999 ∷ negℤ (pos 9999) ∷ pos 7327 ∷ negℤ (pos 3901) ∷ pos 0 ∷ pos 5952 ∷ pos 9999 ∷ pos 0 ∷ pos 2593 ∷ pos 0 ∷ pos 2 ∷ pos 9999 ∷ pos 7335 ∷ pos 3 ∷ pos 0 ∷ []) request.Manual false true true false 0 199 (readings (pos 1805) (pos 9999) (negℤ (pos 8194)) (pos 0)) 0 false true false (Two (pos 1805) (pos 9999) (pos 1811)) (At 72) (pos 331939840)) (input 188 5090 3427 5072 4 0 108) (state 8714 (pos 7327 ∷ negℤ (pos 3902) ∷ pos 8886 ∷ negℤ (pos 6874) ∷ pos 5 ∷ negℤ (pos 25) ∷ pos 8593 ∷ pos 8 ∷ pos 9999 ∷ negℤ (pos 9999) ∷ pos 7327 ∷ negℤ (pos 3901) ∷ pos 0 ∷ pos 5952 ∷ pos 9999 ∷ pos 0 ∷ pos 2593 ∷ pos 0 ∷ pos 2 ∷ negℤ (pos 54) ∷ pos 7335 ∷ pos 3 ∷ pos 0 ∷ []) request.Remote false true true false 0 188 (readings (pos 1814) (negℤ (pos 64)) (pos 1878) (pos 0)) 4 false false true (Two (pos 1814) (negℤ (pos 64)) (pos 1805)) (At 108) (pos 103363900)) (words 3076 48366 1577 1577 Remote (pos 1814))
     -- scan: Auto, S1.1 OFF: c1 has the present SP; SP is SL and trim; A pressed
-    ∷ Scans (state 8714 (pos 7327 ∷ negℤ (pos 3902) ∷ pos 8886 ∷ negℤ (pos 6874) ∷ pos 5 ∷ negℤ (pos 25) ∷ pos 8593 ∷ pos 8 ∷ pos 9999 ∷ negℤ (pos 9999) ∷ pos 7327 ∷ negℤ (pos 3901) ∷ pos 0 ∷ pos 5952 ∷ pos 9999 ∷ pos 0 ∷ pos 2593 ∷ pos 0 ∷ pos 2 ∷ negℤ (pos 13) ∷ pos 7335 ∷ pos 3 ∷ pos 0 ∷ []) request.Manual false true true false 0 250 (readings (negℤ (pos 1355)) (negℤ (pos 13)) (negℤ (pos 1342)) (pos 0)) 1 false false false (Two (negℤ (pos 1355)) (negℤ (pos 13)) (negℤ (pos 1354))) (At 1076) (pos 161415168)) (input 177 2267 5773 2464 2 0 1106) (state 8714 (pos 7327 ∷ negℤ (pos 3902) ∷ pos 8886 ∷ negℤ (pos 6874) ∷ pos 5 ∷ negℤ (pos 25) ∷ pos 8593 ∷ pos 8 ∷ pos 9999 ∷ negℤ (pos 9999) ∷ pos 7327 ∷ negℤ (pos 3901) ∷ pos 0 ∷ pos 5952 ∷ pos 9999 ∷ pos 0 ∷ pos 2593 ∷ pos 0 ∷ pos 2 ∷ negℤ (pos 13) ∷ pos 7335 ∷ pos 3 ∷ pos 0 ∷ []) request.Auto false true true false 0 177 (readings (negℤ (pos 1356)) (negℤ (pos 31)) (negℤ (pos 1325)) (pos 0)) 2 false false false (Two (negℤ (pos 1356)) (negℤ (pos 31)) (negℤ (pos 1355))) (At 1106) (pos 161437676)) (words 5122 45567 2463 2463 Auto (negℤ (pos 1356)))
+    ∷ Scans (state 8714 (pos 7327 ∷ negℤ (pos 3902) ∷ pos 8886 ∷ negℤ (pos 6874) ∷ pos 5 ∷ negℤ (pos 25) ∷ pos 8593 ∷ pos 8 ∷ pos 9999 ∷ negℤ (pos 9999) ∷ pos 7327 ∷ negℤ (pos 3901) ∷ pos 0 ∷ pos 5952 ∷ pos 9999 ∷ pos 0 ∷ pos 2593 ∷ pos 0 ∷ pos 2 ∷ negℤ (pos 3) ∷ pos 7335 ∷ pos 3 ∷ pos 0 ∷ []) request.Manual false true true false 0 250 (readings (negℤ (pos 1355)) (negℤ (pos 3)) (negℤ (pos 1352)) (pos 0)) 1 false false false (Two (negℤ (pos 1355)) (negℤ (pos 3)) (negℤ (pos 1354))) (At 1076) (pos 161415168)) (input 177 2267 5773 2464 2 0 1106) (state 8714 (pos 7327 ∷ negℤ (pos 3902) ∷ pos 8886 ∷ negℤ (pos 6874) ∷ pos 5 ∷ negℤ (pos 25) ∷ pos 8593 ∷ pos 8 ∷ pos 9999 ∷ negℤ (pos 9999) ∷ pos 7327 ∷ negℤ (pos 3901) ∷ pos 0 ∷ pos 5952 ∷ pos 9999 ∷ pos 0 ∷ pos 2593 ∷ pos 0 ∷ pos 2 ∷ negℤ (pos 3) ∷ pos 7335 ∷ pos 3 ∷ pos 0 ∷ []) request.Auto false true true false 0 177 (readings (negℤ (pos 1356)) (negℤ (pos 21)) (negℤ (pos 1335)) (pos 0)) 2 false false false (Two (negℤ (pos 1356)) (negℤ (pos 21)) (negℤ (pos 1355))) (At 1106) (pos 161437676)) (words 5122 45567 2463 2463 Auto (negℤ (pos 1356)))
     -- scan: Hold, behind a gap: only this scan is remembered; output kept beyond HO; A pressed; SP with Lower moves SL by 1
     ∷ Scans (state 43768 (pos 2959 ∷ pos 0 ∷ pos 5248 ∷ pos 256 ∷ pos 39 ∷ negℤ (pos 22) ∷ pos 1 ∷ pos 1 ∷ pos 16 ∷ pos 0 ∷ pos 2958 ∷ pos 0 ∷ pos 365 ∷ pos 5317 ∷ pos 1576 ∷ pos 32 ∷ pos 7873 ∷ pos 8318 ∷ pos 3462 ∷ pos 16 ∷ pos 1 ∷ pos 1024 ∷ pos 0 ∷ []) request.Manual false false false false 0 240 (readings (pos 1526) (pos 16) (pos 1510) (pos 0)) 0 false false true (One (pos 1526) (pos 16)) (At 836482) (pos 349437952)) (input 122 5058 9998 5185 142 0 836525) (state 43768 (pos 2959 ∷ pos 0 ∷ pos 5248 ∷ pos 256 ∷ pos 39 ∷ negℤ (pos 22) ∷ pos 1 ∷ pos 1 ∷ pos 16 ∷ pos 0 ∷ pos 2958 ∷ pos 0 ∷ pos 365 ∷ pos 5317 ∷ pos 1576 ∷ pos 32 ∷ pos 7873 ∷ pos 8318 ∷ pos 3462 ∷ pos 15 ∷ pos 1 ∷ pos 1024 ∷ pos 0 ∷ []) request.Auto false false false false 0 122 (readings (pos 1497) (pos 15) (pos 1482) (pos 0)) 142 false false true (One (pos 1497) (pos 15)) (At 836525) (pos 349437952)) (words 33934 31262 5332 5332 Hold (pos 1497))
     -- scan: Fall-back, S2.4 ON: integral in seconds; no trim with S2.1 ON; low alarm by ER
@@ -115,6 +115,16 @@ modelCalls =
     ∷ Scans (state 54507 (pos 2000 ∷ negℤ (pos 2000) ∷ pos 800 ∷ negℤ (pos 200) ∷ pos 20 ∷ negℤ (pos 20) ∷ pos 9999 ∷ pos 1 ∷ pos 2000 ∷ negℤ (pos 2000) ∷ pos 31 ∷ pos 0 ∷ pos 0 ∷ pos 3134 ∷ pos 9999 ∷ pos 0 ∷ pos 9000 ∷ pos 3946 ∷ pos 3 ∷ pos 0 ∷ pos 52 ∷ pos 7 ∷ pos 0 ∷ []) request.Remote false false true false 0 160 (readings (pos 20) (pos 30) (negℤ (pos 10)) (negℤ (pos 4809))) 75 false true false (One (pos 20) (pos 30)) (At 581940) (pos 636816643)) (input 165 4757 5045 2000 0 0 581976) (state 54507 (pos 2000 ∷ negℤ (pos 2000) ∷ pos 800 ∷ negℤ (pos 200) ∷ pos 20 ∷ negℤ (pos 20) ∷ pos 9999 ∷ pos 1 ∷ pos 2000 ∷ negℤ (pos 2000) ∷ pos 31 ∷ pos 0 ∷ pos 0 ∷ pos 3134 ∷ pos 9999 ∷ pos 0 ∷ pos 9000 ∷ pos 3946 ∷ pos 3 ∷ pos 769 ∷ pos 52 ∷ pos 7 ∷ pos 0 ∷ []) request.Remote false false true false 0 165 (readings (negℤ (pos 97)) (pos 769) (negℤ (pos 866)) (pos 0)) 0 false true false (Two (negℤ (pos 97)) (pos 769) (pos 20)) (At 581976) (pos 603482868)) (words 3072 42413 9208 791 Ratio (negℤ (pos 97)))
     -- ratio: S2.3 ON, channel 2 at an exact half, which goes up, to q -93: -46.5 goes to -46, and RB -9 is added after
     ∷ Scans (state 42609 (pos 2000 ∷ negℤ (pos 2000) ∷ pos 200 ∷ negℤ (pos 300) ∷ pos 40 ∷ pos 0 ∷ pos 9999 ∷ pos 1 ∷ pos 2000 ∷ negℤ (pos 2000) ∷ negℤ (pos 7243) ∷ negℤ (pos 8046) ∷ pos 3152 ∷ pos 512 ∷ pos 9999 ∷ pos 0 ∷ pos 9000 ∷ pos 814 ∷ pos 2 ∷ pos 0 ∷ pos 38 ∷ negℤ (pos 9) ∷ pos 0 ∷ []) request.Remote false false true false 0 160 (readings (pos 20) (pos 30) (negℤ (pos 10)) (negℤ (pos 6820))) 4 true true false (One (pos 20) (pos 30)) (At 648828) (pos 156374226)) (input 165 2247 4130 3000 0 0 648864) (state 42609 (pos 2000 ∷ negℤ (pos 2000) ∷ pos 200 ∷ negℤ (pos 300) ∷ pos 40 ∷ pos 0 ∷ pos 9999 ∷ pos 1 ∷ pos 2000 ∷ negℤ (pos 2000) ∷ negℤ (pos 7243) ∷ negℤ (pos 8046) ∷ pos 3152 ∷ pos 512 ∷ pos 9999 ∷ pos 0 ∷ pos 9000 ∷ pos 814 ∷ pos 2 ∷ negℤ (pos 55) ∷ pos 38 ∷ negℤ (pos 9) ∷ pos 0 ∷ []) request.Remote false false true false 0 165 (readings (negℤ (pos 1101)) (negℤ (pos 55)) (negℤ (pos 1046)) (pos 0)) 0 false true true (Two (negℤ (pos 1101)) (negℤ (pos 55)) (pos 20)) (At 648864) (pos 288615686)) (words 3072 42412 4403 4403 Ratio (negℤ (pos 1101)))
+    -- drop-out: Remote, trim 15: SP limited to HS 700, and SL takes it less the trim, 685, not channel 2
+    ∷ Scans (state 29931 (pos 2000 ∷ negℤ (pos 2000) ∷ pos 4395 ∷ pos 2996 ∷ pos 40 ∷ negℤ (pos 20) ∷ pos 6782 ∷ pos 4669 ∷ pos 700 ∷ negℤ (pos 300) ∷ pos 31 ∷ pos 0 ∷ pos 0 ∷ pos 3134 ∷ pos 9999 ∷ pos 0 ∷ pos 9000 ∷ pos 3946 ∷ pos 0 ∷ negℤ (pos 3) ∷ pos 4888 ∷ negℤ (pos 8019) ∷ pos 0 ∷ []) request.Remote false false true false 0 160 (readings (pos 20) (pos 30) (negℤ (pos 10)) (negℤ (pos 4809))) 75 false true false (One (pos 20) (pos 30)) (At 581940) (pos 636816643)) (input 165 2632 6725 5833 0 0 581976) (state 29931 (pos 2000 ∷ negℤ (pos 2000) ∷ pos 4395 ∷ pos 2996 ∷ pos 40 ∷ negℤ (pos 20) ∷ pos 6782 ∷ pos 4669 ∷ pos 700 ∷ negℤ (pos 300) ∷ pos 31 ∷ pos 0 ∷ pos 0 ∷ pos 3134 ∷ pos 9999 ∷ pos 0 ∷ pos 9000 ∷ pos 3946 ∷ pos 0 ∷ pos 685 ∷ pos 4888 ∷ negℤ (pos 8019) ∷ pos 0 ∷ []) request.Remote false false true false 0 165 (readings (negℤ (pos 947)) (pos 700) (negℤ (pos 1647)) (pos 0)) 0 false true false (Two (negℤ (pos 947)) (pos 700) (pos 20)) (At 581976) (pos 607013232)) (words 3072 42413 9262 737 Remote (negℤ (pos 947)))
+    -- drop-out: Remote, trim -25: SP 695 less the trim is above HS, SL is limited to it
+    ∷ Scans (state 31705 (pos 2000 ∷ negℤ (pos 2000) ∷ pos 5387 ∷ negℤ (pos 7243) ∷ pos 10 ∷ negℤ (pos 90) ∷ pos 9999 ∷ pos 1 ∷ pos 700 ∷ negℤ (pos 300) ∷ pos 9274 ∷ pos 1 ∷ pos 9803 ∷ pos 4824 ∷ pos 9999 ∷ pos 0 ∷ pos 9000 ∷ pos 0 ∷ pos 0 ∷ negℤ (pos 284) ∷ pos 1 ∷ negℤ (pos 42) ∷ pos 0 ∷ []) request.Remote false true true false 0 160 (readings (pos 20) (pos 30) (negℤ (pos 10)) (pos 6573)) 201 false false true (One (pos 20) (pos 30)) (At 90720) (pos 175280260)) (input 165 2386 6800 6500 0 0 90756) (state 31705 (pos 2000 ∷ negℤ (pos 2000) ∷ pos 5387 ∷ negℤ (pos 7243) ∷ pos 10 ∷ negℤ (pos 90) ∷ pos 9999 ∷ pos 1 ∷ pos 700 ∷ negℤ (pos 300) ∷ pos 9274 ∷ pos 1 ∷ pos 9803 ∷ pos 4824 ∷ pos 9999 ∷ pos 0 ∷ pos 9000 ∷ pos 0 ∷ pos 0 ∷ pos 700 ∷ pos 1 ∷ negℤ (pos 42) ∷ pos 0 ∷ []) request.Remote false true true false 0 165 (readings (negℤ (pos 1046)) (pos 695) (negℤ (pos 1741)) (pos 0)) 0 false true false (Two (negℤ (pos 1046)) (pos 695) (pos 20)) (At 90756) (pos 143768367)) (words 3072 42477 2193 7806 Remote (negℤ (pos 1046)))
+    -- drop-out: Remote, open, trim 30: SP -280 less the trim is below LS, SL is limited to it
+    ∷ Scans (state 1344 (pos 2000 ∷ negℤ (pos 2000) ∷ negℤ (pos 5505) ∷ negℤ (pos 7239) ∷ pos 50 ∷ pos 0 ∷ pos 16 ∷ pos 1 ∷ pos 700 ∷ negℤ (pos 300) ∷ pos 2045 ∷ negℤ (pos 1070) ∷ pos 2 ∷ pos 4485 ∷ pos 9999 ∷ pos 0 ∷ pos 9000 ∷ pos 0 ∷ pos 0 ∷ pos 507 ∷ pos 16 ∷ pos 36 ∷ pos 0 ∷ []) request.Remote false true true false 0 160 (readings (pos 20) (pos 30) (negℤ (pos 10)) (negℤ (pos 1775))) 3 false true true (Two (pos 20) (pos 30) (negℤ (pos 2263))) (At 717840) (pos 73077594)) (input 165 9321 4225 6000 0 1 717876) (state 1344 (pos 2000 ∷ negℤ (pos 2000) ∷ negℤ (pos 5505) ∷ negℤ (pos 7239) ∷ pos 50 ∷ pos 0 ∷ pos 16 ∷ pos 1 ∷ pos 700 ∷ negℤ (pos 300) ∷ pos 2045 ∷ negℤ (pos 1070) ∷ pos 2 ∷ pos 4485 ∷ pos 9999 ∷ pos 0 ∷ pos 9000 ∷ pos 0 ∷ pos 0 ∷ negℤ (pos 300) ∷ pos 16 ∷ pos 36 ∷ pos 0 ∷ []) request.Remote false true true false 1 165 (readings (negℤ (pos 2000)) (negℤ (pos 280)) (negℤ (pos 1720)) (pos 0)) 0 false true false (Nothing) (At 717876) (pos 73077594)) (words 3072 42477 1115 1115 Remote (negℤ (pos 2000)))
+    -- drop-out: Remote, MD bit 4 set: no trim though channel 3 is 15, so SL becomes SP
+    ∷ Scans (state 8123 (pos 2000 ∷ negℤ (pos 2000) ∷ negℤ (pos 1601) ∷ negℤ (pos 9493) ∷ pos 40 ∷ negℤ (pos 20) ∷ pos 9999 ∷ pos 1 ∷ pos 700 ∷ negℤ (pos 300) ∷ pos 4829 ∷ pos 4126 ∷ pos 9756 ∷ pos 2171 ∷ pos 9999 ∷ pos 0 ∷ pos 9000 ∷ pos 0 ∷ pos 0 ∷ pos 455 ∷ pos 7019 ∷ pos 43 ∷ pos 0 ∷ []) request.Remote false false true true 0 160 (readings (pos 20) (pos 30) (negℤ (pos 10)) (pos 9672)) 5 false true true (Two (pos 20) (pos 30) (pos 1102)) (At 711180) (pos 582421502)) (input 165 7578 5305 5833 0 2 711216) (state 8123 (pos 2000 ∷ negℤ (pos 2000) ∷ negℤ (pos 1601) ∷ negℤ (pos 9493) ∷ pos 40 ∷ negℤ (pos 20) ∷ pos 9999 ∷ pos 1 ∷ pos 700 ∷ negℤ (pos 300) ∷ pos 4829 ∷ pos 4126 ∷ pos 9756 ∷ pos 2171 ∷ pos 9999 ∷ pos 0 ∷ pos 9000 ∷ pos 0 ∷ pos 0 ∷ pos 122 ∷ pos 7019 ∷ pos 43 ∷ pos 0 ∷ []) request.Remote false false true true 0 165 (readings (pos 1031) (pos 122) (pos 909) (pos 15)) 0 true true false (Two (pos 1031) (pos 122) (pos 20)) (At 711216) (pos 599151386)) (words 3088 42405 9142 9142 Remote (pos 1031))
+    -- drop-out: Fall-back straight after the first of these, with the same channel 3: SP is SL and trim, 700 again
+    ∷ Scans (state 29931 (pos 2000 ∷ negℤ (pos 2000) ∷ pos 4395 ∷ pos 2996 ∷ pos 40 ∷ negℤ (pos 20) ∷ pos 6782 ∷ pos 4669 ∷ pos 700 ∷ negℤ (pos 300) ∷ pos 31 ∷ pos 0 ∷ pos 0 ∷ pos 3134 ∷ pos 9999 ∷ pos 0 ∷ pos 9000 ∷ pos 3946 ∷ pos 0 ∷ pos 685 ∷ pos 4888 ∷ negℤ (pos 8019) ∷ pos 0 ∷ []) request.Remote false false true false 0 165 (readings (negℤ (pos 947)) (pos 700) (negℤ (pos 1647)) (pos 0)) 0 false true false (Two (negℤ (pos 947)) (pos 700) (pos 20)) (At 581976) (pos 607013232)) (input 133 8393 0 5833 0 0 582012) (state 29931 (pos 2000 ∷ negℤ (pos 2000) ∷ pos 4395 ∷ pos 2996 ∷ pos 40 ∷ negℤ (pos 20) ∷ pos 6782 ∷ pos 4669 ∷ pos 700 ∷ negℤ (pos 300) ∷ pos 31 ∷ pos 0 ∷ pos 0 ∷ pos 3134 ∷ pos 9999 ∷ pos 0 ∷ pos 9000 ∷ pos 3946 ∷ pos 0 ∷ pos 685 ∷ pos 4888 ∷ negℤ (pos 8019) ∷ pos 0 ∷ []) request.Remote false false true false 0 133 (readings (pos 1357) (pos 700) (pos 657) (pos 0)) 0 false false true (Two (pos 1357) (pos 700) (negℤ (pos 947))) (At 582012) (pos 648957363)) (words 4096 34238 9902 97 Fallback (pos 1357))
     -- write: HR limits RS anew, in Hold
     ∷ Writes (state 47606 (pos 3784 ∷ negℤ (pos 6468) ∷ pos 3161 ∷ negℤ (pos 9029) ∷ pos 64 ∷ pos 0 ∷ pos 9999 ∷ pos 1 ∷ pos 3784 ∷ negℤ (pos 6468) ∷ pos 3783 ∷ negℤ (pos 6468) ∷ pos 16 ∷ pos 2958 ∷ pos 9999 ∷ pos 0 ∷ pos 4096 ∷ pos 4381 ∷ pos 0 ∷ negℤ (pos 6468) ∷ pos 6077 ∷ pos 6 ∷ pos 0 ∷ []) request.Auto false true true false 0 0 (readings (pos 6131) (negℤ (pos 2332)) (pos 8463) (negℤ (pos 3954))) 66 true true true (Two (pos 6131) (negℤ (pos 2332)) (negℤ (pos 2332))) (At 580716) (pos 155424984)) Engineer 7 (pos 4299) (state 47606 (pos 3784 ∷ negℤ (pos 6468) ∷ pos 3161 ∷ negℤ (pos 9029) ∷ pos 64 ∷ pos 0 ∷ pos 4299 ∷ pos 1 ∷ pos 3784 ∷ negℤ (pos 6468) ∷ pos 3783 ∷ negℤ (pos 6468) ∷ pos 16 ∷ pos 2958 ∷ pos 9999 ∷ pos 0 ∷ pos 4096 ∷ pos 4381 ∷ pos 0 ∷ negℤ (pos 6468) ∷ pos 4299 ∷ pos 6 ∷ pos 0 ∷ []) request.Auto false true true false 0 0 (readings (pos 6131) (negℤ (pos 2332)) (pos 8463) (negℤ (pos 3954))) 66 true true true (Two (pos 6131) (negℤ (pos 2332)) (negℤ (pos 2332))) (At 580716) (pos 155424984)) acceptance
     -- write: 3H not above 3L: 7

@@ -55,14 +55,17 @@ minus-requires c κs =
 measured-power-requires : tie.Need-measured-power-requires
 measured-power-requires c κs = search needs
 
-is-remote-requires : tie.Need-is-remote-requires
-is-remote-requires c κs = search needs
-
-is-ratio-requires : tie.Need-is-ratio-requires
-is-ratio-requires c κs = search needs
-
-choose-requires : tie.Need-choose-requires
-choose-requires c κs = search needs
+following-setpoint-requires : tie.Need-following-setpoint-requires
+following-setpoint-requires c κs =
+    let sp = c .before .before .limited-setpoint in
+    let trim = c .before .before .before .before .trim-of in
+    let start = c .before .before .before .before .before .before .before .before in
+    let p = start .args .p in
+    let legal = start .pre .0 in
+    simp (back w64 (sp .result) (sp .ok), back w64 (trim .result) (trim .ok)) (
+      rw (sp .ensures) (reading-small _ (setpoint-read p legal (setpoint-limited p legal _))),
+      rw (trim .ensures) (reading-small _ (trim-reading p legal _ (start .pre .1) _ _)),
+    )
 
 with-requires : tie.Need-with-requires
 with-requires c κs = search needs
@@ -75,13 +78,9 @@ unfolding computed setpointOf
 returns c =
     let with2 = c .with2 in
     let with-call = c .before .with in
-    let b1 = c .before .before in
-    let choose = b1 .choose in
-    let is-ratio = b1 .before .is-ratio in
-    let b2 = b1 .before .before in
-    let is-remote = b2 .is-remote in
-    let measured-power = b2 .before .measured-power in
-    let b3 = b2 .before .before in
+    let following-setpoint = c .before .before .following-setpoint in
+    let measured-power = c .before .before .before .measured-power in
+    let b3 = c .before .before .before .before in
     let minus = b3 .minus in
     let limited-setpoint = b3 .before .limited-setpoint in
     let b4 = b3 .before .before in
@@ -99,14 +98,13 @@ returns c =
       back w64 (process-variable .result) (process-variable .ok),
     )
     (simp (with2 .ensures, back w64 (ratio-after .result) (ratio-after .ok))
-    (simp (with-call .ensures, back w64 (choose .result) (choose .ok))
+    (simp (with-call .ensures, back w64 (following-setpoint .result) (following-setpoint .ok))
     (simp (
-      choose .ensures,
+      following-setpoint .ensures,
       back w64 (limited-setpoint .result) (limited-setpoint .ok),
       back w64 (setpoint-after .result) (setpoint-after .ok),
+      back w64 (trim-of .result) (trim-of .ok),
     )
-    (simp (is-ratio .ensures)
-    (simp (is-remote .ensures)
     (simp (measured-power .ensures)
     (simp (
       minus .ensures,
@@ -123,7 +121,7 @@ returns c =
     (simp (trim-of .ensures)
     (simp (ratio-after .ensures)
     (simp (setpoint-after .ensures, back w64 (process-variable .result) (process-variable .ok))
-    (simp (process-variable .ensures))))))))))))))
+    (simp (process-variable .ensures))))))))))))
 
 pub compute-spec : {M : Type 1} → statement M
 compute-spec =
@@ -137,9 +135,7 @@ compute-spec =
     limited-setpoint-requires
     minus-requires
     measured-power-requires
-    is-remote-requires
-    is-ratio-requires
-    choose-requires
+    following-setpoint-requires
     with-requires
     with-requires-2
     returns)
