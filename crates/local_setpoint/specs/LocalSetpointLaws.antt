@@ -1,5 +1,6 @@
--- SL and RS are small enough to be moved, and stay within their limits.
+-- Parameters are small enough to be moved; SL and RS stay within their limits.
 use mathlib.Core.Bool.{Bool, not, _&&_}
+use Prim.Native.Nat.{ℕ, _≤_}
 use native.Mathlib.Omega.{arith}
 use lib.IntN.{ℤ, pos, _+ℤ_, _-ℤ_}
 use lib.Signed.{_≤ℤ_}
@@ -14,22 +15,18 @@ use Rattle.modes.specs.Modes.{isAutomatic, isRemote, isRatio}
 use Rattle.modes.specs.declared.Mode.{Mode}
 use Rattle.parameters.specs.Legal.{Legal}
 use Rattle.parameters.specs.LegalLaws.{Inside, ranges, value-most}
-use Rattle.parameters.specs.Table.{HR, LR, HS, LS, SL, RS}
+use Rattle.parameters.specs.Table.{value, HR, LR, HS, LS, SL, RS}
 use Rattle.parameters.specs.declared.Parameters.{Parameters}
 use Rattle.local_setpoint.specs.LocalSetpoint.{moved, movedByHand, ratioAfter, setpointMoved, setpointAfter}
 use Rattle.local_setpoint.specs.LocalSetpoint.{followingSetpoint}
 
-module _ (p : Parameters) (legal : Legal p) where
-  pub setpoint-small : Small (SL p)
-  setpoint-small = record { small = omega (arith, value-most p legal 20 (omega arith) (omega arith)) }
-
-  pub ratio-small : Small (RS p)
-  ratio-small = record { small = omega (arith, value-most p legal 21 (omega arith) (omega arith)) }
+pub parameter-small : (p : Parameters) → Legal p → (n : ℕ) → 1 ≤ n → n ≤ 23 → Small (value p n)
+parameter-small p legal n a b = record { small = omega (arith, value-most p legal n a b) }
 
 pub limited-inside : (low high x : ℤ) → low ≤ℤ high → Inside low (limited low high x) high
 limited-inside low high x h = record { not-below = limited-low low high x h; not-above = limited-high low high x }
 
-pub chosen-inside : (t : Bool) (low high x y : ℤ) → Inside low x high → Inside low y high → Inside low (if t then x else y) high
+chosen-inside : (t : Bool) (low high x y : ℤ) → Inside low x high → Inside low y high → Inside low (if t then x else y) high
 chosen-inside t low high x y h k = by-cases (λ v. Inside low v high) t x y (λ e. h) (λ e. k)
 
 moved-inside : (adjustment : Adjustment) (by low high v : ℤ) → low ≤ℤ high → Inside low v high →

@@ -99,7 +99,7 @@ fn setpoint_moved(p: Parameters, mode: Mode, input: Input) -> i64
     )
 }
 
-// SL after step 4. The contract rules out a setpoint that follows PV in an automatic mode or while channel 1 is open.
+// SL after step 4. The contract rules out a setpoint that tracks PV in an automatic mode or while channel 1 is open.
 pub fn setpoint_after(p: Parameters, setpointtracks: bool, mode: Mode, input: Input, pv: i64) -> i64
     requires { ⌜ Legal p ⌝ }
     ensures { λ r. ⌜ r ≡ setpointAfter p setpointtracks mode input pv ⌝ }
@@ -107,10 +107,10 @@ pub fn setpoint_after(p: Parameters, setpointtracks: bool, mode: Mode, input: In
     let sl = p.get(parameters::SL);
     let isopen = signals::is_open(input);
     let limited = limited_setpoint(p, pv);
-    let followed = integers::choose(isopen, sl, limited);
+    let tracked = integers::choose(isopen, sl, limited);
     let by_hand = setpoint_moved(p, mode, input);
     let automatic = modes::is_automatic(mode);
-    integers::choose(setpointtracks & !automatic, followed, by_hand)
+    integers::choose(setpointtracks & !automatic, tracked, by_hand)
 }
 
 // SL after step 5, sl being SL after step 4. In Remote the trim is taken off SP, because a scan in Fall-back adds it

@@ -33,10 +33,6 @@ afterRemote c sample2 sample3 = scan c (pinAtOne sample2 sample3 0) .next
 abbrev pub afterFallBack : Controller → ℕ → Controller
 afterFallBack c sample3 = scan c (pinAtZero sample3) .next
 
--- channel 1 is open in the first
-abbrev pub afterOpen : Controller → ℕ → ℕ → Controller
-afterOpen c sample2 sample3 = scan c (pinAtOne sample2 sample3 1) .next
-
 -- SP and SL of a controller
 abbrev pub Setpoints : ℤ → ℤ → Controller → Type 0
 Setpoints sp sl c = (c .core .readings .sp ≡ sp) × (value (c .core .parameters) 20 ≡ sl)
@@ -79,8 +75,8 @@ fallBackFigures =
     ∷ Setpoints (pos 405) (pos 400) (afterRemote (write (trimmed 0) Engineer 10 (pos 400) .next) 3900 5750)
     ∷ Setpoints (pos 415) (pos 400) (afterFallBack (afterRemote (write (trimmed 0) Engineer 10 (pos 400) .next) 3900 5750) 5750)
     -- channel 1 open: no exception
-    ∷ Setpoints (pos 515) (pos 500) (afterOpen (trimmed 0) 5000 5750)
-    ∷ Setpoints (pos 515) (pos 500) (afterFallBack (afterOpen (trimmed 0) 5000 5750) 5750)
+    ∷ Setpoints (pos 515) (pos 500) (scan (trimmed 0) (pinAtOne 5000 5750 1) .next)
+    ∷ Setpoints (pos 515) (pos 500) (afterFallBack (scan (trimmed 0) (pinAtOne 5000 5750 1) .next) 5750)
     -- MD bit 4: there is no trim
     ∷ Setpoints (pos 500) (pos 500) (afterRemote (write (trimmed 0) Engineer 24 (pos 0x2010) .next) 5000 5750)
     ∷ Setpoints (pos 500) (pos 500) (afterFallBack (afterRemote (write (trimmed 0) Engineer 24 (pos 0x2010) .next) 5000 5750) 5750)

@@ -2,7 +2,7 @@
 use native.Mathlib.Omega.{arith}
 use mir.Syntax.{w64}
 use borrow.Author.Needs.{needs}
-use Rattle.local_setpoint.specs.LocalSetpointLaws.{ratio-small}
+use Rattle.local_setpoint.specs.LocalSetpointLaws.{parameter-small}
 use Rattle.integers.specs.Machine.{back}
 use Rattle.local_setpoint.specs.LocalSetpoint.{ratioAfter}
 use Rattle.local_setpoint.proofs.ratio_after.Statement.{statement}
@@ -14,7 +14,7 @@ is-ratio-requires c κs = search needs
 moved-by-hand-requires : tie.Need-moved-by-hand-requires
 moved-by-hand-requires c κs =
     let start = c .before in
-    (record { small = omega arith }, ratio-small (start .args .p) (start .pre))
+    (record { small = omega arith }, parameter-small (start .args .p) (start .pre) 21 (omega arith) (omega arith))
 
 returns : tie.Need-returns
 unfolding ratioAfter

@@ -2,7 +2,7 @@
 use native.Mathlib.Omega.{arith}
 use mir.Syntax.{w64}
 use borrow.Author.Needs.{needs}
-use Rattle.local_setpoint.specs.LocalSetpointLaws.{setpoint-small}
+use Rattle.local_setpoint.specs.LocalSetpointLaws.{parameter-small}
 use Rattle.integers.specs.Machine.{back}
 use Rattle.local_setpoint.specs.LocalSetpoint.{setpointMoved}
 use Rattle.local_setpoint.proofs.setpoint_moved.Statement.{statement}
@@ -17,7 +17,7 @@ is-remote-requires c κs = search needs
 moved-by-hand-requires : tie.Need-moved-by-hand-requires
 moved-by-hand-requires c κs =
     let start = c .before .before in
-    (record { small = omega arith }, setpoint-small (start .args .p) (start .pre))
+    (record { small = omega arith }, parameter-small (start .args .p) (start .pre) 20 (omega arith) (omega arith))
 
 returns : tie.Need-returns
 unfolding setpointMoved
