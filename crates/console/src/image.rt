@@ -22,6 +22,7 @@ pub fn buffer() -> [u8; 346]
 // A restart with so many bytes of the buffer. The contract rules out one with other bytes, and a controller that isn't
 // the one which the restart returned.
 pub fn restart(controller: Controller, count: usize, buffer: &[u8]) -> Step
+    requires { ⌜ Valid controller ⌝ }
     ensures { λ r. ⌜ r ≡ (if leb count (length (now (buffer .entry))) then
         stepOf (restart controller (take count (now (buffer .entry)))) else unchangedWith controller Error) ⌝ }
 {

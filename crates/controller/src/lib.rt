@@ -6,6 +6,7 @@ ghost use Rattle.outputs.specs.OutputLaws.{OutputRange};
 ghost use Rattle.controller.specs.Answers.{opOf, electricalOf};
 ghost use Rattle.controller.specs.Scan.{modeNow, mdNow, dsNow};
 ghost use Rattle.controller.specs.State.{startConditions, startReadings, startCore, freshController};
+ghost use Rattle.controller.specs.Valid.{Valid};
 use answers::ScanValues;
 use modes::Conditions;
 use modes::Mode;
@@ -175,9 +176,10 @@ impl Core {
 }
 
 impl Controller {
-    // Starts fresh with any switch word. The contract rules out any other state than document 01's.
+    // Starts fresh with any switch word. The contract rules out any other state than document 01's, and one that the next
+    // call could not take.
     pub fn fresh(sw: u16) -> Controller
-        ensures { λ r. ⌜ r ≡ freshController sw ⌝ }
+        ensures { λ r. ⌜ (r ≡ freshController sw) × Valid r ⌝ }
     {
         let values = Self::DEFAULTS;
         let parameters = Parameters::of(values);

@@ -5,6 +5,7 @@ ghost use Rattle.parameters.specs.Legal.{Legal};
 ghost use Rattle.controller.specs.Answers.{responseOfVerdict};
 ghost use Rattle.controller.specs.Restart.{isLegal, restartTests, repairedSettings, restoredSettings};
 ghost use Rattle.controller.specs.Restart.{restartedRequest, controllerRestarted, restart};
+ghost use Rattle.controller.specs.Valid.{Valid};
 use crate::CallResult;
 use crate::Controller;
 use modes::Request;
@@ -98,11 +99,13 @@ impl Controller {
     }
 
     // Restarts with an image, any bytes of any number: the next controller and that it was accepted, or refusal 12,
-    // 13 or 14 and the controller as it was. The contract gives the whole of both and asks nothing of either
-    // argument, so it rules out an image that is refused for no listed cause, a setting other than the rules give,
-    // a wrong sumcheck that goes unnoticed, and anything that is kept of the earlier state but SW.
+    // 13 or 14 and the controller as it was. The contract gives the whole of both and asks nothing of the image, so it
+    // rules out an image that is refused for no listed cause, a setting other than the rules give, a wrong sumcheck that
+    // goes unnoticed, anything that is kept of the earlier state but SW, and a controller that the next call could not
+    // take.
     pub fn restart(self, image: &[u8]) -> CallResult
-        ensures { λ r. ⌜ responseOfVerdict r ≡ restart self (now (image .entry)) ⌝ }
+        requires { ⌜ Valid self ⌝ }
+        ensures { λ r. ⌜ (responseOfVerdict r ≡ restart self (now (image .entry))) × Valid (r .controller) ⌝ }
     {
         let verdict = restart_verdict(image);
         match verdict {

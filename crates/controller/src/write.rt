@@ -178,10 +178,11 @@ impl Controller {
     // One write of a value by a writer, in the parameter's own units (`parameters` has the numbers by name): the next
     // controller and that it was accepted, or a refusal, 4, 19, 20 or from 5 to 11, and the controller as it was. The
     // contract gives the whole of both, so it rules out a write that changes anything else, one that
-    // forgets what it should do besides, one by a writer without the right, and a refusal for no listed cause.
+    // forgets what it should do besides, one by a writer without the right, a refusal for no listed cause, and a
+    // controller that the next call could not take.
     pub fn write(self, writer: Writer, number: u64, value: i32) -> CallResult
         requires { ⌜ Valid self ⌝ }
-        ensures { λ r. ⌜ responseOfVerdict r ≡ write self writer number value ⌝ }
+        ensures { λ r. ⌜ (responseOfVerdict r ≡ write self writer number value) × Valid (r .controller) ⌝ }
     {
         let core = self.core;
         let v = integers::wide(value);

@@ -149,7 +149,7 @@ none-refused c j r v e q = go (refusedBy (scanTests (c .core .clock) j)) refl
     go : (d : Option ℕ) → refusedBy (scanTests (c .core .clock) j) ≡ d → refusedBy (scanTests (c .core .clock) j) ≡ option.none
     go option.none h = h
     go (some n) h =
-        let refused-so : refuses (replyOf (r .answer)) ≡ true = ap (λ (h : Response). refuses (h .answer)) e ∙ rw h refl in
+        let refused-so : refuses (replyOf (r .answer)) ≡ true = ap (λ (h : Response). refuses (h .answer)) (e .0) ∙ rw h refl in
         absurd (false≢true (sym (ap (λ (a : Answer). refuses (replyOf a)) q) ∙ refused-so))
 
 -- of two readings, the one that isn't too soon after the other

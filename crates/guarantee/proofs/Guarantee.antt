@@ -13,7 +13,6 @@ use Rattle.controller.specs.Answers.{Reply, Response, responseOf, replyOfVerdic
 use Rattle.controller.specs.Restart as restarts
 use Rattle.controller.specs.Scan as rules
 use Rattle.controller.specs.Scan.{controllerAfter, modeNow, Status, Outcome, withOutput, responseFrom}
-use Rattle.controller.specs.Valid.{Valid}
 use Rattle.controller.specs.Write as writes
 use Rattle.controller.specs.declared.Controller.{Controller}
 use Rattle.controller.specs.declared.Core.{Core}
@@ -32,7 +31,7 @@ use Rattle.guarantee.proofs.Clock.{reading-after, last-scan, apart}
 use Rattle.guarantee.proofs.Earlier.{earlier-after}
 use Rattle.guarantee.proofs.Faults.{fault-after}
 use Rattle.guarantee.proofs.Limits.{within-after}
-use Rattle.guarantee.proofs.Linked.{linked}
+use Rattle.guarantee.proofs.Linked.{linked, valid-linked}
 use Rattle.guarantee.proofs.Modes.{mode-is-first}
 use Rattle.guarantee.proofs.Ours.{ours, cores, outcomes, switch-word, open-count-after, valid-after, bound-after}
 use Rattle.guarantee.proofs.Rights.{pins-after, access-told, unchanged, by-value}
@@ -59,19 +58,19 @@ scan-is : {word : ℕ} {xs : Calls} {rs : List Response} {c : Controller} (i : I
     ScanEnsures c i r →
     responseOf r ≡ responseFrom (ours word xs) (outcomeOf counted (ours word xs .core) (scan i))
 unfolding rules.scan outcomeOf
-scan-is i r l e = e ∙ ap (λ (k : Controller). rules.scan k i) (linked l)
+scan-is i r l e = e .0 ∙ ap (λ (k : Controller). rules.scan k i) (linked l)
 
 write-is : {word : ℕ} {xs : Calls} {rs : List Response} {c : Controller} (w : Writer) (n : ℕ) (v : ℤ) (r : CallResult) →
     Linked word xs rs c → WriteEnsures c w n v r →
     responseOfVerdict r ≡ responseFrom (ours word xs) (outcomeOf counted (ours word xs .core) (write w n v))
 unfolding writes.write outcomeOf
-write-is w n v r l e = e ∙ ap (λ (k : Controller). writes.write k w n v) (linked l)
+write-is w n v r l e = e .0 ∙ ap (λ (k : Controller). writes.write k w n v) (linked l)
 
 restart-is : {word : ℕ} {xs : Calls} {rs : List Response} {c : Controller} (life : Lifetime) (image : Slice) (r : CallResult) →
     Linked word xs rs c → RestartEnsures life c image r →
     responseOfVerdict r ≡ responseFrom (ours word xs) (outcomeOf counted (ours word xs .core) (restart (now image)))
 unfolding restarts.restart outcomeOf
-restart-is life image r l e = e ∙ ap (λ (k : Controller). restarts.restart k (now image)) (linked l)
+restart-is life image r l e = e .0 ∙ ap (λ (k : Controller). restarts.restart k (now image)) (linked l)
 
 -- one answer more
 answered : {word : ℕ} {xs : Calls} {rs : List Response} (x : Call) (h : Response) →
@@ -133,13 +132,13 @@ guarantee word calls rs c l =
 -- every call's `requires` holds at every controller that the calls return: it shuts no call out
 pub ready : AlwaysReady
 ready word calls rs c l =
-    let valid : Valid c = rw (linked l) (valid-after word calls) in
+    let valid = valid-linked l in
     record {
       fresh-ready = λ word. tt;
       scan-ready = λ i. valid;
       write-ready = λ w n v. valid;
       access-ready = λ w n. tt;
-      restart-ready = λ life image. tt;
+      restart-ready = λ life image. valid;
       read-ready = λ n. valid;
       last-reading-ready = tt;
       save-ready = λ life buffer. valid;

@@ -5,6 +5,7 @@ pub mod Capped
 pub mod Clock
 pub mod Counting
 pub mod Earlier
+pub mod Endings
 pub mod ExactOutput
 pub mod Existence
 pub mod Faults

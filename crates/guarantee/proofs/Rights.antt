@@ -220,7 +220,7 @@ pub unchanged : {word : ℕ} {xs : Calls} {rs : List Response} {c : Controller} 
     (r .controller ≡ c) × (replyOfVerdict (r .verdict) ≡ replyBy (accessOr (lastPins word xs) w n option.none))
 unchanged {c = c} l w n v r e without =
     let pins = our-pins l in
-    let is = e ∙ write-without c w n v (ap (λ (p : ℕ). hasRight p w n) pins ∙ without) in (
+    let is = e .0 ∙ write-without c w n v (ap (λ (p : ℕ). hasRight p w n) pins ∙ without) in (
       ap (λ (h : Response). h .next) is,
       ap (λ (h : Response). h .answer) is ∙ ap (λ (p : ℕ). replyBy (accessOr p w n option.none)) pins,
     )
@@ -238,7 +238,7 @@ by-value {c = c} l w n v r e right k is =
     let h = has-both (c .core .conditions .pins) w n (ap (λ (p : ℕ). hasRight p w n) (our-pins l) ∙ right) in
     let tests = right-common (c .core) w n v (pin-is w (c .core .conditions .pins) ∙ h .1) (right-is w n ∙ h .0) in
     refused-from 4 11 (commonTests (c .core) n v) (common-numbers (c .core) n v) k
-    (sym tests ∙ write-refused c w n v k (sym (ap (λ (h : Response). h .answer) e) ∙ is))
+    (sym tests ∙ write-refused c w n v k (sym (ap (λ (h : Response). h .answer) (e .0)) ∙ is))
 
 -- ---- lists without such writes
 

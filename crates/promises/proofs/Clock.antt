@@ -64,11 +64,11 @@ same-scan d i h e q =
 
 pub gap-forgets : GapForgets
 unfolding recalledAt
-gap-forgets d i r v e q gap = e ∙ same-scan d i Nothing (none-refused d i r v e q) (rw gap refl)
+gap-forgets d i r v e q gap = (e .0 ∙ same-scan d i Nothing (none-refused d i r v e q) (rw gap refl), e .1)
 
 pub ordinary-remembers : OrdinaryRemembers
 unfolding recalledAt
-ordinary-remembers d i r v e q gap = e ∙ same-scan d i (d .core .history) (none-refused d i r v e q) (rw gap refl)
+ordinary-remembers d i r v e q gap = (e .0 ∙ same-scan d i (d .core .history) (none-refused d i r v e q) (rw gap refl), e .1)
 
 pub stays-valid : StaysValid
 unfolding remembering

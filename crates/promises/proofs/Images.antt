@@ -46,8 +46,7 @@ use Rattle.promises.specs.Restarts.{Accepts, RestartState}
 use Rattle.guarantee.specs.Linked.{SaveEnsures, Slice, Lifetime}
 use Rattle.guarantee.proofs.Answers.{own-output}
 use Rattle.guarantee.proofs.Brought.{op-at}
-use Rattle.guarantee.proofs.Linked.{linked}
-use Rattle.guarantee.proofs.Ours.{valid-after}
+use Rattle.guarantee.proofs.Linked.{valid-linked}
 use Rattle.promises.proofs.Places.{word-at, sound-is}
 use Rattle.promises.proofs.Restarts.{isAcceptance, restart-state}
 use Rattle.promises.proofs.Units.{to-output}
@@ -124,9 +123,9 @@ module _ (c : Controller) (valid : Valid c) (life : Lifetime) (buffer : Slice) (
 
 pub saved-restarts : SavedRestarts
 saved-restarts word calls rs c l life buffer r after saves took later d image j same restarts =
-    let valid : Valid c = rw (linked l) (valid-after word calls) in
+    let valid = valid-linked l in
     let bytes : now image ≡ savedImage c = same ∙ taken-front c valid life buffer r after saves took in
-    let response-is = restarts ∙ ap (restart d) bytes ∙ restart-is c d valid in (
+    let response-is = restarts .0 ∙ ap (restart d) bytes ∙ restart-is c d valid in (
       sym (sound-is (now image)) ∙ ap isSound bytes ∙ saved-sound c valid,
       ap (λ (h : Response). h .answer) response-is,
       subst (λ (n : Controller). Restored c d n) (sym (ap (λ (h : Response). h .next) response-is)) (restored c d valid),
@@ -179,9 +178,9 @@ pub saves-the-same : SavesTheSame
 saves-the-same life d image j bytes effects within off restarts =
     let sound = sound-is (now image) ∙ effects in
     let again : savedImage (j .controller) ≡ now image =
-    ap (λ (h : Response). savedImage (h .next)) restarts ∙ same-again (now image) bytes sound d off within in
+    ap (λ (h : Response). savedImage (h .next)) (restarts .0) ∙ same-again (now image) bytes sound d off within in
     let size : length (savedImage (j .controller)) ≡ 137 = ap length again ∙ sound-size (now image) sound in (
-      ap (λ (h : Response). h .answer) restarts ∙ accepts-sound d (now image) sound,
+      ap (λ (h : Response). h .answer) (restarts .0) ∙ accepts-sound d (now image) sound,
       λ later buffer r after h saves.
           let took = enough (now buffer) h in (
             saves .0 ∙ took,

@@ -69,7 +69,7 @@ unfolding rules.scan scanCore
 accepted-scan d i e = rw e refl
 
 pub scan-refusals : ScanRefusals
-scan-refusals d i r e = ap (λ (h : Response). refusalIn (h .answer)) e ∙ scan-refusal d i
+scan-refusals d i r e = ap (λ (h : Response). refusalIn (h .answer)) (e .0) ∙ scan-refusal d i
 
 -- ---- writes: the rows of the table, by its columns
 
@@ -185,7 +185,7 @@ write-refusal d w n v =
     refusal-is d (refusedBy (writeTests (d .core) w n v)) (writeAccepted (d .core) n v) refl ∙ write-tests (d .core) w n v
 
 pub write-refusals : WriteRefusals
-write-refusals d w n v r e = ap (λ (h : Response). refusalIn (h .answer)) e ∙ write-refusal d w n v
+write-refusals d w n v r e = ap (λ (h : Response). refusalIn (h .answer)) (e .0) ∙ write-refusal d w n v
 
 -- ---- reads
 

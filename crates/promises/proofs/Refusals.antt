@@ -147,12 +147,12 @@ unfolding restart restartCore restartAccepted rules.scan scanCore rules.accepted
 refusal-order =
     record {
       scans = λ c i r e. let last = c .core .clock in
-          wins byNumber c (scanTests last i) (rules.accepted counted (c .core) i) _ (scan-ascends last i) refl e;
+          wins byNumber c (scanTests last i) (rules.accepted counted (c .core) i) _ (scan-ascends last i) refl (e .0);
       writes = λ c w n v r e.
-          wins (placeIn writeOrder) c (writeTests (c .core) w n v) (writeAccepted (c .core) n v) _ (write-ascends (c .core) w n v) refl e;
+          wins (placeIn writeOrder) c (writeTests (c .core) w n v) (writeAccepted (c .core) n v) _ (write-ascends (c .core) w n v) refl (e .0);
       restarts =
           λ life c image r e. wins byNumber c (restartTests (now image))
-          (restartAccepted (c .core) (valuesIn (now image))) _ (restart-ascends (now image)) refl e;
+          (restartAccepted (c .core) (valuesIn (now image))) _ (restart-ascends (now image)) refl (e .0);
       saves = λ life c buffer r after e.
           subst (Lowest byNumber (saveTests (now buffer))) (sym (ap refusalIn (e .0) ∙ reply-refusal (refusedBy (saveTests (now buffer)))))
           (lowest byNumber _ (save-ascends (now buffer)));
@@ -171,15 +171,15 @@ pub refused-stays : RefusedStays
 unfolding restart restartCore restartAccepted rules.scan scanCore rules.accepted statusOf write writeCore writeAccepted responseFrom
 refused-stays = (
   λ life d image j n e a.
-      ap (λ (h : Response). h .next) e ∙
+      ap (λ (h : Response). h .next) (e .0) ∙
       stays d (refusedBy (restartTests (now image))) (restartAccepted (d .core) (valuesIn (now image))) refl n
-      (sym (ap (λ (h : Response). h .answer) e) ∙ a),
+      (sym (ap (λ (h : Response). h .answer) (e .0)) ∙ a),
   λ d w p v j n e a.
-      ap (λ (h : Response). h .next) e ∙
+      ap (λ (h : Response). h .next) (e .0) ∙
       stays d (refusedBy (writeTests (d .core) w p v)) (writeAccepted (d .core) p v) refl n
-      (sym (ap (λ (h : Response). h .answer) e) ∙ a),
+      (sym (ap (λ (h : Response). h .answer) (e .0)) ∙ a),
   λ d i r n e a.
-      ap (λ (h : Response). h .next) e ∙
+      ap (λ (h : Response). h .next) (e .0) ∙
       stays d (refusedBy (scanTests (d .core .clock) i)) (rules.accepted counted (d .core) i) refl n
-      (sym (ap (λ (h : Response). h .answer) e) ∙ a),
+      (sym (ap (λ (h : Response). h .answer) (e .0)) ∙ a),
 )

@@ -67,7 +67,7 @@ answer-is d image =
     (isIllegal (valuesIn image)) refl)
 
 pub restart-answers : RestartAnswers
-restart-answers life d image j e = ap (λ (h : Response). h .answer) e ∙ answer-is d (now image)
+restart-answers life d image j e = ap (λ (h : Response). h .answer) (e .0) ∙ answer-is d (now image)
 
 -- ---- what every start leaves
 
@@ -110,7 +110,7 @@ fresh-state word =
     }
 
 pub fresh-starts : FreshStarts
-fresh-starts word n e = subst (FreshState word) (sym e) (fresh-state word)
+fresh-starts word n e = subst (FreshState word) (sym (e .0)) (fresh-state word)
 
 abbrev pub isAcceptance : Reply → Bool
 isAcceptance (words md ds op electrical mode pv) = false
@@ -131,8 +131,8 @@ restart-state d image =
 
 pub restart-leaves : RestartLeaves
 restart-leaves life d image j e a =
-    subst (λ (n : Controller). RestartState d n) (sym (ap (λ (h : Response). h .next) e))
-    (restart-state d (now image) (sym (ap (λ (h : Response). h .answer) e) ∙ a))
+    subst (λ (n : Controller). RestartState d n) (sym (ap (λ (h : Response). h .next) (e .0)))
+    (restart-state d (now image) (sym (ap (λ (h : Response). h .answer) (e .0)) ∙ a))
 
 -- ---- the right sumcheck
 
@@ -199,8 +199,8 @@ takes-accepted d image right =
 
 pub right-sum-takes : RightSumTakes
 right-sum-takes life d image j e a right =
-    subst (λ (n : Controller). Taken (now image) d n) (sym (ap (λ (h : Response). h .next) e))
-    (takes-accepted d (now image) (sum-is (now image) ∙ right) (sym (ap (λ (h : Response). h .answer) e) ∙ a))
+    subst (λ (n : Controller). Taken (now image) d n) (sym (ap (λ (h : Response). h .next) (e .0)))
+    (takes-accepted d (now image) (sum-is (now image) ∙ right) (sym (ap (λ (h : Response). h .answer) (e .0)) ∙ a))
 
 -- ---- a wrong sumcheck
 
@@ -282,5 +282,5 @@ repairs-accepted d image wrong =
 
 pub wrong-sum-repairs : WrongSumRepairs
 wrong-sum-repairs life d image j e a wrong =
-    subst (λ (n : Controller). Repaired (now image) d n) (sym (ap (λ (h : Response). h .next) e))
-    (repairs-accepted d (now image) (sum-is (now image) ∙ wrong) (sym (ap (λ (h : Response). h .answer) e) ∙ a))
+    subst (λ (n : Controller). Repaired (now image) d n) (sym (ap (λ (h : Response). h .next) (e .0)))
+    (repairs-accepted d (now image) (sum-is (now image) ∙ wrong) (sym (ap (λ (h : Response). h .answer) (e .0)) ∙ a))

@@ -42,7 +42,7 @@ written-number : (d : Controller) (w : Writer) (n : ℕ) (v : ℤ) (r : CallResu
     refusalIn (replyOfVerdict (r .verdict)) ≡ firstOf (refusedBy (accessNow (d .core) w n)) (refusedBy (valueTests (d .core) n v))
 unfolding writes.write writeCore responseFrom writeAccepted writeTests
 written-number d w n v r e =
-    ap (λ (h : Response). refusalIn (h .answer)) e ∙
+    ap (λ (h : Response). refusalIn (h .answer)) (e .0) ∙
     refusal-is d (refusedBy (writeTests (d .core) w n v)) (writeAccepted (d .core) n v) refl ∙
     refused-append (accessNow (d .core) w n) (valueTests (d .core) n v)
 
@@ -62,4 +62,4 @@ access-foretells d w n told e =
 
 pub engineer-writes : EngineerWrites
 unfolding writes.write writeCore formerWrite
-engineer-writes d n v r e = e ∙ rw (engineer-common (d .core) n v) refl
+engineer-writes d n v r e = e .0 ∙ rw (engineer-common (d .core) n v) refl

@@ -20,9 +20,8 @@ use Rattle.guarantee.specs.Claim.{OwnOutput}
 use Rattle.promises.specs.Images.{codeFor, SavedBytes, SaveEncodes}
 use Rattle.guarantee.proofs.Answers.{own-output}
 use Rattle.guarantee.proofs.Brought.{fault-at, sum-is}
-use Rattle.guarantee.proofs.Linked.{linked}
+use Rattle.guarantee.proofs.Linked.{valid-linked}
 use Rattle.promises.proofs.Images.{taken-front, bytes-behind}
-use Rattle.guarantee.proofs.Ours.{valid-after}
 use Rattle.promises.proofs.Places.{well-formed-is, word-at, request-at, user-bits-at}
 
 code-is : (r : Request) → requestNumber r ≡ codeFor r
@@ -59,7 +58,7 @@ module _ (c : Controller) (valid : Valid c) where
 pub save-encodes : SaveEncodes
 unfolding image
 save-encodes word calls rs c l life buffer r after saves took =
-    let valid : Valid c = rw (linked l) (valid-after word calls) in (
+    let valid = valid-linked l in (
       subst (λ (bytes : List ℕ). SavedBytes c bytes) (sym (taken-front c valid life buffer r after saves took)) (encoded c valid),
       bytes-behind c valid life buffer r after saves took,
     )

@@ -65,5 +65,5 @@ pub scan-effects : ScanEffects
 scan-effects d i r valid e in-range =
     let last = d .core .clock in
     let passes : refusedBy (scanTests last i) ≡ none = scan-tests last i ∙ in-range in
-    let all = subst (Effects d i) (sym (e ∙ accepted-scan d i passes)) (effects d i valid (sampled last i passes)) in
+    let all = subst (Effects d i) (sym (e .0 ∙ accepted-scan d i passes)) (effects d i valid (sampled last i passes)) in
     (all .0, answered (r .controller) (r .answer) (all .1))

@@ -137,4 +137,4 @@ stored d i legal = scan-stored (d .core) i (d .output) legal
 pub stored-outputs : StoredOutputs
 stored-outputs d i r valid e in-range =
     let passes : refusedBy (scanTests (d .core .clock) i) ≡ none = scan-tests (d .core .clock) i ∙ in-range in
-    subst (Stored d i) (sym (e ∙ accepted-scan d i passes)) (stored d i (valid .legal))
+    subst (Stored d i) (sym (e .0 ∙ accepted-scan d i passes)) (stored d i (valid .legal))

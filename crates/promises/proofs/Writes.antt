@@ -187,5 +187,5 @@ unfolding responseFrom controllerAfter writeAccepted
 write-effects d w n v r valid e passes =
     let tests : refusedBy (writeTests (d .core) w n v) ≡ none = write-tests (d .core) w n v ∙ passes in
     subst (λ (h : Response). WriteEffect (d .core) (h .next .core) n v × (h .next .output ≡ expectedOutput d (h .next .core) n))
-    (sym (e ∙ accepted-write d w n v tests))
+    (sym (e .0 ∙ accepted-write d w n v tests))
     (effect (d .core) n v (valid .legal) (in-range (d .core) w n v passes), output-is d n v)

@@ -198,3 +198,8 @@ line-valid c w room (Write n v) valid =
 pub valid-line : (c : Controller) (w : Writer) (line room : List ℕ) → Valid c → Valid (answered c w line room .next)
 unfolding answered
 valid-line c w line room valid = line-valid c w room _ valid
+
+-- what is returned is what the line gives, and is valid
+pub with-valid : (c : Controller) (w : Writer) (line room : List ℕ) (o : LineOutcome) → Valid c → o ≡ answered c w line room →
+    (o ≡ answered c w line room) × Valid (o .next)
+with-valid c w line room o valid is = (is, rw is (valid-line c w line room valid))

@@ -97,7 +97,8 @@ fn write(
 // right, a read that needs one, a reply with another value than the present one, and a change behind the reply.
 pub fn answer(controller: Controller, writer: Writer, line: &[u8], reply: &mut [u8]) -> LineResult
     requires { ⌜ Valid controller ⌝ }
-    ensures { λ r. ⌜ outcomeOf r (now (reply .exit)) ≡ answered controller writer (now (line .entry)) (now (reply .entry)) ⌝ }
+    ensures { λ r. ⌜ (outcomeOf r (now (reply .exit)) ≡ answered controller writer (now (line .entry)) (now (reply .entry)))
+        × Valid (r .controller) ⌝ }
 {
     let command = command::parse(line);
     match command {

@@ -174,11 +174,11 @@ written-right c w n v buffer r after none t valid f e =
     let next = replied-next (write c w n v .next) n buffer r after t e in
     let answers = write-answer c w n v ∙ ap replyBy f in
     accepted-write
-    (λ q h. (ap (λ (k : Response). k .answer) h ∙ answers, next ∙ sym (ap (λ (k : Response). k .next) h)))
+    (λ q h. (ap (λ (k : Response). k .answer) (h .0) ∙ answers, next ∙ sym (ap (λ (k : Response). k .next) (h .0))))
     (subst (λ (k : Controller). Replied k n buffer r after) (sym next)
     (replied-right (write c w n v .next) n buffer r after t (valid-write c w n v valid) e))
 written-right c w n v buffer r after (some k) t valid f e =
-    refused-write (λ q h. ap (λ (k : Response). k .answer) h ∙ write-answer c w n v ∙ ap replyBy f) (refused-right k c buffer r after e)
+    refused-write (λ q h. ap (λ (k : Response). k .answer) (h .0) ∙ write-answer c w n v ∙ ap replyBy f) (refused-right k c buffer r after e)
 
 -- ---- every line
 
@@ -214,4 +214,4 @@ line-right c w line buffer r after (Write n v) valid (asks-write a) e =
 pub lines-right : LinesRight
 unfolding answered
 lines-right lives c w line buffer r after valid e =
-    line-right c w (now line) (now buffer) r after (commandIn (now line)) valid (meaning (now line)) e
+    line-right c w (now line) (now buffer) r after (commandIn (now line)) valid (meaning (now line)) (e .0)

@@ -194,7 +194,7 @@ reply-sent-back word es c visited n least most lives w bytes buffer r after e na
     room =
     let t : InTable n = record { least = least; most = omega arith } in
     let answer = ap replyOfLine given in
-    let first = by-command c (now bytes) (now buffer) r after n k t named-so answer w (commandIn (now bytes)) (meaning (now bytes)) e in
+    let first = by-command c (now bytes) (now buffer) r after n k t named-so answer w (commandIn (now bytes)) (meaning (now bytes)) (e .0) in
     let now-visited = typed lives w bytes buffer r after visited e in
     let claim = lines-are-writes word _ (r .controller) now-visited in
     let valid = claim .ready .valid in
@@ -205,7 +205,7 @@ reply-sent-back word es c visited n least most lives w bytes buffer r after e na
     let text-is = sent ∙ reply-is in
     record {
       same = λ right free.
-          let again-replied = accepted d n least most valid within w2 (now again) (now buffer2) r2 after2 text-is room e2 right free in
+          let again-replied = accepted d n least most valid within w2 (now again) (now buffer2) r2 after2 text-is room (e2 .0) right free in
           let answer2 = reply-size d n (now buffer) (now buffer2) r after r2 after2 first again-replied ∙ answer in
           record {
             controller = next-is d n (now buffer2) r2 after2 again-replied;
@@ -213,9 +213,9 @@ reply-sent-back word es c visited n least most lives w bytes buffer r after e na
             bytes = front d n k (now buffer2) r2 after2 again-replied answer2 ∙ sym reply-is;
             behind = behind d n k (now buffer2) r2 after2 again-replied answer2;
           };
-      setpoint = held-refused d n least most valid within w2 (now again) (now buffer2) r2 after2 text-is room e2;
+      setpoint = held-refused d n least most valid within w2 (now again) (now buffer2) r2 after2 text-is room (e2 .0);
       without = λ none-there.
-          refused d n least most valid within w2 (now again) (now buffer2) r2 after2 text-is room e2 _
+          refused d n least most valid within w2 (now again) (now buffer2) r2 after2 text-is room (e2 .0) _
           (refused-without (d .core) w2 n (value (d .core .parameters) n) none-there ∙
           some-without (d .core .conditions .pins) w2 n least (omega arith) none-there);
     }

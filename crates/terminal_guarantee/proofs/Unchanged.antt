@@ -133,8 +133,8 @@ module _ (c : Controller) (n : ℕ) (least : 1 ≤ n) (most : n ≤ 23) (valid :
 
     next-output : write c who n present .next .output ≡ c .output
     next-output =
-        let w = write-exists c who n present in
-        let next = ap (λ (h : Response). h .next) (w .described) in
+        let w = write-exists c who n present valid in
+        let next = ap (λ (h : Response). h .next) (w .described .0) in
         let passes = sym (write-tests (c .core) who n present) ∙ accepted in
         let output = write-effects c who n present (w .result) valid (w .described) passes .1 in
         let core-is = ap (λ (k : Controller). k .core) next ∙ next-core in

@@ -7,6 +7,7 @@ use lib.ListN.{length, take}
 use denote.Ref.{now}
 use Rattle.rights.specs.declared.Writer.{Writer}
 use Rattle.controller.specs.Answers.{Response}
+use Rattle.controller.specs.Valid.{Valid}
 use Rattle.controller.specs.declared.CallResult.{CallResult}
 use Rattle.controller.specs.declared.Controller.{Controller}
 use Rattle.guarantee.specs.Exact as calls
@@ -15,6 +16,7 @@ use Rattle.guarantee.specs.Linked as linked
 use Rattle.guarantee.specs.Linked.{Linked, WriteEnsures}
 use Rattle.guarantee.proofs.Existence.{write-exists}
 use Rattle.guarantee.proofs.Guarantee.{guarantee, ready}
+use Rattle.guarantee.proofs.Linked.{valid-linked}
 use Rattle.controller.specs.WriteLaws.{write-refused, write-leaves}
 use Rattle.terminal.specs.declared.LineResult.{LineResult}
 use Rattle.terminal_guarantee.specs.Forms.{letters, InTable, a-read, a-write, Asks, writes}
@@ -41,16 +43,17 @@ record Wrote (c : Controller) (who : Writer) (n : ℕ) (v : ℤ) (r : LineResult
   ensured : WriteEnsures c who n v result
   same : result .controller ≡ r .controller
 
-wrote-by : (c : Controller) (who : Writer) (n : ℕ) (v : ℤ) (buffer : List ℕ) (r : LineResult) (after : List ℕ) →
+wrote-by : (c : Controller) (who : Writer) (n : ℕ) (v : ℤ) (buffer : List ℕ) (r : LineResult) (after : List ℕ) → Valid c →
     Written c who n v buffer r after → Wrote c who n v r
-wrote-by c who n v buffer r after (accepted-write f g) =
-    let w = write-exists c who n v in
+wrote-by c who n v buffer r after valid (accepted-write f g) =
+    let w = write-exists c who n v valid in
     record { result = w .result; ensured = w .described; same = sym (f (w .result) (w .described) .1) }
-wrote-by c who n v buffer r after (refused-write {k} f g) =
-    let w = write-exists c who n v in
-    let answer = sym (ap (λ (h : Response). h .answer) (w .described)) ∙ f (w .result) (w .described) in
+wrote-by c who n v buffer r after valid (refused-write {k} f g) =
+    let w = write-exists c who n v valid in
+    let is = w .described .0 in
+    let answer = sym (ap (λ (h : Response). h .answer) is) ∙ f (w .result) (w .described) in
     let left = write-leaves c who n v k (write-refused c who n v k answer) in
-    record { result = w .result; ensured = w .described; same = ap (λ (h : Response). h .next) (w .described) ∙ left ∙ sym (g .controller) }
+    record { result = w .result; ensured = w .described; same = ap (λ (h : Response). h .next) is ∙ left ∙ sym (g .controller) }
 
 -- a line that writes nothing
 unwritten : {word : ℕ} {es : Events} {c : Controller} {who : Writer} {bytes : List ℕ} {room : ℕ} (r : LineResult) → Without word es c →
@@ -81,7 +84,7 @@ by-claim who bytes buffer r after w (a-reading {n} a h same g) =
     let z : _≡_ {A = ℕ} 0 1 = cc in
     apart z)
 by-claim {word} {es} {c} who bytes buffer r after w (a-writing {n} {v} a h g) =
-    let k = wrote-by c who n v buffer r after g in
+    let k = wrote-by c who n v buffer r after (valid-linked (w .linked)) g in
     record {
       without = calls._then_ (w .without) (write who n v);
       turned = a-write-of (w .turned) a h;

@@ -40,22 +40,26 @@ use Rattle.outputs.specs.History as h
 use Rattle.outputs.specs.Instruction as o
 use Rattle.outputs.specs.Outputs as u
 use Rattle.controller.specs.Answers as a
-use Rattle.controller.specs.Answers.{number}
+use Rattle.controller.specs.Answers.{number, responseOf}
 use Rattle.controller.specs.Save as c
 use Rattle.controller.specs.Save.{savedImage}
 use Rattle.controller.specs.Scan as s
 use Rattle.controller.specs.Scan.{scan}
 use Rattle.controller.specs.State as State
 use Rattle.controller.specs.State.{freshController}
+use Rattle.controller.specs.ValidLaws.{valid-fresh}
 use Rattle.controller.specs.Write as w
 use Rattle.controller.specs.Write.{write}
 use Rattle.controller.specs.declared.Answer.the-variants.{Accepted}
 use Rattle.controller.specs.declared.CallResult.{CallResult}
 use Rattle.controller.specs.declared.Controller.{Controller}
+use Rattle.controller.specs.declared.ScanResult.{ScanResult}
 use Rattle.guarantee.specs.Exact as call
-use Rattle.guarantee.specs.Exact.{none, _then_}
+use Rattle.guarantee.specs.Exact.{Calls, none, _then_}
 use Rattle.guarantee.specs.Modes as q
-use Rattle.guarantee.specs.Linked.{ChainTo, started, wrote}
+use Rattle.guarantee.specs.Linked.{ScanEnsures, ChainTo, started, wrote}
+use Rattle.guarantee.proofs.Existence.{scan-by, write-by}
+use Rattle.guarantee.proofs.Linked.{valid-linked}
 use Rattle.promises.specs.Scans.{Scaled}
 use Rattle.worked.specs.FallBackFigures.{trimmed, pinAtOne, pinAtZero, afterRemote, afterFallBack, formerly}
 use Rattle.worked.specs.FallBackFigures.{fallBackFigures}
@@ -81,11 +85,24 @@ trimmed-chain : (c : Controller) → write (freshController 0) Engineer 6 (neg�
     write c Engineer 5 (pos 100) ≡ record { next = trimmed 0; answer = a.acceptance } →
     ChainTo 0 (none then call.write Engineer 6 (negℤ (pos 100)) then call.write Engineer 5 (pos 100)) (trimmed 0)
 trimmed-chain c e d =
-    let one = wrote Engineer 6 (negℤ (pos 100)) (accepted c) (started (freshController 0) refl) (sym e) in
-    record { responses = _; chain = wrote Engineer 5 (pos 100) (accepted (trimmed 0)) one (sym d) }
+    let first = write-by (freshController 0) Engineer 6 (negℤ (pos 100)) (accepted c) (valid-fresh 0) (sym e) in
+    let one = wrote Engineer 6 (negℤ (pos 100)) (accepted c) (started (freshController 0) (refl, valid-fresh 0)) first in
+    let second = write-by c Engineer 5 (pos 100) (accepted (trimmed 0)) (valid-linked one) (sym d) in
+    record { responses = _; chain = wrote Engineer 5 (pos 100) (accepted (trimmed 0)) one second }
   where
     accepted : Controller → CallResult
     accepted next = record { controller = next; verdict = verdict.Accepted }
+
+-- and so do two scans that are accepted
+abbrev remoteResult : ScanResult
+remoteResult = record { controller = afterRemote (trimmed 0) 5000 5750; answer = Accepted remoteValues }
+
+abbrev fallBackResult : ScanResult
+fallBackResult = record { controller = afterFallBack (afterRemote (trimmed 0) 5000 5750) 5750; answer = Accepted fallBackValues }
+
+remote-made : {calls : Calls} → ChainTo 0 calls (trimmed 0) → responseOf remoteResult ≡ scan (trimmed 0) (pinAtOne 5000 5750 0) →
+    ScanEnsures (trimmed 0) (pinAtOne 5000 5750 0) remoteResult
+remote-made k e = scan-by (trimmed 0) (pinAtOne 5000 5750 0) remoteResult (valid-linked (k .chain)) e
 
 pub scan-figures-hold : AllHold scanFigures × AllHold fallBackFigures
 unfolding scanFigures onceScanned biased fallBackFigures trimmed formerly q.sameRequest q.condition q.priority q.first
@@ -115,11 +132,16 @@ scan-figures-hold = (
         before = trimmed-chain _ refl refl;
         i = pinAtOne 5000 5750 0;
         j = pinAtZero 5750;
-        r = record { controller = afterRemote (trimmed 0) 5000 5750; answer = Accepted remoteValues };
-        q = record { controller = afterFallBack (afterRemote (trimmed 0) 5000 5750) 5750; answer = Accepted fallBackValues };
+        r = remoteResult;
+        q = fallBackResult;
         falls-back = record {
-          remote = record { made = refl; values = remoteValues; accepted = refl; in-mode = refl };
-          fall-back = record { made = refl; values = fallBackValues; accepted = refl; in-mode = refl };
+          remote = record { made = remote-made (trimmed-chain _ refl refl) refl; values = remoteValues; accepted = refl; in-mode = refl };
+          fall-back = record {
+            made = scan-by (remoteResult .controller) (pinAtZero 5750) fallBackResult (remote-made (trimmed-chain _ refl refl) refl .1) refl;
+            values = fallBackValues;
+            accepted = refl;
+            in-mode = refl;
+          };
           channel3 = pos 15;
           trim-of = record { channel3-scaled = fifteen; trim-is = refl };
           not-below = omega (arith, integers);

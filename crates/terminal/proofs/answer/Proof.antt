@@ -4,7 +4,7 @@ use mir.Syntax.{w32}
 use Rattle.integers.specs.Machine.{back}
 use Rattle.terminal.specs.Terminal.{answered, answeredTo}
 use Rattle.terminal.specs.declared.command.Command.the-variants.{Write}
-use Rattle.terminal.specs.TerminalLaws.{read-is-named, write-is-named}
+use Rattle.terminal.specs.TerminalLaws.{read-is-named, write-is-named, with-valid}
 use borrow.Author.Needs.{needs}
 use Rattle.terminal.proofs.answer.Statement.{statement}
 use Rattle.terminal.proofs.answer.Tie as tie
@@ -51,13 +51,16 @@ unfolding answered answeredTo
 returns c =
     let p = c .before .before .before in
     let s = p .before .before .before in
-    rw (c .refused .ensures, sym (p .parse .ensures) ∙ c .before .enum-told .given .1) refl
+    with-valid (s .args .controller) (s .args .writer) (s .args .line .now) (s .args .reply .now) _ (s .pre)
+    (rw (c .refused .ensures, sym (p .parse .ensures) ∙ c .before .enum-told .given .1) refl)
 
 returns-2 : tie.Need-returns-2
 unfolding answered answeredTo
 returns-2 c =
     let p = c .before .before .before in
-    rw (c .refused2 .ensures, sym (p .parse .ensures) ∙ c .before .enum-told2 .given .1) refl
+    let s = p .before .before .before in
+    with-valid (s .args .controller) (s .args .writer) (s .args .line .now) (s .args .reply .now) _ (s .pre)
+    (rw (c .refused2 .ensures, sym (p .parse .ensures) ∙ c .before .enum-told2 .given .1) refl)
 
 same-length : tie.Need-same-length
 same-length c = search needs
@@ -69,7 +72,8 @@ returns-3 c =
     let e = r .before .before .before in
     let p = e .before .before in
     let s = p .before .before .before in
-    r .read .ensures ∙ ap (answeredTo (s .args .controller) (s .args .writer) _) (sym (e .command .given .1) ∙ p .parse .ensures)
+    with-valid (s .args .controller) (s .args .writer) (s .args .line .now) (s .args .reply .now) _ (s .pre)
+    (r .read .ensures ∙ ap (answeredTo (s .args .controller) (s .args .writer) _) (sym (e .command .given .1) ∙ p .parse .ensures))
 
 same-length-2 : tie.Need-same-length-2
 same-length-2 c = search needs
@@ -84,8 +88,9 @@ returns-4 c =
     let v = e .command2 .given .0 .1 .0 in
     let held = back w32 v (r .before .before .known-told2 .given .1 .0 .1) in
     let s = p .before .before .before in
-    r .write .ensures ∙
-    ap (answeredTo (s .args .controller) (s .args .writer) _) (ap (Write n) held ∙ sym (e .command2 .given .1) ∙ p .parse .ensures)
+    with-valid (s .args .controller) (s .args .writer) (s .args .line .now) (s .args .reply .now) _ (s .pre)
+    (r .write .ensures ∙
+    ap (answeredTo (s .args .controller) (s .args .writer) _) (ap (Write n) held ∙ sym (e .command2 .given .1) ∙ p .parse .ensures))
 
 pub answer-spec : {M : Type 1} → statement M
 answer-spec =

@@ -3,8 +3,7 @@ use mathlib.Core.Path.{refl, sym, ap, _∙_}
 use mir.Facts.{toZ-ofZ}
 use borrow.Author.Tests.{lt-ltb, le-ltb}
 use Rattle.controller.specs.Answers.{Response, replyOfVerdict}
-use Rattle.controller.specs.Valid.{Valid}
-use Rattle.controller.specs.WriteLaws.{valid-write, write-accepted, write-refused}
+use Rattle.controller.specs.WriteLaws.{write-accepted, write-refused}
 use Rattle.terminal.specs.Terminal.{writtenTo}
 use borrow.Author.Needs.{needs}
 use Rattle.terminal.proofs.write.Statement.{statement}
@@ -33,9 +32,7 @@ show-requires : tie.Need-show-requires
 show-requires c κs =
     let w = c .before .before .before .before in
     let s = w .before .before .before in
-    let valid : Valid (w .write .result .controller) =
-    rw (ap (λ (r : Response). r .next) (w .write .ensures)) (valid-write _ _ _ _ (s .pre .0)) in
-    (valid, s .pre .1, s .pre .2, search needs)
+    (w .write .ensures .1, s .pre .1, s .pre .2, search needs)
 
 returns-2 : tie.Need-returns-2
 unfolding writtenTo
@@ -43,7 +40,7 @@ returns-2 c =
     let v = c .before .before in
     let w = v .before .before .before in
     let s = w .before .before .before in
-    let is = rw (toZ-ofZ (s .fits .value)) at (w .write .ensures) in
+    let is = rw (toZ-ofZ (s .fits .value)) at (w .write .ensures .0) in
     let refusal = write-refused (s .args .controller) (s .args .writer) (s .args .number) (s .args .value) _
     (sym (ap (λ (r : Response). r .answer) is) ∙ ap replyOfVerdict (v .verdict .given .1)) in
     rw (c .refused2 .ensures) (simp (le-ltb _ _ (w .before .if1 .left), refusal))
@@ -57,7 +54,7 @@ returns-3 c =
     let d = c .before .before in
     let w = d .before .before .before .before .before in
     let s = w .before .before .before in
-    let is = rw (toZ-ofZ (s .fits .value)) at (w .write .ensures) in
+    let is = rw (toZ-ofZ (s .fits .value)) at (w .write .ensures .0) in
     let accepted = write-accepted (s .args .controller) (s .args .writer) (s .args .number) (s .args .value)
     (sym (ap (λ (r : Response). r .answer) is) ∙ ap replyOfVerdict (d .before .before .enum-told .given .1)) in
     let next = ap (λ (r : Response). r .next) is in

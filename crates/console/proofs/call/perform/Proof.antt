@@ -49,7 +49,7 @@ enum-known-call-6 : tie.Need-enum-known-call-6
 enum-known-call-6 c = c .match .keys6
 
 restart-requires : tie.Need-restart-requires
-restart-requires c κs = tt
+restart-requires c κs = c .before .before .before .before .before .pre
 
 enum-known-call-7 : tie.Need-enum-known-call-7
 enum-known-call-7 c = c .match .keys7
@@ -83,7 +83,7 @@ returns c =
     let s = c .before .before .before .before .before in
     let e = c .before .before .call .given .1 in
     let r : IsStep s (unchangedWith (c .fresh .result) Accepted) =
-    rw e (ap (λ (x : Controller). unchangedWith x Accepted) (c .fresh .ensures)) in
+    rw e (ap (λ (x : Controller). unchangedWith x Accepted) (c .fresh .ensures .0)) in
     (r, rw e refl, valid s _ r)
 
 returns-2 : tie.Need-returns-2

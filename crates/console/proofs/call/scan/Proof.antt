@@ -12,7 +12,7 @@ reply-of-requires : tie.Need-reply-of-requires
 reply-of-requires c κs = tt
 
 returns : tie.Need-returns
-returns c = rw (c .reply-of .ensures) (ap stepOf (c .before .before .scan .ensures))
+returns c = rw (c .reply-of .ensures) (ap stepOf (c .before .before .scan .ensures .0))
 
 pub scan-spec : {M : Type 1} → statement M
 scan-spec = tie.close (tie.spec scan-requires reply-of-requires returns)

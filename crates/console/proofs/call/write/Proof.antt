@@ -15,7 +15,7 @@ reply-to-verdict-requires c κs = tt
 returns : tie.Need-returns
 returns c =
     let w = c .before .before in
-    rw (c .reply-to-verdict .ensures) (rw (toZ-ofZ (w .before .fits .value)) at (ap stepOf (w .write .ensures)))
+    rw (c .reply-to-verdict .ensures) (rw (toZ-ofZ (w .before .fits .value)) at (ap stepOf (w .write .ensures .0)))
 
 pub write-spec : {M : Type 1} → statement M
 write-spec = tie.close (tie.spec write-requires reply-to-verdict-requires returns)

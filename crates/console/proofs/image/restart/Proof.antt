@@ -25,7 +25,7 @@ reply-to-verdict-requires c κs = search needs
 returns : tie.Need-returns
 returns c =
     rw (le-leb _ _ (c .before .before .before .before .if1 .taken), c .reply-to-verdict .ensures)
-    (rw sub-zero at (ap stepOf (c .before .before .restart .ensures)))
+    (rw sub-zero at (ap stepOf (c .before .before .restart .ensures .0)))
 
 returns-2 : tie.Need-returns-2
 returns-2 c = rw (lt-leb _ _ (c .if1 .left)) refl

@@ -1,6 +1,5 @@
 -- `console::session::first` meets its contract.
 use mathlib.Core.Path.{refl}
-use Rattle.controller.specs.ValidLaws.{valid-fresh}
 use Rattle.console.specs.Sessions.{firstSession}
 use Rattle.console.proofs.session.first.Statement.{statement}
 use Rattle.console.proofs.session.first.Tie as tie
@@ -14,10 +13,8 @@ empty-requires c κs = tt
 returns : tie.Need-returns
 unfolding firstSession
 returns c =
-    let fresh-is = c .before .fresh .ensures in (
-      rw (fresh-is, c .empty .ensures .0) refl,
-      record { controller = rw fresh-is (valid-fresh 0); sheet = c .empty .ensures .1 },
-    )
+    let fresh = c .before .fresh .ensures in
+    (rw (fresh .0, c .empty .ensures .0) refl, record { controller = fresh .1; sheet = c .empty .ensures .1 })
 
 pub first-spec : {M : Type 1} → statement M
 first-spec = tie.close (tie.spec fresh-requires empty-requires returns)

@@ -97,7 +97,7 @@ returns c =
     let part = take size (filled bytes) in
     let rest = drop size (filled bytes) in
     let is = sym (t .before .fits2 .ensures) ∙ t .if1 .taken in
-    let o = rw (sub-zero, sub-zero, f .fill .ensures, line-is a .1) at (w .answer .ensures) in
+    let o = rw (sub-zero, sub-zero, f .fill .ensures, line-is a .1) at (w .answer .ensures .0) in
     let whole = filled-replicate (length bytes) in
     let checked = checked-line part rest (filled-take size (filled bytes) whole) (filled-drop size (filled bytes) whole)
     (s .args .controller) (s .args .writer) (take count bytes) in

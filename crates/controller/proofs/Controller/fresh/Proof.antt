@@ -2,6 +2,7 @@
 use borrow.Author.Needs.{needs}
 use Rattle.parameters.specs.LegalLaws.{defaults-legal}
 use Rattle.controller.specs.State.{freshCore, freshController}
+use Rattle.controller.specs.ValidLaws.{valid-fresh}
 use Rattle.controller.proofs.Controller.fresh.Statement.{statement}
 use Rattle.controller.proofs.Controller.fresh.Tie as tie
 
@@ -13,7 +14,9 @@ start-core-requires c κs = rw (c .of .ensures) defaults-legal
 
 returns : tie.Need-returns
 unfolding freshController freshCore
-returns c = simp (c .start-core .ensures) (simp (c .before .of .ensures))
+returns c =
+    let is = simp (c .before .of .ensures) at (c .start-core .ensures) in
+    (simp is, rw is (valid-fresh (c .before .before .args .sw)))
 
 pub fresh-spec : {M : Type 1} → statement M
 fresh-spec = tie.close (tie.spec of-requires start-core-requires returns)

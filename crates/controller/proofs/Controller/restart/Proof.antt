@@ -5,7 +5,7 @@ use borrow.Author.Needs.{needs}
 use Rattle.signals.specs.Refusals.{numberOf, numberIn, refusedBy}
 use Rattle.outputs.specs.Instruction.{executed, changed, limitedTo}
 use Rattle.controller.specs.Restart.{valuesIn, restartTests, restartAccepted, restartCore, controllerRestarted, restart}
-use Rattle.controller.specs.RestartLaws.{taken, taken-legal}
+use Rattle.controller.specs.RestartLaws.{taken, taken-legal, restarted-valid}
 use Rattle.controller.specs.Scan.{controllerAfter, refused, responseFrom}
 use Rattle.controller.proofs.Controller.restart.Statement.{statement}
 use Rattle.controller.proofs.Controller.restart.Tie as tie
@@ -39,14 +39,16 @@ returns c =
     let e : refusedBy (restartTests (c .before .before .before .before .before .args .image .now))
     ≡ some (numberOf (c .before .verdict .given .0 .0)) =
     sym (c .before .before .before .restart-verdict .ensures) ∙ ap numberIn (c .before .verdict .given .1) in
-    simp e
+    (simp e, c .before .before .before .before .before .pre)
 
 returns-2 : tie.Need-returns-2
 unfolding restart restartCore responseFrom controllerAfter controllerRestarted restartAccepted
 returns-2 c =
     let e : refusedBy (restartTests (c .before .before .before .before .before .before .args .image .now)) ≡ none =
     sym (c .before .before .before .before .restart-verdict .ensures) ∙ ap numberIn (c .before .before .enum-told .given .1) in
-    simp (e, c .restarted .ensures, c .before .values-of .ensures)
+    let args = c .before .before .before .before .before .before .args in
+    let is = simp (c .before .values-of .ensures) at (c .restarted .ensures) in
+    (simp (e, is), rw is (restarted-valid (args .self) (valuesIn (args .image .now)) (taken (args .image .now) e .legal)))
 
 pub restart-spec : {M : Type 1} → statement M
 restart-spec =

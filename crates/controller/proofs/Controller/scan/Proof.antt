@@ -41,11 +41,14 @@ some-refuses c = sym (c .before .before .scan-verdict .ensures) ∙ ap numberIn 
 
 returns : tie.Need-returns
 unfolding scan scanCore responseFrom controllerAfter refused executed changed limitedTo
-returns c = simp (some-refuses (c .before))
+returns c = (simp (some-refuses (c .before)), c .before .before .before .before .before .pre)
 
 returns-2 : tie.Need-returns-2
 unfolding scan scanCore responseFrom controllerAfter stepped accepted coreAfter
-returns-2 c = simp (none-refuses (c .before .before), c .answer .ensures) (simp (c .before .stepped .ensures))
+returns-2 c = (
+  simp (none-refuses (c .before .before), c .answer .ensures) (simp (c .before .stepped .ensures)),
+  answer-requires (c .before) _,
+)
 
 pub scan-spec : {M : Type 1} → statement M
 scan-spec =

@@ -11,6 +11,7 @@ use Rattle.outputs.specs.Instruction.{executed, changed, limitedTo}
 use Rattle.controller.specs.Write.{writeTests, writeAccepted, writeCore, controllerWritten, write}
 use Rattle.controller.specs.RightLaws.{common-passed}
 use Rattle.controller.specs.Scan.{controllerAfter, refused, responseFrom}
+use Rattle.controller.specs.WriteLaws.{written-valid}
 use Rattle.controller.proofs.Controller.write.Statement.{statement}
 use Rattle.controller.proofs.Controller.write.Tie as tie
 
@@ -52,11 +53,19 @@ written-requires c κs = let start = c .before .before .before .before .before i
 
 returns : tie.Need-returns
 unfolding write writeCore responseFrom controllerAfter refused executed changed limitedTo
-returns c = simp (some-refuses (c .before))
+returns c = (simp (some-refuses (c .before)), c .before .before .before .before .before .before .pre)
 
 returns-2 : tie.Need-returns-2
 unfolding write writeCore responseFrom controllerAfter controllerWritten writeAccepted
-returns-2 c = simp (none-refuses (c .before), c .written .ensures, value-is (c .before .before .before .before))
+returns-2 c =
+    let start = c .before .before .before .before .before .before in
+    let passed = none-refuses (c .before) in
+    let is = simp (value-is (c .before .before .before .before)) at (c .written .ensures) in (
+      simp (passed, is),
+      rw is
+          (written-valid (start .args .self) (start .args .number) (start .args .value) (start .pre)
+          (common-passed (start .args .self .core) (start .args .writer) (start .args .number) (start .args .value) passed)),
+    )
 
 pub write-spec : {M : Type 1} → statement M
 write-spec =

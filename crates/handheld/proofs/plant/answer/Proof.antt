@@ -46,7 +46,7 @@ returns-2 c =
     let o = r .before .before in
     let p = o .before .before in
     let a = p .before .before .before .args in
-    r .answer .ensures ∙
+    r .answer .ensures .0 ∙
     ap (λ (own : PlantLine). outcomeOfLine own (a .controller) (a .writer) (a .line .now) (a .reply .now))
     (sym (o .enum-told .given .1) ∙ p .parse .ensures)
 

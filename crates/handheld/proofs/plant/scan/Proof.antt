@@ -34,7 +34,7 @@ scanned : (r : tie.After-scan) → let a = r .before .before .before .before .ar
     responseOf (r .scan .result) ≡ scan (a .controller) (scanInput (a .controller .core .clock) (a .pins))
 scanned r =
     let a = r .before .before .before .before .args in
-    r .scan .ensures ∙
+    r .scan .ensures .0 ∙
     ap (scan (a .controller))
     (r .before .scan-input .ensures ∙ ap (λ (l : ClockReading). scanInput l (a .pins)) (r .before .before .last-reading .ensures))
 
