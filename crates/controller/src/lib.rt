@@ -176,8 +176,8 @@ impl Core {
 }
 
 impl Controller {
-    // Starts fresh with any switch word. The contract rules out any other state than document 01's, and one that the next
-    // call could not take.
+    // Starts fresh with any switch word. The contract rules out any other state than document 01's, and a controller
+    // that the next call could not take.
     pub fn fresh(sw: u16) -> Controller
         ensures { λ r. ⌜ (r ≡ freshController sw) × Valid r ⌝ }
     {

@@ -99,10 +99,10 @@ impl Controller {
     }
 
     // Restarts with an image, any bytes of any number: the next controller and that it was accepted, or refusal 12,
-    // 13 or 14 and the controller as it was. The contract gives the whole of both and asks nothing of the image, so it
-    // rules out an image that is refused for no listed cause, a setting other than the rules give, a wrong sumcheck that
-    // goes unnoticed, anything that is kept of the earlier state but SW, and a controller that the next call could not
-    // take.
+    // 13 or 14 and the controller as it was. The contract gives the whole of both and asks nothing of the image, so
+    // it rules out an image that is refused for no listed cause, a setting other than the rules give, a wrong sumcheck
+    // that goes unnoticed, anything that is kept of the earlier state but SW, and a controller that the next call
+    // could not take.
     pub fn restart(self, image: &[u8]) -> CallResult
         requires { ⌜ Valid self ⌝ }
         ensures { λ r. ⌜ (responseOfVerdict r ≡ restart self (now (image .entry))) × Valid (r .controller) ⌝ }

@@ -143,7 +143,8 @@ impl Controller {
 
     // One scan: the next controller and the answer, or the refusal and the controller as it was. The
     // contract gives the whole of both, so it rules out a scan that changes anything else, a refusal
-    // for no listed cause, an output or a word other than the rules', and a controller that the next call could not take.
+    // for no listed cause, an output or a word other than the rules', and a controller that the next call
+    // could not take.
     pub fn scan(self, input: Input) -> ScanResult
         requires { ⌜ Valid self ⌝ }
         ensures { λ r. ⌜ (responseOf r ≡ scan self input) × Valid (r .controller) ⌝ }

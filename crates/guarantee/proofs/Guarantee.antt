@@ -33,6 +33,7 @@ use Rattle.guarantee.proofs.Faults.{fault-after}
 use Rattle.guarantee.proofs.Limits.{within-after}
 use Rattle.guarantee.proofs.Linked.{linked, valid-linked}
 use Rattle.guarantee.proofs.Modes.{mode-is-first}
+use Rattle.guarantee.proofs.Bound.{near-within}
 use Rattle.guarantee.proofs.Ours.{ours, cores, outcomes, switch-word, open-count-after, valid-after, bound-after}
 use Rattle.guarantee.proofs.Rights.{pins-after, access-told, unchanged, by-value}
 
@@ -126,7 +127,7 @@ guarantee word calls rs c l =
       same-saves =
           λ life buffer r after h. same-save c (exact word calls .core) (now buffer) (replyOfVerdict r) after core-is
           (rw e (valid-after word calls .stored)) (h .0) (h .1);
-      bound = rw e (bound-after word calls);
+      bound = near-within _ _ _ (rw e (bound-after word calls));
     }
 
 -- every call's `requires` holds at every controller that the calls return: it shuts no call out

@@ -15,3 +15,4 @@ pub mod Linked
 pub mod Modes
 pub mod Ours
 pub mod Rights
+pub mod Shared

@@ -1,17 +1,18 @@
 -- The parts of demand 3, written out again from document 01's words. Shared with the rules are the types of the state
--- and of the answers, the bits of a word, the value of a parameter, what a read answers, the bytes of an image, and
--- the exact controller's steps but for the output. The limits and what a word shows of the mode stand here a second
--- time, so that a rule isn't judged by itself.
+-- and of the answers, the value of a parameter, what a read answers, the bytes of an image, the exact controller's steps
+-- but for the output, and the words of Shared.antt. The limits, what a word shows of the mode and how near the stored
+-- output is stand here a second time, so that a rule isn't judged by itself.
 use mathlib.Core.Path.{_≡_}
 use mathlib.Core.List.{List, [], _∷_, _++_}
 use mathlib.Core.Option.{some}
-use Prim.Native.Nat.{ℕ, _+_, _-_, _*_, _/_, min}
+use Prim.Native.Nat.{ℕ, _+_, _-_, _*_, _/_, _<_, min}
 use lib.Dec.{ltb}
-use lib.IntN.{ℤ, pos, _*ℤ_}
+use lib.IntN.{ℤ, pos, _+ℤ_, _*ℤ_}
 use lib.ListN.{length, drop}
 use lib.Signed.{_≤ℤ_, _<ℤ_}
 use Rattle.integers.specs.Choice.{if_then_else_}
 use Rattle.signals.specs.Bits.{bit}
+use Rattle.terms.specs.Fraction.{Fraction}
 use Rattle.modes.specs.declared.Mode.{Mode}
 use Rattle.modes.specs.declared.Mode.the-variants.{Hold, Track, Forced, Manual, Auto, Remote, Ratio, Fallback}
 use Rattle.parameters.specs.Table.{value}
@@ -31,6 +32,15 @@ use Rattle.guarantee.specs.Modes.{modeIn}
 pub record WithinLimits (c : Controller) : Type 0 where
   pub least : (value (c .core .parameters) 16 *ℤ pos 65536) ≤ℤ c .output
   pub most : c .output ≤ℤ (value (c .core .parameters) 15 *ℤ pos 65536)
+
+-- ---- the stored output is near the exact controller's
+
+-- x, in 1/65,536 unit, is within so many halves of 1/65,536 unit of f, in units: twice their distance, in 1/65,536 unit,
+-- is at most so many. |x - 65,536 × n / d| × 2 ≤ halves, of f = n / d, is told by whole numbers, both sides times d
+pub record WithinHalves (x : ℤ) (f : Fraction) (halves : ℕ) : Type 0 where
+  pub positive : 0 < f .denominator
+  pub not-above : (x *ℤ pos (2 * f .denominator)) ≤ℤ (f .numerator *ℤ pos 131072 +ℤ pos (halves * f .denominator))
+  pub not-below : (f .numerator *ℤ pos 131072) ≤ℤ (x *ℤ pos (2 * f .denominator) +ℤ pos (halves * f .denominator))
 
 -- ---- apart from the output, the whole state and every answer equal those of the exact controller
 

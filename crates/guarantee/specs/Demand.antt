@@ -13,7 +13,6 @@ use Rattle.signals.specs.declared.clock.ClockReading.{ClockReading}
 use Rattle.modes.specs.declared.Mode.{Mode}
 use Rattle.answers.specs.declared.ScanValues.{ScanValues}
 use Rattle.rights.specs.declared.Writer.{Writer}
-use Rattle.terms.specs.Near.{Near}
 use Rattle.controller.specs.Answers.{Response, number, replyOfVerdict, replyBy, replyOfRead}
 use Rattle.controller.specs.Scan.{modeNow}
 use Rattle.controller.specs.declared.Answer.the-variants.{Accepted}
@@ -21,7 +20,7 @@ use Rattle.controller.specs.declared.CallResult.{CallResult}
 use Rattle.controller.specs.declared.Controller.{Controller}
 use Rattle.controller.specs.declared.ReadAnswer.{ReadAnswer}
 use Rattle.controller.specs.declared.ScanResult.{ScanResult}
-use Rattle.guarantee.specs.Claim.{WithinLimits, capped, SameAnswers, SameReading, SameSave}
+use Rattle.guarantee.specs.Claim.{WithinLimits, WithinHalves, capped, SameAnswers, SameReading, SameSave}
 use Rattle.guarantee.specs.Count.{openScans, lastReading, LastScan, lastPins, earlier, automaticScans}
 use Rattle.guarantee.specs.Exact.{Calls, exact}
 use Rattle.guarantee.specs.Fault.{faultStands}
@@ -74,6 +73,5 @@ pub record Demand3 (word : ℕ) (calls : Calls) (rs : List Response) (c : Contro
   -- and every save, which changes nothing either, of any buffer: the answer and every byte
   pub same-saves : (life : Lifetime) (buffer : Slice) (r : Verdict) (after : List ℕ) → SaveEnsures life c buffer r after →
       SameSave c (exact word calls .core) (now buffer) (replyOfVerdict r) after
-  -- the stored output is within 3/2 × n × 1/65,536 unit of the exact controller's: `Near` counts halves
-  -- of 1/65,536 unit
-  pub bound : Near (c .output) (exact word calls .output) (3 * automaticScans word calls)
+  -- the stored output is within 3/2 × n × 1/65,536 unit of the exact controller's: 3 × n halves of 1/65,536 unit
+  pub bound : WithinHalves (c .output) (exact word calls .output) (3 * automaticScans word calls)

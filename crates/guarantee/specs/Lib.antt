@@ -9,3 +9,4 @@ pub mod Fault
 pub mod Linked
 pub mod Modes
 pub mod Rights
+pub mod Shared

@@ -6,4 +6,3 @@ pub mod Shortest
 pub mod ParsedLaws
 pub mod ParsedValues
 pub mod Writing
-pub mod PlaceValue

@@ -33,11 +33,11 @@ use Rattle.guarantee.specs.Claim.{capped}
 use Rattle.guarantee.specs.Linked.{scanned}
 use Rattle.guarantee.specs.Modes.{sameRequest, condition, first, priority, modeIn, trackMode}
 use Rattle.guarantee.proofs.Guarantee.{guarantee, ready}
+use Rattle.guarantee.proofs.Shared.{limited-values}
 use Rattle.promises.specs.FallBack.{ScannedIn, FallsBack, SetpointStays}
 use Rattle.promises.specs.RefusalCauses.{scanRefusal}
 use Rattle.promises.specs.Refusals.{refusalIn}
 use Rattle.promises.specs.Scans.{Scaled, moved, expectedSetpoint, Trim, ScanEffect}
-use Rattle.promises.proofs.Limits.{limited-values}
 use Rattle.promises.proofs.ReadValues.{read-replies}
 use Rattle.promises.proofs.RefusalCauses.{scan-refusals}
 use Rattle.promises.proofs.Scans.{same-values, scan-effects}

@@ -1,7 +1,6 @@
 pub mod Clock
 pub mod FallBack
 pub mod Images
-pub mod Limits
 pub mod Places
 pub mod ReadValues
 pub mod RefusalCauses

@@ -149,7 +149,8 @@ refusal-order =
       scans = λ c i r e. let last = c .core .clock in
           wins byNumber c (scanTests last i) (rules.accepted counted (c .core) i) _ (scan-ascends last i) refl (e .0);
       writes = λ c w n v r e.
-          wins (placeIn writeOrder) c (writeTests (c .core) w n v) (writeAccepted (c .core) n v) _ (write-ascends (c .core) w n v) refl (e .0);
+          wins (placeIn writeOrder) c (writeTests (c .core) w n v) (writeAccepted (c .core) n v) _ (write-ascends (c .core) w n v) refl
+          (e .0);
       restarts =
           λ life c image r e. wins byNumber c (restartTests (now image))
           (restartAccepted (c .core) (valuesIn (now image))) _ (restart-ascends (now image)) refl (e .0);

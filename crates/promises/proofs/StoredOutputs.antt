@@ -32,6 +32,7 @@ use Rattle.controller.specs.declared.Core.{Core}
 use Rattle.guarantee.specs.ExactOutput.{minimum}
 use Rattle.guarantee.specs.Clock.{recalledIn}
 use Rattle.guarantee.specs.Modes.{modeIn}
+use Rattle.guarantee.proofs.Bound.{near-within}
 use Rattle.guarantee.proofs.Clock.{history-is}
 use Rattle.guarantee.proofs.Counting.{automatic-is}
 use Rattle.guarantee.proofs.ExactOutput.{proportional-is, integral-is, derivative-is}
@@ -85,11 +86,11 @@ module _ (before now : Core) (i : Input) (x : ℤ) (m : Mode) (t : Bool) where
       record {
         kept = λ e. rw e refl;
         p = storedTerm p;
-        p-near = rw (sym q, proportional-is h before now m) (term-near p (proportional-positive _ tuned _));
+        p-near = rw (sym q, proportional-is h before now m) (near-within _ _ 1 (term-near p (proportional-positive _ tuned _)));
         t = storedTerm g;
-        t-near = rw (integral-is h before now) (term-near g (integral-positive _ tuned _));
+        t-near = rw (integral-is h before now) (near-within _ _ 1 (term-near g (integral-positive _ tuned _)));
         d = storedTerm d;
-        d-near = rw (derivative-is h before now) (term-near d (derivative-positive _ tuned _));
+        d-near = rw (derivative-is h before now) (near-within _ _ 1 (term-near d (derivative-positive _ tuned _)));
         added = λ e. rw e refl;
       }
 

@@ -1,7 +1,6 @@
 -- Document 01, One scan, step 6, and Terms: our own stored output after one accepted scan, told from the stored
 -- output before it. The three exact terms and what goes to minimum are the claim's own text (ExactOutput.antt).
--- Shared with the rules are the types of the state, the bits of a word, the value of a parameter, `limited`, and
--- `Near`.
+-- Shared with the rules are the types of the state, the value of a parameter, and the words of Shared.antt (guarantee).
 use mathlib.Core.Path.{_≡_}
 use mathlib.Core.Bool.{Bool, true, false, not, _&&_}
 use mathlib.Core.Option.{Option, some, none}
@@ -16,11 +15,11 @@ use Rattle.modes.specs.declared.Mode.{Mode}
 use Rattle.modes.specs.declared.Mode.the-variants.{Hold, Track, Forced, Manual, Auto, Remote, Ratio, Fallback}
 use Rattle.parameters.specs.Table.{value}
 use Rattle.parameters.specs.declared.Parameters.{Parameters}
-use Rattle.terms.specs.Near.{Near}
 use Rattle.controller.specs.Valid.{Valid}
 use Rattle.controller.specs.declared.Controller.{Controller}
 use Rattle.controller.specs.declared.Core.{Core}
 use Rattle.controller.specs.declared.ScanResult.{ScanResult}
+use Rattle.guarantee.specs.Claim.{WithinHalves}
 use Rattle.guarantee.specs.Clock.{recalledIn}
 use Rattle.guarantee.specs.ExactOutput.{proportional, integral, derivative, within10000, minimum}
 use Rattle.guarantee.specs.Linked.{ScanEnsures}
@@ -51,11 +50,11 @@ storedByHand before now i output =
 pub record StoredTerms (present : Bool) (before now : Core) (i : Input) (output after : ℤ) : Type 0 where
   pub kept : bit (i .sensors) 0 ≡ true → after ≡ storedBetweenLimits (before .parameters) output
   pub p : ℤ
-  pub p-near : Near p (within10000 (proportional present (recalledIn before i) before now)) 1
+  pub p-near : WithinHalves p (within10000 (proportional present (recalledIn before i) before now)) 1
   pub t : ℤ
-  pub t-near : Near t (within10000 (integral before now)) 1
+  pub t-near : WithinHalves t (within10000 (integral before now)) 1
   pub d : ℤ
-  pub d-near : Near d (within10000 (derivative (recalledIn before i) before now)) 1
+  pub d-near : WithinHalves d (within10000 (derivative (recalledIn before i) before now)) 1
   pub added : bit (i .sensors) 0 ≡ false → after ≡ storedBetweenLimits (before .parameters) (output +ℤ p +ℤ t +ℤ d)
 
 -- "Hold: kept. Track: the lesser of sample 3 and 9999. Manual and Forced: .."; "Outside Hold and Track the output is

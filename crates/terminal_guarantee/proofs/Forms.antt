@@ -12,15 +12,21 @@ use lib.ListN.{length, drop}
 use borrow.Author.Tests.{eqb-true, eq-eqb, leb-true, leb-false, le-leb, lt-leb, lt-ltb}
 use Rattle.integers.specs.Choice.{if_then_else_, both}
 use Rattle.numerals.specs.Numerals.{digitsOf, withSign, integerOf, wordOf}
-use Rattle.numerals.specs.PlaceValue.{Number, number-read, read-number}
 use Rattle.numerals.specs.Reading.{some-of}
 use Rattle.numerals.specs.Shortest.{natural-some, not-minus, integer-some, headed}
 use Rattle.terminal.specs.Commands.{isWord, unsigned, valueOf}
-use Rattle.terminal_guarantee.specs.Forms.{IsWord, IsDecimal, Few, Value, word, plain, minus}
+use Rattle.terminal_guarantee.specs.PlaceValue.{Number}
+use Rattle.terminal_guarantee.proofs.PlaceValue.{number-read, read-number}
+use Rattle.terminal_guarantee.specs.Forms.{MnemonicBytes, IsWord, IsDecimal, Few, Value, word, plain, minus}
 
 -- two things that can't both be
 pub apart : {A : Type 0} → _≡_ {A = ℕ} 0 1 → A
 apart e = absurd (omega arith)
+
+-- ---- the bytes of the mnemonics
+
+pub mnemonic-bytes : MnemonicBytes
+mnemonic-bytes = (refl, refl)
 
 -- ---- which parameters are words
 

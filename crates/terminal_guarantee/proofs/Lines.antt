@@ -13,7 +13,6 @@ use borrow.Author.Tests.{ltb-true, ltb-false}
 use Rattle.integers.specs.Choice.{if_then_else_, by-cases}
 use Rattle.numerals.specs.DigitLaws.{digits-length}
 use Rattle.numerals.specs.Numerals.{lastDigits, decimal, hexadecimalWord, readOn, integerOf}
-use Rattle.numerals.specs.PlaceValue.{read-number}
 use Rattle.numerals.specs.Reading.{read-last}
 use Rattle.numerals.specs.Shortest.{decimal-shortest}
 use Rattle.signals.specs.Refusals.{numberOf, refusedBy}
@@ -48,6 +47,7 @@ use Rattle.terminal_guarantee.specs.Forms.{letters, InTable, Value, a-re
 use Rattle.terminal_guarantee.specs.Lines.{Displayed, as-word, as-decimal, Replied, RefusedWith}
 use Rattle.terminal_guarantee.specs.Lines.{Written, refused-write, accepted-write}
 use Rattle.terminal_guarantee.specs.Lines.{LineClaim, no-mnemonic, no-value, short-buffer, a-reading, a-writing, LinesRight}
+use Rattle.terminal_guarantee.proofs.PlaceValue.{read-number}
 use Rattle.terminal_guarantee.proofs.Forms.{apart, is-word, is-decimal, value-form, form-value}
 use Rattle.terminal_guarantee.proofs.Meaning.{letters-are, Meaning, names-none, asks-nothing, asks-read, asks-write, meaning}
 
@@ -178,7 +178,8 @@ written-right c w n v buffer r after none t valid f e =
     (subst (λ (k : Controller). Replied k n buffer r after) (sym next)
     (replied-right (write c w n v .next) n buffer r after t (valid-write c w n v valid) e))
 written-right c w n v buffer r after (some k) t valid f e =
-    refused-write (λ q h. ap (λ (k : Response). k .answer) (h .0) ∙ write-answer c w n v ∙ ap replyBy f) (refused-right k c buffer r after e)
+    refused-write (λ q h. ap (λ (k : Response). k .answer) (h .0) ∙ write-answer c w n v ∙ ap replyBy f)
+    (refused-right k c buffer r after e)
 
 -- ---- every line
 

@@ -194,7 +194,8 @@ reply-sent-back word es c visited n least most lives w bytes buffer r after e na
     room =
     let t : InTable n = record { least = least; most = omega arith } in
     let answer = ap replyOfLine given in
-    let first = by-command c (now bytes) (now buffer) r after n k t named-so answer w (commandIn (now bytes)) (meaning (now bytes)) (e .0) in
+    let line = now bytes in
+    let first = by-command c line (now buffer) r after n k t named-so answer w (commandIn line) (meaning line) (e .0) in
     let now-visited = typed lives w bytes buffer r after visited e in
     let claim = lines-are-writes word _ (r .controller) now-visited in
     let valid = claim .ready .valid in

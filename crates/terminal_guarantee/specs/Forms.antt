@@ -1,12 +1,12 @@
 -- Document 02, request 4, over again: what a line asks, told by its bytes and apart from the rules that parse it. What
--- number digits are is told by place value, capitals for A to F (PlaceValue.antt of numerals).
+-- number digits are is told by place value, capitals for A to F (PlaceValue.antt).
 use mathlib.Core.Logic.{_⊎_}
 use mathlib.Core.Path.{_≡_}
 use mathlib.Core.List.{List, [], _∷_, _++_}
 use Prim.Native.Nat.{ℕ, _-_, _≤_, _<_}
 use lib.IntN.{ℤ, pos, negℤ}
 use lib.ListN.{length, getD}
-use Rattle.numerals.specs.PlaceValue.{Number}
+use Rattle.terminal_guarantee.specs.PlaceValue.{Number}
 use Rattle.formatting.specs.Ascii.{ascii}
 
 -- ---- "a mnemonic from document 01's table (1H to MP, capitals)": by columns, the first letters and the second ones
@@ -16,6 +16,14 @@ firsts = ascii "112233HLHLHLHLHLXTTSRRIMDSIOSPEM"
 
 abbrev pub seconds : List ℕ
 seconds = ascii "HLHLHLRRSSAADDOOPIDLSBCDSWIPPVRP"
+
+-- their bytes, digits from 48 on and capitals from 65 on, so that nothing hangs on what `ascii` makes of a text
+abbrev pub MnemonicBytes : Type 0
+MnemonicBytes =
+    (firsts ≡ 49 ∷ 49 ∷ 50 ∷ 50 ∷ 51 ∷ 51 ∷ 72 ∷ 76 ∷ 72 ∷ 76 ∷ 72 ∷ 76 ∷ 72 ∷ 76 ∷ 72 ∷ 76
+    ∷ 88 ∷ 84 ∷ 84 ∷ 83 ∷ 82 ∷ 82 ∷ 73 ∷ 77 ∷ 68 ∷ 83 ∷ 73 ∷ 79 ∷ 83 ∷ 80 ∷ 69 ∷ 77 ∷ [])
+    × (seconds ≡ 72 ∷ 76 ∷ 72 ∷ 76 ∷ 72 ∷ 76 ∷ 82 ∷ 82 ∷ 83 ∷ 83 ∷ 65 ∷ 65 ∷ 68 ∷ 68 ∷ 79 ∷ 79
+    ∷ 80 ∷ 73 ∷ 68 ∷ 76 ∷ 83 ∷ 66 ∷ 67 ∷ 68 ∷ 83 ∷ 87 ∷ 73 ∷ 80 ∷ 80 ∷ 86 ∷ 82 ∷ 80 ∷ [])
 
 abbrev pub letters : ℕ → List ℕ
 letters n = getD firsts (n - 1) 0 ∷ getD seconds (n - 1) 0 ∷ []

@@ -1,3 +1,4 @@
+pub mod PlaceValue
 pub mod Forms
 pub mod Lines
 pub mod Visits

@@ -10,7 +10,7 @@ use lib.IntN.{ℤ, pos}
 use lib.ListN.{length, take, drop}
 use contract.Lifetimes.{Lfts}
 use denote.Ref.{at-last, now}
-use Rattle.numerals.specs.PlaceValue.{Number}
+use Rattle.terminal_guarantee.specs.PlaceValue.{Number}
 use Rattle.signals.specs.declared.Refusal.{Refusal}
 use Rattle.rights.specs.declared.Writer.{Writer}
 use Rattle.controller.specs.Answers as calls

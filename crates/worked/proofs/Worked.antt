@@ -137,7 +137,9 @@ scan-figures-hold = (
         falls-back = record {
           remote = record { made = remote-made (trimmed-chain _ refl refl) refl; values = remoteValues; accepted = refl; in-mode = refl };
           fall-back = record {
-            made = scan-by (remoteResult .controller) (pinAtZero 5750) fallBackResult (remote-made (trimmed-chain _ refl refl) refl .1) refl;
+            made =
+                scan-by (remoteResult .controller) (pinAtZero 5750) fallBackResult
+                (remote-made (trimmed-chain _ refl refl) refl .1) refl;
             values = fallBackValues;
             accepted = refl;
             in-mode = refl;

@@ -1,5 +1,4 @@
--- Numbers in digits by place value: what digits are, told apart from how they are written and read; and that what is
--- read is that number, and what is written is.
+-- What the rules read is the number that its digits are by place value.
 use mathlib.Core.Path.{_≡_, ap, subst, _∙_}
 use mathlib.Core.List.{List, [], _∷_}
 use mathlib.Core.Option.{some}
@@ -10,20 +9,10 @@ use lib.Dec.{leb, ltb}
 use lib.ListN.{length}
 use borrow.Author.Tests.{ltb-true, leb-true, lt-ltb}
 use Rattle.integers.specs.Choice.{by-cases, both}
 use Rattle.numerals.specs.DigitLaws.{inside, above}
-use Rattle.numerals.specs.Numerals.{within, lastDigits, digits, digitValue, readOn}
-use Rattle.numerals.specs.Reading.{some-of, read-last}
-use Rattle.numerals.specs.Shortest.{digits-read}
-
--- a byte and its value as a digit: 48 is `0`, 65 is `A`
-pub data Digit : ℕ → ℕ → Type 0 where
-  numeral : {d : ℕ} → d < 10 → Digit (48 + d) d
-  capital : {d : ℕ} → d < 6 → Digit (65 + d) (10 + d)
-
--- bytes and the number that they are in a base: each digit counts by how many are behind it
-pub data Number (base : ℕ) : List ℕ → ℕ → Type 0 where
-  no-digit : Number base [] 0
-  digit : {c d v : ℕ} {cs : List ℕ} → Digit c d → d < base → Number base cs v → Number base (c ∷ cs) (d * base ^ length cs + v)
+use Rattle.numerals.specs.Numerals.{within, digitValue, readOn}
+use Rattle.numerals.specs.Reading.{some-of}
+use Rattle.terminal_guarantee.specs.PlaceValue.{Digit, numeral, capital, Number, no-digit, digit}
 
 -- ---- digits
 
@@ -91,13 +80,3 @@ module _ (b : ℕ) (top : b ≤ 16) where
       let r = number-of 0 n cs e in
       let is : r .value ≡ n = omega (arith, r .is) in
       subst (Number b cs) is (r .number)
-
--- ---- what is written is the number
-
--- the last k digits of a number that k digits hold, in any base
-pub last-number : (b k n : ℕ) → 1 < b → b ≤ 16 → n < b ^ k → Number b (lastDigits b k n) n
-last-number b k n base top h = read-number b top n (lastDigits b k n) (read-last b base top k n h)
-
--- all decimal digits of any number
-pub digits-number : (n : ℕ) → Number 10 (digits n) n
-digits-number n = read-number 10 (omega arith) n (digits n) (digits-read n)
