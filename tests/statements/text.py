@@ -1,4 +1,4 @@
-"""How calls of the model and what comes of them are written down as statements about the rules."""
+"""How accepted calls of the model, writes by the engineer, are written down as statements about the rules."""
 
 from tests.model import loop
 from tests.model.state import Stored
@@ -7,7 +7,6 @@ FILL = 0xA5  # what each byte of a buffer is before a save
 # The modes by the names that the rules have for them
 MODES = {"Hold": "Hold", "Track": "Track", "Forced Manual": "Forced", "Manual": "Manual", "Auto": "Auto", "Remote": "Remote",
          "Ratio": "Ratio", "Fall-back": "Fallback"}
-WRITERS = {"operator": "Operator", "engineer": "Engineer", "computer": "Computer"}
 HEAD = '''-- Calls of a reference model that was made apart from the rules, stated of the rules; proofs/ModelCalls.antt proves
 -- them. Made by tests/statements/calls.py, which the gate compares with this file.
 use mathlib.Core.Bool.{Bool, true, false}
@@ -21,16 +20,14 @@ use Rattle.signals.specs.declared.Input.{Input}
 use Rattle.signals.specs.declared.clock.ClockReading.{ClockReading}
 use Rattle.signals.specs.declared.clock.ClockReading.the-variants.{None, At}
 use Rattle.fields.specs.Fields.{saveTests, savedIn}
-use Rattle.modes.specs.declared.Mode.the-variants.{Hold, Track, Forced, Manual, Auto, Remote, Ratio, Fallback}
+use Rattle.modes.specs.declared.Mode.the-variants.{Hold, Track, Forced, Remote, Ratio, Fallback}
 use Rattle.modes.specs.declared.Request.{Request}
 use Rattle.modes.specs.declared.Request.the-variants as request
-use Rattle.rights.specs.declared.Writer.{Writer}
-use Rattle.rights.specs.declared.Writer.the-variants.{Operator, Engineer, Computer}
+use Rattle.rights.specs.declared.Writer.the-variants.{Engineer}
 use Rattle.setpoints.specs.declared.Readings.{Readings}
 use Rattle.outputs.specs.declared.History.{History}
 use Rattle.outputs.specs.declared.History.the-variants.{Nothing, One, Two}
-use Rattle.controller.specs.Answers.{Reply, words, reading, acceptance, number, replyBy}
-use Rattle.controller.specs.Read.{read}
+use Rattle.controller.specs.Answers.{Reply, words, acceptance, replyBy}
 use Rattle.controller.specs.Restart.{restart}
 use Rattle.controller.specs.Save.{savedImage}
 use Rattle.controller.specs.Scan.{scan}
@@ -71,12 +68,12 @@ input pins sample1 sample2 sample3 buttons sensors milliseconds =
       milliseconds = milliseconds;
     }
 
--- a scan, a write, a restart of the state before it leaves the state after it, and this answer
+-- a scan, an engineer's write, a restart of the state before it leaves the state after it, and this answer
 abbrev pub Scans : Controller → Input → Controller → Reply → Type 0
 Scans before i after answer = scan before i ≡ record { next = after; answer = answer }
 
-abbrev pub Writes : Controller → Writer → ℕ → ℤ → Controller → Reply → Type 0
-Writes before w n v after answer = write before w n v ≡ record { next = after; answer = answer }
+abbrev pub Writes : Controller → ℕ → ℤ → Controller → Reply → Type 0
+Writes before n v after answer = write before Engineer n v ≡ record { next = after; answer = answer }
 
 abbrev pub Restarts : Controller → List ℕ → Controller → Reply → Type 0
 Restarts before image after answer = restart before image ≡ record { next = after; answer = answer }
@@ -130,8 +127,7 @@ def answer_text(answer):
     if answer[0] == "scan":
         *words, mode, PV = answer[1:]
         return f"(words {' '.join(map(str, words))} {MODES[mode]} {argument(PV)})"
-    return {"ok": "acceptance", "image": "acceptance", "refused": f"(number {answer[-1]})",
-            "value": f"(reading {argument(answer[-1]) if answer[0] == 'value' else ''})"}[answer[0]]
+    return {"ok": "acceptance", "image": "acceptance"}[answer[0]]
 
 
 def statement(before, call):
@@ -141,9 +137,8 @@ def statement(before, call):
     if word == "scan":
         return f"Scans {state} (input {' '.join(map(str, given))}) {next_state} {reply}"
     if word == "write":
-        return f"Writes {state} {WRITERS[given[0]]} {given[1]} {argument(given[2])} {next_state} {reply}"
-    if word == "read":
-        return f"(read {state} {given[0]} ≡ {reply})"
+        _, number, value = given
+        return f"Writes {state} {number} {argument(value)} {next_state} {reply}"
     if word == "restart":
         return f"Restarts {state} {list_text(map(str, given[0]))} {next_state} {reply}"
     return f"Saves {state} {given[0]} {reply} {list_text(map(str, answer[1].ljust(given[0], bytes([FILL]))))}"

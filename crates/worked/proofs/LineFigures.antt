@@ -7,7 +7,7 @@ use Rattle.signals.specs.Refusals.{refusedBy, scanTests}
 use Rattle.signals.specs.Signals.{buttonsOf, pinsOf, switchesOf, adjustmentOf}
 use Rattle.modes.specs.Modes as m
 use Rattle.words.specs.Words.{byteOf, mdHigh, mdLow, MD, dsLow, DS}
-use Rattle.words.specs.Written.{mdTests, conditionsWritten, powerWritten}
+use Rattle.words.specs.Written.{mdTests, conditionsWritten, powerWritten, userBitsWritten}
 use Rattle.parameters.specs.Table.{value, withValue, ruleOf}
 use Rattle.parameters.specs.Written.{written}
 use Rattle.rights.specs.Rights as g
@@ -36,7 +36,8 @@ unfolding lineFigures held t.answered t.answeredTo t.readTo t.writtenTo t.replie
     names.named names.numbered names.isOf names.mnemonic n.lastDigits n.digitByte n.placesWithin n.places n.digits n.decimal
     n.hexadecimalWord n.digitValue n.readOn n.digitsOf n.withSign n.integerOf n.wordOf valueIn w.write w.writeCore w.writeTests
     w.accessNow w.valueTests g.mayWrite g.pinTests g.rightTests g.accessTests
-    w.stateTests w.writeAccepted w.coreWritten w.mdWritten w.parameterWritten w.coreWith written conditionsWritten powerWritten
+    w.stateTests w.writeAccepted w.coreWritten w.mdWritten w.dsWritten w.parameterWritten w.coreWith written conditionsWritten powerWritten
+    userBitsWritten
     mdTests ruleOf u.limitsWritten s.refused h.historyAfter s.scan s.scanCore s.accepted s.earlierScans h.historyBefore
     s.responseFrom s.controllerAfter s.contextOf s.computedIn s.indicationsAfter s.coreAfter s.statusOf s.modeNow
     State.freshController State.freshCore State.startReadings a.opOf a.electricalOf refusedBy scanTests buttonsOf pinsOf
@@ -46,7 +47,8 @@ unfolding lineFigures held t.answered t.answeredTo t.readTo t.writtenTo t.replie
     scaled halfUp Limit.limited Limit.atLeast Limit.atMost o.storedArithmetic o.changed o.limitedTo o.executed
     u.termsOf u.byTerms u.limitsIn u.instructionOf
 line-figures-hold =
-    refl and refl and refl and
+    refl and refl and refl and refl and
+    refl and refl and
     refl and refl and
     refl and refl and
     refl and refl and refl and

@@ -11,7 +11,7 @@ use Rattle.fields.specs.Decoding as g
 use Rattle.fields.specs.Fields as f
 use Rattle.modes.specs.Modes as m
 use Rattle.words.specs.Words.{byteOf, mdHigh, mdLow, MD, dsLow, DS}
-use Rattle.words.specs.Written.{conditionsWritten, powerWritten, userBitsWritten, mdTests}
+use Rattle.words.specs.Written.{conditionsWritten, powerWritten, mdTests}
 use Rattle.parameters.specs.Legal.{areLegal}
 use Rattle.parameters.specs.Range.{every}
 use Rattle.parameters.specs.Repaired as n
@@ -19,8 +19,7 @@ use Rattle.parameters.specs.Table.{value, withValue, ruleOf}
 use Rattle.parameters.specs.Written.{limitedAnew, written}
 use Rattle.rights.specs.Rights as k
 use Rattle.settings.specs.Settings as t
-use Rattle.scaling.specs.Ratio.{ratioQuotient, inverseQuotient}
-use Rattle.scaling.specs.Root.{greatestTo, rootOf}
+use Rattle.scaling.specs.Ratio.{inverseQuotient}
 use Rattle.scaling.specs.Scale.{scaled}
 use Rattle.setpoints.specs.Computation as e
 use Rattle.local_setpoint.specs.LocalSetpoint as l
@@ -32,7 +31,6 @@ use Rattle.outputs.specs.History as h
 use Rattle.outputs.specs.Instruction as o
 use Rattle.outputs.specs.Outputs as u
 use Rattle.controller.specs.Answers as a
-use Rattle.controller.specs.Read.{read, readIn, valueIn}
 use Rattle.controller.specs.Restart as r
 use Rattle.controller.specs.Save as v
 use Rattle.controller.specs.Scan as s
@@ -43,19 +41,19 @@ use Rattle.worked.specs.ModelCalls.{modelCalls}
 use Rattle.worked.proofs.Worked.{_and_}
 
 pub model-calls-hold : AllHold modelCalls
-unfolding modelCalls s.scan s.scanCore s.accepted s.earlierScans h.historyBefore s.responseFrom s.controllerAfter s.contextOf s.computedIn
-    s.indicationsAfter s.coreAfter s.statusOf s.modeNow s.refused a.opOf a.electricalOf refusedBy scanTests buttonsOf
-    pinsOf switchesOf adjustmentOf m.counted m.openCountAfter m.conditionsAfter m.modeOf m.goesToMinimum byteOf mdHigh
-    mdLow MD dsLow DS value withValue e.computed e.lowAlarm e.highAlarm p.firstSample p.processVariable p.thirdChannel
-    l.movedByHand l.ratioAfter l.setpointMoved l.setpointAfter l.followingSetpoint p.trimOf p.localSetpoint p.remoteSetpoint
-    p.ratioSetpoint p.setpointIn p.setpointOf p.measuredPower scaled halfUp Limit.limited Limit.atLeast Limit.atMost
-    d.controlDifference d.earlierSetpoint d.changeOfDifference d.secondDifference d.tuningOf h.historyAfter
-    o.storedArithmetic o.changed o.limitedTo o.executed u.termsOf u.byTerms u.byHand u.minimumOf u.limitsIn
-    u.limitsWritten u.instructionOf u.restartedTo u.restartInstruction proportionalTerm integralTerm derivativeTerm
-    limitedTerm storedTerm whole atLeast atMost limited stored storedUnits limitedStored nearestEven halfEven
-    ratioQuotient inverseQuotient greatestTo rootOf w.write w.writeCore w.writeAccepted w.writeTests
-    w.accessNow w.valueTests k.mayWrite k.pinTests k.rightTests k.accessTests w.stateTests w.setpointTests w.coreWith w.coreWritten w.mdWritten w.dsWritten w.parameterWritten read readIn
-    valueIn limitedAnew written ruleOf conditionsWritten powerWritten userBitsWritten mdTests r.restart r.restartCore
+unfolding modelCalls s.scan s.scanCore s.accepted s.earlierScans h.historyBefore s.responseFrom s.controllerAfter
+    s.contextOf s.computedIn s.indicationsAfter s.coreAfter s.statusOf s.modeNow a.opOf a.electricalOf refusedBy
+    scanTests buttonsOf pinsOf switchesOf adjustmentOf m.counted m.openCountAfter m.conditionsAfter m.modeOf
+    m.goesToMinimum byteOf mdHigh mdLow MD dsLow DS value withValue e.computed e.lowAlarm e.highAlarm p.firstSample
+    p.processVariable p.thirdChannel l.movedByHand l.ratioAfter l.setpointMoved l.setpointAfter l.followingSetpoint
+    p.trimOf p.localSetpoint p.remoteSetpoint p.ratioSetpoint p.setpointIn p.setpointOf p.measuredPower scaled halfUp
+    Limit.limited Limit.atLeast Limit.atMost d.controlDifference d.earlierSetpoint d.changeOfDifference
+    d.secondDifference d.tuningOf h.historyAfter o.storedArithmetic o.changed o.limitedTo o.executed u.termsOf u.byTerms
+    u.byHand u.minimumOf u.limitsIn u.limitsWritten u.instructionOf u.restartedTo u.restartInstruction proportionalTerm
+    integralTerm derivativeTerm limitedTerm storedTerm whole atLeast atMost limited stored storedUnits limitedStored
+    nearestEven halfEven inverseQuotient w.write w.writeCore w.writeAccepted w.writeTests w.accessNow w.valueTests
+    k.mayWrite k.pinTests k.rightTests k.accessTests w.stateTests w.coreWith w.coreWritten w.mdWritten
+    w.parameterWritten limitedAnew written ruleOf conditionsWritten powerWritten mdTests r.restart r.restartCore
     r.restartTests r.restartAccepted r.restoredSettings r.repairedSettings r.isLegal v.savedImage v.settingsNow
     v.settingsOf startReadings f.fieldsFrom f.fieldBytes f.valueBytes f.tagOf f.lengthOf f.withSumcheck f.sumOf f.sum
     f.saveTests f.savedIn g.wellFormedFrom g.valuesFrom g.valueIn g.hasHeader areLegal every n.repaired
@@ -63,13 +61,8 @@ unfolding modelCalls s.scan s.scanCore s.accepted s.earlierScans h.historyBefore
     t.valueAt t.userBitsNumber t.userBitsIn t.parameterIn t.parametersIn t.settingsIn t.isSumRight t.areOthersLegal
     t.legalUserBits listed asWord fromWord
 model-calls-hold =
-    refl and refl and refl and refl and refl and refl and refl and refl and
-    refl and refl and refl and refl and refl and refl and refl and refl and
+    refl and refl and refl and refl and refl and refl and refl and
     refl and refl and
-    refl and refl and refl and refl and refl and
-    refl and refl and refl and refl and refl and refl and refl and refl and refl and
-    refl and refl and refl and refl and refl and refl and
-    refl and
-    refl and refl and refl and refl and refl and
+    refl and refl and
     (refl, refl) and
     tt

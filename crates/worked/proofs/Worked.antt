@@ -198,7 +198,10 @@ pub further-figures-hold : AllHold furtherFigures
 unfolding furtherFigures o.changed o.exactArithmetic plus proportionalTerm integralTerm derivativeTerm limitedTerm
     storedTerm whole atLeast atMost limited stored storedUnits nearestEven halfEven inverseQuotient
 further-figures-hold =
-    refl and refl and (lit< tt, lit< tt, refl) and
+    refl and refl and
+    refl and refl and refl and
+    refl and refl and
+    (lit< tt, lit< tt, refl) and
     root-figure 0 0 tt tt tt and root-figure 400 2000 tt tt tt and root-figure 1600 4000 tt tt tt and root-figure 10000 10000 tt tt tt and
     root-figure 2 141 tt tt tt and root-figure 9998 9998 tt tt tt and
     refl and refl and

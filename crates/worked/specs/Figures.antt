@@ -97,6 +97,13 @@ furtherFigures =
     -- the 10 units and the -10,000 units as they are stored
     (storedTerm (proportionalTerm (example 0 0) (pos 1)) ≡ pos 655360)
     ∷ (storedTerm (derivativeTerm (example 0 10) (pos 100)) ≡ negℤ (pos 655360000))
+    -- a term of exactly 10,000 units, one beyond it, and the same below zero: the limit belongs to the range
+    ∷ (storedTerm (proportionalTerm (example 0 0) (pos 1000)) ≡ pos 655360000)
+    ∷ (storedTerm (proportionalTerm (example 0 0) (pos 1001)) ≡ pos 655360000)
+    ∷ (storedTerm (proportionalTerm (example 0 0) (negℤ (pos 1000))) ≡ negℤ (pos 655360000))
+    -- c = 6, TI 5 is 283,115.52 stored steps, just above a half: one goes on, on either side of zero
+    ∷ (storedTerm (integralTerm (example 5 0) (pos 6)) ≡ pos 283116)
+    ∷ (storedTerm (integralTerm (example 5 0) (negℤ (pos 6))) ≡ negℤ (pos 283116))
     -- the exact controller's output with the term of 0.36 units and two of 0: "its limited terms are added unrounded"
     ∷ Equal (changed exactArithmetic (termsFrom (example 10 0) 0 1 0) (whole (pos 0))) (record { numerator = pos 36; denominator = 100 })
     -- the manual's roots, 4.3.3: of 0, 0.4, 1.6 and 10 V they are 0, 2, 4 and 10 V

@@ -33,10 +33,14 @@ held = scan (freshController 0) holding .next
 
 unfoldable pub lineFigures : List (Type 0)
 lineFigures =
-    -- reads: a decimal, one below zero, a word
+    -- reads: a decimal, one below zero, a word, and one with a letter among its digits, a capital
     (answered (freshController 0) Engineer (ascii "XP") twelveBytes ≡ repliesWith (freshController 0) (ascii "XP>1000"))
     ∷ (answered (freshController 0) Engineer (ascii "LA") twelveBytes ≡ repliesWith (freshController 0) (ascii "LA>-9999"))
     ∷ (answered (freshController 0) Engineer (ascii "II") twelveBytes ≡ repliesWith (freshController 0) (ascii "II>3608"))
+    ∷ (answered (freshController 0) Engineer (ascii "DS") twelveBytes ≡ repliesWith (freshController 0) (ascii "DS>801F"))
+    -- a word is written with capitals too, and small letters are no digits
+    ∷ (answered (freshController 0) Engineer (ascii "DS>00C0") twelveBytes .buffer ≡ ascii "DS>80DF.....")
+    ∷ (answered (freshController 0) Engineer (ascii "DS>00c0") twelveBytes ≡ refuses (freshController 0) 18)
     -- a write with leading zeros, and -0: the reply has the shortest decimal
     ∷ (answered (freshController 0) Engineer (ascii "XP>00500") twelveBytes .buffer ≡ ascii "XP>500......")
     ∷ (answered (freshController 0) Engineer (ascii "RB>-0") twelveBytes ≡ repliesWith (freshController 0) (ascii "RB>0"))
