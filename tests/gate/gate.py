@@ -29,6 +29,7 @@ TESTS = (
     ("the calculator's answers compared with the model's", [*MODULE, "tests.comparison.calculator", "target/bin/calculator"]),
     ("kept sheets compared with the model's", [*MODULE, "tests.comparison.kept_sheets", "target/bin/sheet_console"]),
     ("the hand-held terminal's answers compared with the model's", [*MODULE, "tests.comparison.handheld", "target/bin/handheld"]),
+    ("must-fail edits that show nothing", [*MODULE, "tests.gate.edits"]),
     ("the gate's own tests", [*MODULE, "tests.gate.gate_test"]),
     ("the model's calls that the rules are proved to give", [*MODULE, "tests.statements.calls"]),
     ("the table of roots", [*MODULE, "tests.roots.table"]),

@@ -12,7 +12,7 @@ import subprocess
 import sys
 import tempfile
 
-from tests.gate import gate, tally, times
+from tests.gate import edits, gate, tally, times
 
 PASSES = ("a step", ["sh", "-c", "echo 3 passed, 0 failed"])
 # Lines as `rt ci` prints them
@@ -90,6 +90,29 @@ def longest_stands_first():
     return names == ["long", "short", "console", "outputs", "integers", "outputs (2 edits)", "terms (1 edits)"]
 
 
+def edits_of_form():
+    """Which edits are found to show nothing, by what a check said of them; one of them wasn't tried."""
+    said = {
+        "value": "P.antt:46:5: error: `returns`: the goal does not follow\nP.antt:61:5: error: `x` has no field `y`",
+        "renamed": "note: an error may follow\nP.antt:1:2: error: `x` has no field `y`",
+        "unnamed": "P.antt:1:2: error: there is nothing `x` that can be named here",
+        "uncompiled": "src/lib.rt:3:4: error[unknown-name]: there is no `x`",
+        "silent": "refused",
+        "untried": None,
+    }
+    with tempfile.TemporaryDirectory() as folder:
+        root = pathlib.Path(folder)
+        (root / "crates" / "terms" / "must-fail").mkdir(parents=True)
+        for name, words in said.items():
+            (root / "crates" / "terms" / "must-fail" / f"{name}.edit").touch()
+            if words is not None:
+                log = root / "target" / "must-fail" / "terms" / name / ".log"
+                log.parent.mkdir(parents=True)
+                log.write_text(words)
+        found = {name for name, log in edits.edits_in(root) if edits.fault_of(log)}
+    return found == {f"terms/{name}" for name in said if name != "value"}
+
+
 CASES = (
     ("a step that passes", lambda: outcome("echo 3 passed, 0 failed") == (3, 0)),
     ("blank lines behind a tally", lambda: outcome("echo 3 passed, 0 failed; echo") == (3, 0)),
@@ -106,6 +129,7 @@ CASES = (
     ("the tally behind the times", closes_with_the_tally),
     ("the seconds of crates and edits", times_are_read),
     ("the longest first", longest_stands_first),
+    ("edits that show nothing", edits_of_form),
     ("a crate that is not listed", unlisted_crate_is_refused),
 )
 

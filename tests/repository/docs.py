@@ -1,12 +1,13 @@
 """The documents name only what is there.
 
 Every name in a document's inline code stands somewhere in the repository outside the documents, every path in it is
-there, and every edit that the trace cites is one that the gate tries, and the other way round.
+there, and every edit that the trace cites is one that the gate tries, and the other way round. README's listings are
+the text of programs that the gate proves and runs, and `first_use` has nothing that README doesn't list.
 
 Usage: python3 -B -m tests.repository.docs
 
-The last line printed is 'N passed, M failed', one count for each name and path in each document and for each must-fail
-edit.
+The last line printed is 'N passed, M failed', one count for each name and path in each document, for each must-fail
+edit, for each of README's listings and for each line that it has to list.
 """
 
 import re
@@ -24,6 +25,10 @@ PATH = re.compile(r"(?<![\w/.-])(?:[\w.-]+/)+[\w-]+\.(?:py|antt|rt|txt|md|edit)\
 LINK = re.compile(r"\]\(([^)#:]+)\)")
 TOOLS = {"rt", "make", "git", "omega"}  # programs and tactics of the kit and the machine
 PLACEHOLDERS = {"N", "F"}
+FIRST_USE = "crates/first_use/src/main.rt"
+LISTED = (FIRST_USE, "crates/scan_loop/proofs/dry/Proof.antt")
+COMMAND = "make"  # what a listing of commands begins with
+FRAME = {"mod print;", "fn main() {", "}"}  # lines of a program that README doesn't list
 
 
 def known_names():
@@ -69,8 +74,41 @@ def edits():
     return [f"docs/TRACE: edit {name} is cited or there, and not both" for name in sorted(there ^ cited)], len(there | cited)
 
 
+def code_of(text):
+    """The lines of a text that aren't blank, without their indentation."""
+    return [line.strip() for line in text.split("\n") if line.strip()]
+
+
+def listings(text):
+    """The indented blocks of a document, but those of commands, as lines without their indentation."""
+    blocks = re.findall(r"(?:^    .*\n|^\n(?=    ))+", text, re.MULTILINE)
+    return [code for code in map(code_of, blocks) if code and not code[0].startswith(COMMAND)]
+
+
+def places_of(code, program):
+    """The lines of a program that a listing is, by their places; none if it isn't a run of them."""
+    many = len(code)
+    return next((set(range(place, place + many)) for place in range(len(program) - many + 1) if program[place:place + many] == code), set())
+
+
+def stale_listings(text, programs):
+    """The listings of a document that are no run of lines of a program, and the first program's lines that none lists."""
+    found, listed, blocks = [], set(), listings(text)
+    for code in blocks:
+        places = [places_of(code, program) for program in programs]
+        listed |= places[0]
+        if not any(places):
+            found.append(f"README.md: no program has the listing that begins with {code[0]}")
+    wanted = [(place, line) for place, line in enumerate(programs[0]) if line not in FRAME and not line.startswith("//")]
+    found += [f"README.md: doesn't list {line}, of {FIRST_USE}" for place, line in wanted if place not in listed]
+    return found, len(blocks) + len(wanted)
+
+
 def main():
     found, looked = edits()
+    more, count = stale_listings((ROOT / "README.md").read_text(encoding="utf-8"),
+                                 [code_of((ROOT / path).read_text(encoding="utf-8")) for path in LISTED])
+    found, looked = found + more, looked + count
     names = known_names()
     for document in DOCUMENTS:
         for more, count in (unknown_names(document, names), missing_paths(document), broken_links(document)):

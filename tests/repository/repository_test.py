@@ -1,4 +1,4 @@
-"""Tests of the checks of names, line lengths and imports: what they must find, and what they must not.
+"""Tests of the checks of names, line lengths, imports and listings: what they must find, and what they must not.
 
 Usage: python3 -B -m tests.repository.repository_test
 
@@ -8,6 +8,7 @@ The last line printed is 'N passed, M failed'.
 import sys
 
 from tests.gate import tally
+from tests.repository.docs import stale_listings
 from tests.repository.imports import idle_imports
 from tests.repository.line_lengths import too_long_lines
 from tests.repository.names import identifiers, retired_in
@@ -33,6 +34,11 @@ IMPORTS = (("use a.{b, c, _+_, _*_}\nb : d + e", ["c", "_*_"]), ("use a.{b}\nuse
            ("use a.{b}\nuse c.{b}\nb : b", []), ("use a.{b as c}\nb", ["c"]), ("use a.{b as c}\nc", []), ("use a as m\nm.b", []),
            ("use a as m\nb", ["m"]), ("use a.{b-c, if_then_else_}\nb\nif x then y else z", ["b-c"]), ("use a.{b}\nb-c", ["b"]),
            ("ghost use a.{b, c};\nfn f() // c\nb", ["c"]))
+# A document's text, a program's lines, and how many faults there are: listings that no program has, lines not listed
+LISTINGS = (("Text\n\n    let a = 1;\n\n    f(a);\n\nmore\n", ["let a = 1;", "f(a);"], 0), ("    make run\n", [], 0),
+            ("    let a = 1;\n", ["fn main() {", "let a = 1;", "}"], 0), ("    let a = 2;\n", ["let a = 1;"], 2),
+            ("    let a = 1;\n", ["let a = 1;", "f(a);"], 1), ("    f(a);\n    f(b);\n", ["f(a);", "// why", "f(b);"], 3),
+            ("    f(a);\n\ntext\n\n    f(b);\n", ["f(a);", "// why", "f(b);"], 0))
 
 
 def results():
@@ -46,6 +52,9 @@ def results():
     for text, expected in IMPORTS:
         found = [name for _, name in idle_imports(text)]
         yield found == expected, f"{text!r}: {found}"
+    for text, program, expected in LISTINGS:
+        found, _ = stale_listings(text, [program])
+        yield len(found) == expected, f"{text!r}: {found}"
     for name, text, expected in TEXTS:
         found = [number for number, _ in too_long_lines(name, text.split("\n"))]
         yield found == expected, f"{name}, {text[:20]!r}..: lines {found}"

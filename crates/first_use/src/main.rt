@@ -1,16 +1,12 @@
 // README's first use, listing by listing: the calls of a controller, of a sheet and of the hand-held terminal. No
-// function here has a proof file. One that takes or returns a controller says in its contract that it is Valid.
+// function here has a proof file.
 ghost use Rattle.controller.specs.Valid.{Valid};
 use answers::ScanValues;
 use controller::Answer;
 use controller::Controller;
-use controller::ReadAnswer;
 use rights::Writer;
-use sheet::Entry;
 use sheet::Sheet;
-use sheet::Validity;
 use signals::Input;
-use signals::clock::ClockReading;
 use terminal::LineAnswer;
 
 mod print;

@@ -27,6 +27,7 @@ use Rattle.sheet_guarantee.specs.Claim.{FullExactly, no-entry, and-entry
 use Rattle.sheet_guarantee.specs.Claim.{AlwaysLinked}
 use Rattle.sheet_guarantee.specs.Linked.{Linked, started, entered, kept, refused, takenOf}
 use Rattle.sheet_guarantee.specs.Meaning.{Answers, none, _then_, many, IsExtreme, Gives}
+use Rattle.sheet_guarantee.proofs.Unique.{answerable}
 use Rattle.sheet_guarantee.proofs.Step.{place-is, empty-gives, taken-gives}
 
 -- ---- what an answer does to a sheet
@@ -173,5 +174,5 @@ always-linked (xs then a) h =
     record {
       entries = r .entry ∷ c .entries;
       last = r .sheet;
-      chain = entered a r (c .chain) (refl, entered-valid (c .last) a (holds (c .chain) .valid) (h .1));
+      chain = entered a r (c .chain) (refl, entered-valid (c .last) a (holds (c .chain) .valid) (answerable a (h .1)));
     }

@@ -121,7 +121,7 @@ module _ (v : SheetValues) (p : Parts v) where
       (sym (ends-are Greatest g l more (q .here-from) (q .here-to) (q .other-from) (q .other-to))) (q .sum-here)) in
       record {
         answers = f .answers;
-        answerable = f .answerable;
+        in-types = f .in-types;
         few = omega (arith, f .many-are, p .scans);
         gives = record {
           scans = k ∙ sym (f .many-are);
@@ -144,7 +144,7 @@ module _ (v : SheetValues) (p : Parts v) where
   empty k d e q =
       record {
         answers = none;
-        answerable = tt;
+        in-types = tt;
         few = omega arith;
         gives = record {
           scans = k;

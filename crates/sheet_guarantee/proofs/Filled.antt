@@ -22,7 +22,7 @@ use Rattle.sheet.specs.Valid.{total}
 use Rattle.sheet.specs.TotalLaws.{count-most}
 use Rattle.sheet.specs.declared.Bound.the-variants.{Greatest, Least}
 use Rattle.sheet.specs.declared.Occurrence.{Occurrence}
-use Rattle.sheet_guarantee.specs.Claim.{AllAnswerable}
+use Rattle.sheet_guarantee.specs.Claim.{AllInTypes}
 use Rattle.sheet_guarantee.specs.Meaning.{Answers, none, _then_, many, Numbered, latest, earlier, howMany, rank, isIn, isAlarmed}
 use Rattle.sheet_guarantee.specs.Meaning.{sumPV, sumOP}
 use Rattle.sheet_guarantee.proofs.Ends.{end, ends}
@@ -100,7 +100,7 @@ module _ (g l : Occurrence) (o : Order Greatest g l) (greatest-held : Held (g .p
 
   pub record Filled (k : ℕ) (counts : List ℕ) (alarms op : ℕ) (s : ℤ) : Type 0 where
     pub answers : Answers
-    pub answerable : AllAnswerable answers
+    pub in-types : AllInTypes answers
     pub many-are : many answers ≡ k
     pub modes : (m : Mode) → getD counts (rank m) 0 ≡ howMany (isIn m) answers
     pub alarms-are : alarms ≡ howMany isAlarmed answers
@@ -149,7 +149,9 @@ module _ (g l : Occurrence) (o : Order Greatest g l) (greatest-held : Held (g .p
     extended alarms rest s e f =
         record {
           answers = f .answers then latest-answer;
-          answerable = (f .answerable, record { pv = pv-held (suc k) pv fits; op = omega arith });
+          in-types =
+              let held = pv-held (suc k) pv fits in
+              (f .in-types, record { op = omega arith; pv-least = held .least; pv-most = held .most });
           many-are = omega (arith, f .many-are);
           modes = λ m. counted m (howMany (isIn m) (f .answers)) (f .modes m);
           alarms-are = e ∙ ap (λ (n : ℕ). if isAlarmed latest-answer then n + 1 else n) (f .alarms-are);
@@ -170,7 +172,7 @@ module _ (g l : Occurrence) (o : Order Greatest g l) (greatest-held : Held (g .p
   nothing-filled counts op s t c d e =
       record {
         answers = none;
-        answerable = tt;
+        in-types = tt;
         many-are = refl;
         modes = λ m. let most = count-most counts (rank m) in omega arith;
         alarms-are = refl;

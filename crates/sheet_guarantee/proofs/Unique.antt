@@ -9,16 +9,18 @@ use lib.ListN.{length, getD}
 use Rattle.integers.specs.Parts.{integers}
 use Rattle.modes.specs.declared.Mode.{Mode}
 use Rattle.modes.specs.declared.Mode.the-variants.{Hold, Track, Forced, Manual, Auto, Remote, Ratio, Fallback}
-use Rattle.sheet.specs.EnteredLaws.{empty-valid, taken-valid}
+use Rattle.answers.specs.declared.ScanValues.{ScanValues}
+use Rattle.sheet.specs.EnteredLaws.{Answerable, empty-valid, taken-valid}
 use Rattle.sheet.specs.Sheet.{emptySheet, taken}
 use Rattle.sheet.specs.Valid.{isValid}
+use Rattle.sheet.specs.SumLaws.{Held}
 use Rattle.sheet.specs.declared.Bound.{Bound}
 use Rattle.sheet.specs.declared.Bound.the-variants.{Greatest, Least}
 use Rattle.sheet.specs.declared.Extreme.{Extreme}
 use Rattle.sheet.specs.declared.Extreme.the-variants.{None, First}
 use Rattle.sheet.specs.declared.Occurrence.{Occurrence}
 use Rattle.sheet.specs.declared.SheetValues.{SheetValues}
-use Rattle.sheet_guarantee.specs.Claim.{AllAnswerable, Possible}
+use Rattle.sheet_guarantee.specs.Claim.{InTypes, AllInTypes, Possible}
 use Rattle.sheet_guarantee.specs.Meaning.{Answers, none, _then_, many, rank, NotBeyond}
 use Rattle.sheet_guarantee.specs.Meaning.{IsFirst, IsExtreme, of-none, of-some, Gives}
 use Rattle.sheet_guarantee.proofs.Step.{never-numbered, empty-gives, taken-gives}
@@ -105,13 +107,17 @@ unfolding values-of
 values-given none = empty-gives
 values-given (xs then a) = taken-gives xs (values-of xs) a (values-given xs)
 
-values-valid : (xs : Answers) → AllAnswerable xs → many xs ≤ 4294967295 → isValid (values-of xs) ≡ true
+-- values that the types of an answer hold are such as the sheet's laws ask for
+pub answerable : (a : ScanValues) → InTypes a → Answerable a
+answerable a h = let held : Held (a .pv) = record { least = h .pv-least; most = h .pv-most } in record { pv = held; op = h .op }
+
+values-valid : (xs : Answers) → AllInTypes xs → many xs ≤ 4294967295 → isValid (values-of xs) ≡ true
 unfolding values-of
 values-valid none h few = empty-valid .tested
 values-valid (xs then a) h few =
-    taken-valid (values-of xs) a (values-valid xs (h .0) (omega arith)) (omega (arith, values-given xs .scans)) (h .1)
+    taken-valid (values-of xs) a (values-valid xs (h .0) (omega arith)) (omega (arith, values-given xs .scans)) (answerable a (h .1))
 
 pub possible-valid : (v : SheetValues) → Possible v → isValid v ≡ true
 possible-valid v p =
     subst (λ (w : SheetValues). isValid w ≡ true) (one-sheet (p .answers) _ v (values-given (p .answers)) (p .gives))
-    (values-valid (p .answers) (p .answerable) (p .few))
+    (values-valid (p .answers) (p .in-types) (p .few))

@@ -3,11 +3,11 @@ use mathlib.Core.Path.{_≡_}
 use mathlib.Core.List.{List, [], _∷_}
 use Prim.Native.Nat.{ℕ, _≤_}
 use lib.Dec.{eqb}
-use lib.IntN.{ℤ, pos}
+use lib.IntN.{ℤ, pos, negℤ}
+use lib.Signed.{_≤ℤ_}
 use Rattle.integers.specs.Choice.{if_then_else_}
 use Rattle.modes.specs.declared.Mode.{Mode}
 use Rattle.answers.specs.declared.ScanValues.{ScanValues}
-use Rattle.sheet.specs.EnteredLaws.{Answerable}
 use Rattle.sheet.specs.declared.Bound.the-variants.{Greatest, Least}
 use Rattle.sheet.specs.declared.EnterResult.{EnterResult}
 use Rattle.sheet.specs.declared.Entry.{Entry}
@@ -63,10 +63,15 @@ Always = (xs : Answers) (es : List Entry) (s : Sheet) → Linked xs es s → She
 
 -- ---- there is such a sheet for every list: what is said of lists is said of something
 
--- values that the types of an answer hold
-abbrev pub AllAnswerable : Answers → Type 0
-AllAnswerable none = Unit {0}
-AllAnswerable (xs then a) = AllAnswerable xs × Answerable a
+-- values that the types of an answer hold: OP has 16 bits, PV 32 with its sign
+pub record InTypes (a : ScanValues) : Type 0 where
+  pub op : a .op ≤ 65535
+  pub pv-least : negℤ (pos 2147483648) ≤ℤ a .pv
+  pub pv-most : a .pv ≤ℤ pos 2147483647
+
+abbrev pub AllInTypes : Answers → Type 0
+AllInTypes none = Unit {0}
+AllInTypes (xs then a) = AllInTypes xs × InTypes a
 
 pub record Chain (xs : Answers) : Type 0 where
   pub entries : List Entry
@@ -74,14 +79,14 @@ pub record Chain (xs : Answers) : Type 0 where
   pub chain : Linked xs entries last
 
 abbrev pub AlwaysLinked : Type 0
-AlwaysLinked = (xs : Answers) → AllAnswerable xs → Chain xs
+AlwaysLinked = (xs : Answers) → AllInTypes xs → Chain xs
 
 -- ---- kept values are valid exactly if some list of answers gives them, and the sheet then holds these values. The
 -- answers are any that their types hold: a sheet doesn't know which of these a controller can give
 
 pub record Possible (v : SheetValues) : Type 0 where
   pub answers : Answers
-  pub answerable : AllAnswerable answers
+  pub in-types : AllInTypes answers
   pub few : many answers ≤ 4294967295
   pub gives : Gives answers v
 
