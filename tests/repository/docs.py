@@ -92,7 +92,7 @@ def places_of(code, program):
 
 
 def stale_listings(text, programs):
-    """The listings of a document that are no run of lines of a program, and the first program's lines that none lists."""
+    """Listings of a document that are no run of lines of a program, lines of the first one that none lists; how many."""
     found, listed, blocks = [], set(), listings(text)
     for code in blocks:
         places = [places_of(code, program) for program in programs]

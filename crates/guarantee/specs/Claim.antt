@@ -1,7 +1,7 @@
 -- The parts of demand 3, written out again from document 01's words. Shared with the rules are the types of the state
--- and of the answers, the value of a parameter, what a read answers, the bytes of an image, the exact controller's steps
--- but for the output, and the words of Shared.antt. The limits, what a word shows of the mode and how near the stored
--- output is stand here a second time, so that a rule isn't judged by itself.
+-- and of the answers, the value of a parameter, what a read answers, the bytes of an image, the exact controller's
+-- steps but for the output, and the words of Shared.antt. The limits, what a word shows of the mode and how near the
+-- stored output is stand here a second time, so that a rule isn't judged by itself.
 use mathlib.Core.Path.{_≡_}
 use mathlib.Core.List.{List, [], _∷_, _++_}
 use mathlib.Core.Option.{some}
@@ -35,8 +35,9 @@ pub record WithinLimits (c : Controller) : Type 0 where
 
 -- ---- the stored output is near the exact controller's
 
--- x, in 1/65,536 unit, is within so many halves of 1/65,536 unit of f, in units: twice their distance, in 1/65,536 unit,
--- is at most so many. |x - 65,536 × n / d| × 2 ≤ halves, of f = n / d, is told by whole numbers, both sides times d
+-- x, in 1/65,536 unit, is within so many halves of 1/65,536 unit of f, in units: twice their distance, in 1/65,536
+-- unit, is at most so many. 2 × |x - 65,536 × n / d| ≤ halves, of f = n / d, is told by whole numbers, both sides
+-- times d
 pub record WithinHalves (x : ℤ) (f : Fraction) (halves : ℕ) : Type 0 where
   pub positive : 0 < f .denominator
   pub not-above : (x *ℤ pos (2 * f .denominator)) ≤ℤ (f .numerator *ℤ pos 131072 +ℤ pos (halves * f .denominator))
