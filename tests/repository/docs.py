@@ -92,7 +92,7 @@ def places_of(code, program):
 
 
 def stale_listings(text, programs):
-    """Listings of a document that are no run of lines of a program, lines of the first one that none lists; how many."""
+    """Listings that are no run of lines of a program, lines of the first program that none lists; how many of both."""
     found, listed, blocks = [], set(), listings(text)
     for code in blocks:
         places = [places_of(code, program) for program in programs]
