@@ -2,9 +2,9 @@
 
 Usage: python3 -B -m tests.gate.edits
 
-`rt ci` leaves what its check said of each edit below target/must-fail. An edit whose first error is one of form (the
-code doesn't compile, or the proof names something that isn't there any more) would be refused with the right value too,
-so it shows nothing. The last line printed is 'N passed, M failed', one count for each edit.
+`rt ci` leaves what its check said of each edit below target/must-fail, and by itself fails one that doesn't compile. An
+edit whose first error is one of form (the proof names something that isn't there any more) would be refused with the
+right value too, so it shows nothing. The last line printed is 'N passed, M failed', one count for each edit.
 """
 
 import re
@@ -13,7 +13,8 @@ import sys
 from tests import ROOT
 from tests.gate import tally
 
-FORM = re.compile(r"that can be named|has no field|\.rt:\d+:\d+: error\[")
+REFUSED = re.compile(r": error|: no proof: ")
+FORM = re.compile(r"that can be named|has no field")
 
 
 def fault_of(log):
@@ -21,9 +22,9 @@ def fault_of(log):
     if not log.is_file():
         return "wasn't tried"
     lines = log.read_text(encoding="utf-8", errors="replace").splitlines()
-    first = next((line for line in lines if ": error" in line), None)
+    first = next((line for line in lines if REFUSED.search(line)), None)
     if first is None:
-        return "was refused with no error"
+        return "wasn't refused by the check"
     return f"is refused for its form: {first[:300]}" if FORM.search(first) else ""
 
 
