@@ -27,12 +27,12 @@ from tests.statements.text import HEAD, statement
 
 FILE = ROOT / "crates/worked/specs/ModelCalls.antt"
 SEED = 6360
-# The calls, each by its kind and its number among those drawn: what it is, and behind the colon misreadings that it
+# The calls, each by its kind and its number among those drawn: what it is, and after the colon misreadings that it
 # alone shows
 KEPT = {
     "scan": {
-        3520: "Ratio behind a gap: earlier PV and SP forgotten after the terms, or PV alone; RS + trim not limited; SP not limited",
-        8792: "85th open scan behind Remote, S2.5 ON: minimum told by the mode of this scan, Forced, in place of the one just before",
+        3520: "Ratio after a gap: earlier PV and SP forgotten after the terms, or PV alone; RS + trim not limited; SP not limited",
+        8792: "85th open scan after Remote, S2.5 ON: minimum told by the mode of this scan, Forced, in place of the one just before",
         9848: "Fall-back, S1.1 OFF: c1 with the previous SP; the sum of the terms rounded, not each; the request Auto for good",
         16408: "Track, S2.6 and S2.2 ON: the trim counted; the output limited, or inverted; SL becomes PV without limits",
         19212: "Hold, open, S2.6 ON: the output limited; SP kept, or without trim; SL becomes 1L, or is moved by hand",
@@ -48,7 +48,7 @@ KEPT = {
     "save": {0: "in Hold under the open cause: 43h 1 for this cause; SP in place of SL; bytes past the 137 zeroed"},
 }
 
-BEHIND_A_GAP = (3520, 8792, 19212)  # scans that are stated 43 ms after the one before, not as they were drawn
+AFTER_A_GAP = (3520, 8792, 19212)  # scans that are stated 43 ms after the one before, not as they were drawn
 
 
 # The calls drawn, as the state before and the call ------------------------------------
@@ -66,11 +66,11 @@ def scans():
             if call[0] == "scan":
                 befores = (controller, controller._replace(memory_fault=True)) if generator.random() < 0.01 else (controller,)
                 drawn = ((before, call) for before in befores if answer[0] == "scan")
-                yield from (behind_a_gap(*each) if next(number) in BEHIND_A_GAP else each for each in drawn)
+                yield from (after_a_gap(*each) if next(number) in AFTER_A_GAP else each for each in drawn)
             controller = after
 
 
-def behind_a_gap(before, call):
+def after_a_gap(before, call):
     """The scan, one millisecond later after the one before it than is ordinary."""
     return before, (*call[:-1], before.clock + 43)
 

@@ -38,10 +38,12 @@ fn main() {
     print::verdict(written);
     let fourth = type_line(third);
     print::answer(b"SL", fourth.read(parameters::SL)); // 650
-    let mut image = [0u8; 137];
+    let mut image = [0u8; fields::IMAGE_LENGTH];
     let saved = fourth.save(&mut image); // keep the bytes where a power cut leaves them
     print::verdict(saved);
     let back = Controller::fresh(0).restart(&image);
+    let taken = back.verdict; // where it is refused the controller is as it was
+    print::verdict(taken);
     let restarted = back.controller; // MD bit 8 tells whether the image brought the memory fault
     print::answer(b"XP", restarted.read(parameters::XP)); // 500
 }

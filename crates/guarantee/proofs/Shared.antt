@@ -90,6 +90,7 @@ shared-words =
         scans = λ v. refl;
         reads = λ v. refl;
         others = refl;
+        numbered = λ n. (refl, refl);
         scanned = λ r. refl;
         called = λ r. refl;
       };

@@ -5,6 +5,7 @@
 use mathlib.Core.Path.{_≡_}
 use mathlib.Core.Bool.{true, false}
 use mathlib.Core.List.{List, [], _∷_}
+use mathlib.Core.Option.{some, none}
 use Prim.Native.Nat.{ℕ, _*_, _/_, _%_, _<_}
 use lib.Dec.{eqb}
 use lib.IntN.{ℤ, pos, _+ℤ_, _*ℤ_}
@@ -16,7 +17,7 @@ use Rattle.signals.specs.Bits.{bit}
 use Rattle.signals.specs.declared.Verdict.the-variants as verdict
 use Rattle.terms.specs.Fraction.{Fraction, whole, plus, limited}
 use Rattle.answers.specs.declared.ScanValues.{ScanValues}
-use Rattle.controller.specs.Answers.{words, reading, acceptance, replyOf, replyOfVerdict, replyOfRead}
+use Rattle.controller.specs.Answers.{words, reading, acceptance, number, replyOf, replyOfVerdict, replyOfRead, replyBy}
 use Rattle.controller.specs.Answers.{responseOf, responseOfVerdict}
 use Rattle.controller.specs.declared.Answer.the-variants.{Accepted}
 use Rattle.controller.specs.declared.CallResult.{CallResult}
@@ -80,6 +81,8 @@ pub record AcceptedAnswers : Type 0 where
   pub scans : (v : ScanValues) → replyOf (Accepted v) ≡ words (v .md) (v .ds) (v .op) (v .electrical) (v .mode) (v .pv)
   pub reads : (v : ℤ) → replyOfRead (Value v) ≡ reading v
   pub others : replyOfVerdict verdict.Accepted ≡ acceptance
+  -- by a number, or none
+  pub numbered : (n : ℕ) → (replyBy (some n) ≡ number n) × (replyBy none ≡ acceptance)
   -- and with the controller that is returned
   pub scanned : (r : ScanResult) → responseOf r ≡ record { next = r .controller; answer = replyOf (r .answer) }
   pub called : (r : CallResult) → responseOfVerdict r ≡ record { next = r .controller; answer = replyOfVerdict (r .verdict) }

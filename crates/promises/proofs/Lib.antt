@@ -12,6 +12,7 @@ pub mod ScanEffect
 pub mod Scans
 pub mod Setpoints
 pub mod StoredOutputs
+pub mod Table
 pub mod Units
 pub mod Words
 pub mod Writes

@@ -101,6 +101,11 @@ parameter-at image n h k =
     ap (λ (p : Parameters). value p n) (parameters-at image) ∙
     listed-same (value (parametersIn (words image))) (parameterAt image) 1 23 n refl h (omega arith)
 
+-- parameters that keep every row are legal by the columns
+pub legal-columns : (p : Parameters) → areLegal p ≡ legalFrom (value p) 1 23
+unfolding areLegal legalFrom every ruleOf least most inOrder
+legal-columns p = refl
+
 pub legal-is : (image : List ℕ) → areLegal (parametersIn (valuesIn image)) ≡ parametersLegal image
 unfolding parametersIn parameterIn words value listed fromWord parameterAt areLegal parametersLegal legalFrom every ruleOf least
     most inOrder

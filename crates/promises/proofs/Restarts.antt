@@ -20,7 +20,7 @@ use Rattle.modes.specs.declared.Request.the-variants.{Manual}
 use Rattle.words.specs.declared.UserBits.{UserBits}
 use Rattle.parameters.specs.Legal.{Legal}
 use Rattle.parameters.specs.Repaired.{repaired}
-use Rattle.parameters.specs.RepairedLaws.{tested-legal, repaired-legal}
+use Rattle.parameters.specs.RepairedLaws.{tested-legal, legal-tested, repaired-legal}
 use Rattle.parameters.specs.Table.{value, HO, LO}
 use Rattle.parameters.specs.declared.Parameters.{Parameters}
 use Rattle.settings.specs.Settings.{userBitsIn, parametersIn, settingsIn, isSumRight, legalUserBits}
@@ -43,7 +43,7 @@ use Rattle.promises.specs.Table.{inOrder, default}
 use Rattle.promises.specs.Refusals.{refusalIn}
 use Rattle.guarantee.specs.Bytes.{wordAt}
 use Rattle.guarantee.proofs.Brought.{fault-at, op-at, sum-is}
-use Rattle.promises.proofs.Places.{well-formed-is, request-at, user-bits-at, parameter-at, repaired-at, values-legal}
+use Rattle.promises.proofs.Places.{well-formed-is, request-at, user-bits-at, parameter-at, legal-columns, repaired-at, values-legal}
 use Rattle.promises.proofs.Units.{to-output}
 use Rattle.promises.proofs.Refusals.{not-both}
 
@@ -269,7 +269,7 @@ module _ (d : Controller) (image : List ℕ) (wrong : isSumRight (valuesIn image
         user2 = ap (λ (m : UserBits). m .user2) user-bits-are ∙ user-bits-of (λ m. m .user2) (getD image 131 0) 1 refl refl;
         measured-power =
             ap (λ (m : UserBits). m .measuredpower) user-bits-are ∙ user-bits-of (λ m. m .measuredpower) (getD image 131 0) 2 refl refl;
-        legal = subst (λ (s : Settings). Legal (s .parameters)) (sym taken-is) legal;
+        legal = sym (legal-columns _) ∙ legal-tested _ (subst (λ (s : Settings). Legal (s .parameters)) (sym taken-is) legal);
       }
 
 repairs-accepted : (d : Controller) (image : List ℕ) → isSumRight (valuesIn image) ≡ false → restart d image .answer ≡ acceptance →

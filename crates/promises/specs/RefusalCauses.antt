@@ -47,7 +47,7 @@ scanRefusal last i =
     if ltb 3 (i .sensors) then some 3 else
     if tooSoon last (i .milliseconds) then some 16 else none
 
--- of any controller, reached by calls or not
+-- of every controller that the contract gives a result of, as of each valid one, reached by calls or not
 abbrev pub ScanRefusals : Type 0
 ScanRefusals =
     (d : Controller) (i : Input) (r : ScanResult) → ScanEnsures d i r →
@@ -85,12 +85,12 @@ valueRefusal c n v =
     if eqb n 20 then (if setpointRefused c then some 8 else none) else
     if eqb n 24 then wordRefusal c (natAbs v) else none
 
--- what is refused whatever the value, by the writer, the number and the stored pins (`accessOr`, guarantee), and behind
+-- what is refused whatever the value, by the writer, the number and the stored pins (`accessOr`, guarantee), and after
 -- it what is refused for the value
 abbrev pub writeRefusal : Core → Writer → ℕ → ℤ → Option ℕ
 writeRefusal c w n v = accessOr (c .conditions .pins) w n (valueRefusal c n v)
 
--- of any controller, reached by calls or not
+-- of every controller that the contract gives a result of, as of each valid one, reached by calls or not
 abbrev pub WriteRefusals : Type 0
 WriteRefusals =
     (d : Controller) (w : Writer) (n : ℕ) (v : ℤ) (r : CallResult) → WriteEnsures d w n v r →

@@ -47,7 +47,7 @@ placeIn (m ∷ ms) n = if eqb n m then 0 else suc (placeIn ms n)
 abbrev pub writeOrder : List ℕ
 writeOrder = 4 ∷ 19 ∷ 20 ∷ 5 ∷ 6 ∷ 7 ∷ 8 ∷ 9 ∷ 10 ∷ 11 ∷ []
 
--- of every scan, write, restart and save, whatever the controller and the arguments
+-- of every scan, write, restart and save that the contract gives a result of, whatever the arguments
 pub record RefusalOrder : Type 0 where
   pub scans : (c : Controller) (i : Input) (r : ScanResult) → ScanEnsures c i r →
       Lowest byNumber (scanTests (c .core .clock) i) (refusalIn (replyOf (r .answer)))

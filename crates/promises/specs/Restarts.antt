@@ -1,6 +1,6 @@
 -- What is promised of a start, fresh or by an image, over the contracts of `Controller::fresh` and
 -- `Controller::restart`. An image is told by the places of its bytes, its parameters by the columns of the table.
--- Shared with the rules are the types of the state, the value of a parameter, `Legal`, and `limited`.
+-- Shared with the rules are the types of the state, the value of a parameter, and the words of Shared.antt (guarantee).
 use mathlib.Core.Path.{_≡_}
 use mathlib.Core.Bool.{Bool, true, false, not, _&&_, _||_}
 use mathlib.Core.List.{List, [], _∷_}
@@ -17,7 +17,6 @@ use Rattle.signals.specs.declared.Verdict.{Verdict}
 use Rattle.signals.specs.declared.clock.ClockReading.the-variants.{None}
 use Rattle.modes.specs.declared.Request.{Request}
 use Rattle.modes.specs.declared.Request.the-variants.{Manual, Auto, Remote}
-use Rattle.parameters.specs.Legal.{Legal}
 use Rattle.parameters.specs.Table.{value}
 use Rattle.outputs.specs.declared.History.the-variants.{Nothing}
 use Rattle.controller.specs.Answers.{Reply, acceptance, number, replyOfVerdict}
@@ -188,7 +187,7 @@ pub record Repaired (image : List ℕ) (d n : Controller) : Type 0 where
   pub user1 : n .core .userbits .user1 ≡ (leb (getD image 131 0) 7 && bit (getD image 131 0) 0)
   pub user2 : n .core .userbits .user2 ≡ (leb (getD image 131 0) 7 && bit (getD image 131 0) 1)
   pub measured-power : n .core .userbits .measuredpower ≡ (leb (getD image 131 0) 7 && bit (getD image 131 0) 2)
-  pub legal : Legal (n .core .parameters)
+  pub legal : legalFrom (value (n .core .parameters)) 1 23 ≡ true
 
 abbrev pub WrongSumRepairs : Type 0
 WrongSumRepairs =

@@ -40,7 +40,8 @@ pub record Foretold (d : Controller) (w : Writer) (n : ℕ) (told : Verdict) : T
   pub free : replyOfVerdict told ≡ acceptance → (v : ℤ) (r : CallResult) (k : ℕ) → WriteEnsures d w n v r →
       replyOfVerdict (r .verdict) ≡ number k → (6 ≤ k) × (k ≤ 11)
 
--- of any controller, reached by calls or not; there is such an answer (`access-exists`)
+-- of any controller, reached by calls or not; there is such an answer (`access-exists`). A write of a valid one has a
+-- result (`write-exists`)
 abbrev pub AccessForetells : Type 0
 AccessForetells = (d : Controller) (w : Writer) (n : ℕ) (told : Verdict) → AccessEnsures d w n told → Foretold d w n told
 

@@ -1,11 +1,17 @@
--- Document 01's table of parameters by its columns, where the rules have it by its rows.
+-- Document 01's table of parameters by its columns, where the rules have it by its rows; and what a host is told of a
+-- row, over the contract of `Controller::rule`.
+use mathlib.Core.Path.{_≡_}
 use mathlib.Core.Bool.{Bool, true, false, _||_}
 use mathlib.Core.List.{List, [], _∷_}
-use Prim.Native.Nat.{ℕ}
-use lib.Dec.{eqb}
+use Prim.Native.Nat.{ℕ, _+_, _-_, _%_}
+use lib.Dec.{eqb, leb, ltb}
 use lib.IntN.{ℤ, pos, negℤ}
 use lib.Signed.{leZ, ltZ}
 use Rattle.integers.specs.Choice.{if_then_else_}
+use Rattle.signals.specs.declared.Refusal.the-variants as refusal
+use Rattle.parameters.specs.declared.Rule.{Rule}
+use Rattle.parameters.specs.declared.Rule.the-variants.{Unknown, ReadOnly, Word, Free, Pair, Between}
+use Rattle.controller.proofs.Controller.rule.Reads as rule-reads
 
 -- whether n is one of these numbers
 abbrev pub among : ℕ → List ℕ → Bool
@@ -55,3 +61,28 @@ default n =
     if among n (5 ∷ 8 ∷ []) then pos 1 else  -- 3H, LR
     if among n (21 ∷ []) then pos 100 else  -- RS
     pos 0
+
+-- ---- a row, as a host is told it
+
+-- of a pair the upper one has the odd number, the lower one the next
+abbrev pub upper : ℕ → ℕ
+upper n = if eqb (n % 2) 1 then n else n - 1
+
+-- "4 number outside 1..32", "5 read only"; MD and DS; SL between LS and HS, RS between LR and HR; the pairs, of which
+-- those of the channel ranges are strictly in order; all others by their range alone
+unfoldable pub rowFor : ℕ → Rule
+rowFor n =
+    let low = least (λ k. pos 0) n in
+    let high = most (λ k. pos 0) n in
+    if eqb n 0 || ltb 32 n then Unknown refusal.Number else
+    if ltb 25 n then ReadOnly refusal.ReadOnly else
+    if ltb 23 n then Word low high else
+    if among n (20 ∷ []) then Between 10 9 else
+    if among n (21 ∷ []) then Between 8 7 else
+    if leb n 12 || among n (15 ∷ 16 ∷ []) then Pair low high (upper n) (upper n + 1) (leb n 6) else Free low high
+
+abbrev pub RuleEnsures : ℕ → Rule → Type 0
+RuleEnsures n r = rule-reads.Post tt (n, tt) r (n, tt)
+
+abbrev pub TableOfRules : Type 0
+TableOfRules = (n : ℕ) (r : Rule) → RuleEnsures n r → r ≡ rowFor n

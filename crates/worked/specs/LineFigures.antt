@@ -51,7 +51,7 @@ lineFigures =
     ∷ (answered (freshController 0) Engineer (ascii "xp") twelveBytes ≡ refuses (freshController 0) 17)
     ∷ (answered (freshController 0) Engineer (ascii "X") twelveBytes ≡ refuses (freshController 0) 17)
     ∷ (answered (freshController 0) Engineer [] twelveBytes ≡ refuses (freshController 0) 17)
-    -- 18: a word of one digit or five, six decimal digits, a plus sign, a bare >, a blank behind
+    -- 18: a word of one digit or five, six decimal digits, a plus sign, a bare >, a blank at the end
     ∷ (answered (freshController 0) Engineer (ascii "SW>1") twelveBytes ≡ refuses (freshController 0) 18)
     ∷ (answered (freshController 0) Engineer (ascii "MD>01000") twelveBytes ≡ refuses (freshController 0) 18)
     ∷ (answered (freshController 0) Engineer (ascii "XP>000500") twelveBytes ≡ refuses (freshController 0) 18)
@@ -62,7 +62,7 @@ lineFigures =
     ∷ (answered (freshController 0) Engineer (ascii "SW>0001") twelveBytes ≡ refuses (freshController 0) 5)
     ∷ (answered (freshController 0) Engineer (ascii "PV>1") twelveBytes ≡ refuses (freshController 0) 5)
     ∷ (answered (freshController 0) Engineer (ascii "XP>99999") twelveBytes ≡ refuses (freshController 0) 6)
-    -- eight bytes are too few whatever the reply's length: behind 18, before 5
+    -- eight bytes are too few whatever the reply's length: after 18, before 5
     ∷ (answered (freshController 0) Engineer (ascii "IC") (ascii "........") .answer ≡ number 15)
     ∷ (answered (freshController 0) Engineer (ascii "PV>1") (ascii "........") .answer ≡ number 15)
     ∷ (answered (freshController 0) Engineer (ascii "PV>") (ascii "........") .answer ≡ number 18)

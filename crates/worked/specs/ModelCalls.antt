@@ -77,9 +77,9 @@ Saves before size answer bytes =
 
 unfoldable pub modelCalls : List (Type 0)
 modelCalls =
-    -- scan: Ratio behind a gap: earlier PV and SP forgotten after the terms, or PV alone; RS + trim not limited; SP not limited
+    -- scan: Ratio after a gap: earlier PV and SP forgotten after the terms, or PV alone; RS + trim not limited; SP not limited
     Scans (state 47402 (negℤ (pos 1195) ∷ negℤ (pos 4566) ∷ negℤ (pos 512) ∷ negℤ (pos 3735) ∷ pos 0 ∷ negℤ (pos 3710) ∷ pos 9999 ∷ pos 1 ∷ pos 9300 ∷ pos 5290 ∷ negℤ (pos 718) ∷ negℤ (pos 3767) ∷ pos 3156 ∷ pos 5284 ∷ pos 6667 ∷ pos 3345 ∷ pos 7885 ∷ pos 3746 ∷ pos 3 ∷ pos 5297 ∷ pos 1967 ∷ negℤ (pos 38) ∷ pos 0 ∷ []) request.Manual false true true false 0 164 (readings (negℤ (pos 2236)) (pos 5297) (negℤ (pos 7533)) (pos 0)) 192 false true false (One (negℤ (pos 2236)) (pos 5297)) (At 4294979851) (pos 220004352)) (input 161 6914 5520 569 196 0 4294979894) (state 47402 (negℤ (pos 1195) ∷ negℤ (pos 4566) ∷ negℤ (pos 512) ∷ negℤ (pos 3735) ∷ pos 0 ∷ negℤ (pos 3710) ∷ pos 9999 ∷ pos 1 ∷ pos 9300 ∷ pos 5290 ∷ negℤ (pos 718) ∷ negℤ (pos 3767) ∷ pos 3156 ∷ pos 5284 ∷ pos 6667 ∷ pos 3345 ∷ pos 7885 ∷ pos 3746 ∷ pos 3 ∷ pos 5290 ∷ pos 1967 ∷ negℤ (pos 38) ∷ pos 0 ∷ []) request.Remote false true true false 0 161 (readings (negℤ (pos 2235)) (pos 5290) (negℤ (pos 7525)) (pos 0)) 196 false true false (One (negℤ (pos 2235)) (pos 5290)) (At 4294979894) (pos 220004055)) (words 3268 41453 3356 3356 Ratio (negℤ (pos 2235)))
-    -- scan: 85th open scan behind Remote, S2.5 ON: minimum told by the mode of this scan, Forced, in place of the one just before
+    -- scan: 85th open scan after Remote, S2.5 ON: minimum told by the mode of this scan, Forced, in place of the one just before
     ∷ Scans (state 10830 (pos 1803 ∷ negℤ (pos 256) ∷ pos 7623 ∷ negℤ (pos 8) ∷ pos 6748 ∷ pos 128 ∷ pos 9999 ∷ pos 1 ∷ pos 9999 ∷ negℤ (pos 9999) ∷ pos 0 ∷ negℤ (pos 7670) ∷ pos 1598 ∷ pos 64 ∷ pos 5891 ∷ pos 3577 ∷ pos 7202 ∷ pos 9976 ∷ pos 4 ∷ pos 774 ∷ pos 1 ∷ negℤ (pos 36) ∷ pos 0 ∷ []) request.Remote false false true false 84 170 (readings (negℤ (pos 256)) (pos 4500) (negℤ (pos 4756)) (pos 0)) 76 false true false (Nothing) (At 9644) (pos 386072576)) (input 182 0 9998 5421 72 1 9687) (state 10830 (pos 1803 ∷ negℤ (pos 256) ∷ pos 7623 ∷ negℤ (pos 8) ∷ pos 6748 ∷ pos 128 ∷ pos 9999 ∷ pos 1 ∷ pos 9999 ∷ negℤ (pos 9999) ∷ pos 0 ∷ negℤ (pos 7670) ∷ pos 1598 ∷ pos 64 ∷ pos 5891 ∷ pos 3577 ∷ pos 7202 ∷ pos 9976 ∷ pos 4 ∷ pos 775 ∷ pos 1 ∷ negℤ (pos 36) ∷ pos 0 ∷ []) request.Manual false false true false 85 182 (readings (negℤ (pos 256)) (pos 4492) (negℤ (pos 4748)) (pos 0)) 72 false true false (Nothing) (At 9687) (pos 234422272)) (words 9800 46745 3577 3577 Forced (negℤ (pos 256)))
     -- scan: Fall-back, S1.1 OFF: c1 with the previous SP; the sum of the terms rounded, not each; the request Auto for good
     ∷ Scans (state 45936 (pos 9332 ∷ pos 0 ∷ pos 9126 ∷ pos 2 ∷ pos 15 ∷ negℤ (pos 12) ∷ pos 9999 ∷ pos 1 ∷ pos 9999 ∷ negℤ (pos 9999) ∷ pos 9332 ∷ pos 1 ∷ pos 0 ∷ pos 0 ∷ pos 8216 ∷ pos 3998 ∷ pos 5350 ∷ pos 0 ∷ pos 3 ∷ pos 9978 ∷ pos 4773 ∷ pos 0 ∷ pos 0 ∷ []) request.Remote false false false true 0 129 (readings (pos 4535) (pos 9978) (negℤ (pos 5443)) (pos 1)) 136 false true false (Two (pos 4535) (pos 9978) (pos 4536)) (At 1145361515442907402) (pos 314186366)) (input 129 4863 4262 4981 136 0 1145361515442907438) (state 45936 (pos 9332 ∷ pos 0 ∷ pos 9126 ∷ pos 2 ∷ pos 15 ∷ negℤ (pos 12) ∷ pos 9999 ∷ pos 1 ∷ pos 9999 ∷ negℤ (pos 9999) ∷ pos 9332 ∷ pos 1 ∷ pos 0 ∷ pos 0 ∷ pos 8216 ∷ pos 3998 ∷ pos 5350 ∷ pos 0 ∷ pos 3 ∷ pos 9977 ∷ pos 4773 ∷ pos 0 ∷ pos 0 ∷ []) request.Remote false false false true 0 129 (readings (pos 4538) (pos 9977) (negℤ (pos 5439)) (pos 1)) 136 false true false (Two (pos 4538) (pos 9977) (pos 4535)) (At 1145361515442907438) (pos 340478896)) (words 4248 33085 5195 5195 Fallback (pos 4538))

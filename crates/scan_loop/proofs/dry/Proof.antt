@@ -1,18 +1,22 @@
--- `scan_loop::dry` meets its contract: before each turn the controller is valid, and the turns left grow fewer.
+-- `scan_loop::dry` meets its contract: before each turn controller and sheet are valid, and the turns left grow fewer.
 use Prim.Native.Nat.{_-_}
 use borrow.Author.Needs.{needs}
+use Rattle.sheet.specs.Valid.{Valid as ValidSheet}
 use Rattle.controller.specs.Valid.{Valid}
 use Rattle.scan_loop.proofs.dry.Statement.{statement}
 use Rattle.scan_loop.proofs.dry.Tie as tie
 
 abbrev Inv-loop : tie.InvT-loop
-Inv-loop turns controller₀ turn₀ controller turn = Valid controller
+Inv-loop turns dryer₀ turn₀ dryer turn = Valid (dryer .controller) × ValidSheet (dryer .sheet)
 
 abbrev μ-loop : tie.MeasureT-loop
-μ-loop turns controller₀ turn₀ controller turn = turns - turn
+μ-loop turns dryer₀ turn₀ dryer turn = turns - turn
 
 fresh-requires : tie.Need-fresh-requires Inv-loop μ-loop
 fresh-requires c κs = search needs
+
+empty-requires : tie.Need-empty-requires Inv-loop μ-loop
+empty-requires c κs = search needs
 
 loop-holds : tie.Need-loop-holds Inv-loop μ-loop
 loop-holds c = search needs
@@ -33,4 +37,6 @@ returns : tie.Need-returns Inv-loop μ-loop
 returns c = search needs
 
 pub dry-spec : {M : Type 1} → statement M
-dry-spec = tie.close (tie.spec Inv-loop μ-loop fresh-requires loop-holds turned-requires add-turn loop-less loop-again returns)
+dry-spec =
+    tie.close
+    (tie.spec Inv-loop μ-loop fresh-requires empty-requires loop-holds turned-requires add-turn loop-less loop-again returns)
