@@ -1,11 +1,11 @@
-"""A program outside the library has no controller and no sheet but those that their calls give, and a clock of 64 bits.
+"""A program outside the library has no controller and no sheet but those that their calls give, and just their types.
 
 Usage: python3 -B -m tests.outsider.outsider
 
 A program over the library, in a temporary repository beside the crates and what `rt ci` proved of them, is accepted;
 with any one line of `LINES` in it the compiler refuses it, at that line and for the cause that stands beside it; the
-functions that such a line names are there. The last line printed is 'N passed, M failed', one count for the program and
-for each line.
+functions that such a line names are there. A second program, `TYPES`, is accepted only if each number that a call takes
+or gives has its type. The last line printed is 'N passed, M failed', one count for each program and for each line.
 """
 
 import pathlib
@@ -18,29 +18,62 @@ import tempfile
 from tests import ROOT
 from tests.gate import tally
 
-# A controller and a sheet are made; whatever else the program is given, it can put nothing of it into them. The two
-# functions on milliseconds are accepted only if a scan and the controller have them in just 64 bits.
+# A controller and a sheet are made; whatever else the program is given, it can put nothing of it into them
 PROGRAM = """use controller::Controller;
 use controller::Core;
 use parameters::Parameters;
 use sheet::Sheet;
 use sheet::SheetValues;
-use signals::Input;
 use signals::clock::ClockReading;
-
-pub fn milliseconds_of(input: Input) -> u64 {
-    input.milliseconds
-}
-
-pub fn reading_at(milliseconds: u64) -> ClockReading {
-    ClockReading::At(milliseconds)
-}
 
 pub fn forged(mut core: Core, mut parameters: Parameters, output: i64, values: SheetValues, reading: ClockReading) -> Controller {
     let mut controller = Controller::fresh(0);
     let mut sheet = Sheet::empty();
     LINE
     controller
+}
+"""
+# No number is turned into another type by itself, so each of these functions compiles with just these types
+TYPES = """use answers::ScanValues;
+use controller::CallResult;
+use controller::Controller;
+use controller::ReadAnswer;
+use modes::Mode;
+use rights::Writer;
+use signals::Input;
+use signals::Refusal;
+use signals::clock::ClockReading;
+
+pub fn started(sw: u16) -> Controller {
+    Controller::fresh(sw)
+}
+
+pub fn input(pins: u8, samples: [u16; 3], buttons: u8, sensors: u8, milliseconds: u64) -> Input {
+    Input { pins, sample1: samples[0], sample2: samples[1], sample3: samples[2], buttons, sensors, milliseconds }
+}
+
+pub fn values(words: [u16; 4], mode: Mode, pv: i32) -> ScanValues {
+    ScanValues { md: words[0], ds: words[1], op: words[2], electrical: words[3], mode, pv }
+}
+
+pub fn written(writer: Writer, number: u64, value: i32) -> CallResult {
+    Controller::fresh(0).write(writer, number, value)
+}
+
+pub fn read(number: u64) -> ReadAnswer {
+    Controller::fresh(0).read(number)
+}
+
+pub fn answer(value: i32) -> ReadAnswer {
+    ReadAnswer::Value(value)
+}
+
+pub fn reading_at(milliseconds: u64) -> ClockReading {
+    ClockReading::At(milliseconds)
+}
+
+pub fn number(refusal: Refusal) -> u8 {
+    refusal.number()
 }
 """
 # The line, and the compiler's word for its cause
@@ -73,7 +106,7 @@ def repository(folder):
             (folder / part / path.name).symlink_to(path)
     shutil.copytree(ROOT / "target" / "stamp", folder / "target" / "stamp")
     listed = (ROOT / "crates.txt").read_text(encoding="utf-8")
-    (folder / "crates.txt").write_text(f"{listed}outsider: signals parameters controller sheet\n", encoding="utf-8")
+    (folder / "crates.txt").write_text(f"{listed}outsider: signals modes answers parameters rights controller sheet\n", encoding="utf-8")
     (folder / "crates" / "outsider" / "src").mkdir(parents=True)
 
 
@@ -83,10 +116,10 @@ def is_there(line):
     return all(any(f"fn {name}(" in text for text in texts) for name in CALLED.findall(line))
 
 
-def errors_of(folder, line):
-    """The exit status of the check of the program with this line, line and cause of each error, and all it prints."""
+def errors_of(folder, program):
+    """The exit status of the check of the program, line and cause of each error, and all it prints."""
     source = folder / "crates" / "outsider" / "src" / "lib.rt"
-    source.write_text(PROGRAM.replace("LINE", line), encoding="utf-8")
+    source.write_text(program, encoding="utf-8")
     run = subprocess.run(["rt", "check", "outsider"], cwd=folder, stdin=subprocess.DEVNULL, stdout=subprocess.PIPE,
                          stderr=subprocess.STDOUT, text=True, errors="replace", check=False)
     return run.returncode, ERROR.findall(run.stdout), run.stdout
@@ -97,17 +130,18 @@ def main():
     with tempfile.TemporaryDirectory() as name:
         folder = pathlib.Path(name)
         repository(folder)
-        status, errors, printed = errors_of(folder, "")
-        if status != 0 or errors:
-            faults.append(f"the program itself is refused:\n{printed}")
+        for name, program in (("the program itself", PROGRAM.replace("LINE", "")), ("the program of types", TYPES)):
+            status, errors, printed = errors_of(folder, program)
+            if status != 0 or errors:
+                faults.append(f"{name} is refused:\n{printed}")
         for line, cause in LINES:
-            status, errors, printed = errors_of(folder, line)
+            status, errors, printed = errors_of(folder, PROGRAM.replace("LINE", line))
             print(f"{line} {sorted(set(errors))}")
             if status != 1 or set(errors) != {(str(NUMBER), cause)}:
                 faults.append(f"{line} isn't refused for {cause} alone:\n{printed}")
             elif cause in UNKNOWN and not is_there(line):
                 faults.append(f"{line} calls a function that isn't there")
-    return tally.report(faults, 1 + len(LINES), "controllers and sheets come from the calls alone")
+    return tally.report(faults, 2 + len(LINES), "controllers and sheets come from the calls alone, and numbers have their types")
 
 
 if __name__ == "__main__":
