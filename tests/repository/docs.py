@@ -2,12 +2,13 @@
 
 Every name in a document's inline code stands somewhere in the repository outside the documents, every path in it is
 there, and every edit that the trace cites is one that the gate tries, and the other way round. README's listings are
-the text of programs that the gate proves and runs, and `first_use` has nothing that README doesn't list.
+the text of programs that the gate proves and runs, and `first_use` has nothing that README doesn't list. What the claim
+imports from the rules is what docs/DECISIONS.md lists as shared.
 
 Usage: python3 -B -m tests.repository.docs
 
 The last line printed is 'N passed, M failed', one count for each name and path in each document, for each must-fail
-edit, for each of README's listings and for each line that it has to list.
+edit, for each of README's listings, for each line that it has to list, and for each word that is shared.
 """
 
 import re
@@ -29,6 +30,10 @@ FIRST_USE = "crates/first_use/src/main.rt"
 LISTED = (FIRST_USE, "crates/scan_loop/proofs/dry/Proof.antt")
 COMMAND = "make"  # what a listing of commands begins with
 FRAME = {"mod print;", "fn main() {", "}"}  # lines of a program that README doesn't list
+CLAIM = ("guarantee", "promises", "terminal_guarantee", "sheet_guarantee", "lots")
+SHARED = re.compile(r"\*\*What does the claim share with the rules\?\*\*(.*?)\n\*\*", re.DOTALL)
+# What the claim imports from a crate's definitions, but the types that the code declares
+IMPORTED = re.compile(r"^use Rattle·(\w+)\.specs\.(?!declared)[\w.]+\.\{([^}]*)\}", re.MULTILINE)
 
 
 def known_names():
@@ -104,8 +109,20 @@ def stale_listings(text, programs):
     return found, len(blocks) + len(wanted)
 
 
+def unlisted_words():
+    """Words that the claim imports from the rules and the decisions don't list as shared; and how many it imports."""
+    listed = {name for code in INLINE_CODE.findall(SHARED.search((ROOT / "docs/DECISIONS.md").read_text(encoding="utf-8")).group(1))
+              for name in re.findall(r"[\w-]+", code)}
+    texts = [path.read_text(encoding="utf-8") for crate in CLAIM for path in (ROOT / "crates" / crate / "specs").glob("*.antt")]
+    words = {name.split(" as ")[0].strip() for text in texts for crate, names in IMPORTED.findall(text) if crate not in CLAIM
+             for name in names.split(",")}
+    return [f"docs/DECISIONS.md: doesn't list `{word}` as shared" for word in sorted(words - listed)], len(words)
+
+
 def main():
     found, looked = edits()
+    more, count = unlisted_words()
+    found, looked = found + more, looked + count
     more, count = stale_listings((ROOT / "README.md").read_text(encoding="utf-8"),
                                  [code_of((ROOT / path).read_text(encoding="utf-8")) for path in LISTED])
     found, looked = found + more, looked + count

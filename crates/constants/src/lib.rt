@@ -6,7 +6,7 @@ ghost use mathlib.Core.Path.{_≡_};
 ghost use lib.IntN.{pos, negℤ};
 use controller::Controller;
 
-// Document 01's table: "1 1H" to "32 MP". The contract rules out two names exchanged.
+// Document 01's table: "1 1H" to "32 MP", the names in its order. The contract rules out one with another number.
 pub fn parameter_numbers() -> [u64; 32]
     ensures { λ r. ⌜ r ≡ 1 ∷ 2 ∷ 3 ∷ 4 ∷ 5 ∷ 6 ∷ 7 ∷ 8 ∷ 9 ∷ 10 ∷ 11 ∷ 12 ∷ 13 ∷ 14 ∷ 15 ∷ 16 ∷ 17 ∷ 18 ∷ 19 ∷ 20 ∷ 21 ∷ 22
         ∷ 23 ∷ 24 ∷ 25 ∷ 26 ∷ 27 ∷ 28 ∷ 29 ∷ 30 ∷ 31 ∷ 32 ∷ [] ⌝ }
@@ -85,7 +85,8 @@ pub fn amounts() -> [u64; 3]
     ]
 }
 
-// The ends of the table's ranges: of a reading, a ratio, a deviation, the output, the band, a time, a word and IC.
+// The ends of the table's ranges: of a reading, a ratio, a deviation, the output, the band, a time, a word and IC; the
+// greatest output, and IC for a root, as `parameters` names them.
 pub fn ranges() -> [i64; 18]
     ensures { λ r. ⌜ r ≡ negℤ (pos 9999) ∷ pos 9999 ∷ pos 1 ∷ pos 9999 ∷ pos 0 ∷ pos 9999 ∷ pos 0 ∷ pos 9999
         ∷ pos 1 ∷ pos 9999 ∷ pos 0 ∷ pos 9999 ∷ pos 0 ∷ pos 65535 ∷ pos 0 ∷ pos 1 ∷ pos 9999 ∷ pos 1 ∷ [] ⌝ }

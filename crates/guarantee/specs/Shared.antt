@@ -1,7 +1,6 @@
--- What the claim borrows from the rules, and what each of these words means, told once for all crates of the claim and
+-- Words that the claim borrows from the rules, and what each of them means, told once for all crates of the claim and
 -- apart from the definitions: a choice, a bit of a word, a limited value, the arithmetic of fractions, and what stands
--- for an answer that the code gives. The types of the state and of the answers are shared besides, and so are the exact
--- controller's steps but for the output (Exact.antt).
+-- for an answer that the code gives. What is borrowed besides is told where it is used; docs/DECISIONS.md lists it.
 use mathlib.Core.Path.{_≡_}
 use mathlib.Core.Bool.{true, false}
 use mathlib.Core.List.{List, [], _∷_}
