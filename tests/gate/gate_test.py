@@ -92,7 +92,7 @@ def longest_stands_first():
 
 def edits_of_form():
     """Which edits are found to show nothing, by what a check said of them; one of them wasn't tried."""
-    said = {
+    logs = {
         "value": "P.antt:46:5: error: `returns`: the goal does not follow\nP.antt:61:5: error: `x` has no field `y`",
         "renamed": "note: an error may follow\nP.antt:1:2: error: `x` has no field `y`",
         "unnamed": "P.antt:1:2: error: there is nothing `x` that can be named here",
@@ -103,14 +103,14 @@ def edits_of_form():
     with tempfile.TemporaryDirectory() as folder:
         root = pathlib.Path(folder)
         (root / "crates" / "terms" / "must-fail").mkdir(parents=True)
-        for name, words in said.items():
+        for name, words in logs.items():
             (root / "crates" / "terms" / "must-fail" / f"{name}.edit").touch()
             if words is not None:
                 log = root / "target" / "must-fail" / "terms" / name / ".log"
                 log.parent.mkdir(parents=True)
                 log.write_text(words)
         found = {name for name, log in edits.edits_in(root) if edits.fault_of(log)}
-    return found == {f"terms/{name}" for name in said if name not in ("value", "searched")}
+    return found == {f"terms/{name}" for name in logs if name not in ("value", "searched")}
 
 
 CASES = (
