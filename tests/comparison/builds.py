@@ -1,31 +1,33 @@
-"""Whether two builds of the programs answer alike, for a change that nobody outside should be able to tell.
+"""Whether two builds of the console answer alike, for a change that nobody outside should be able to tell.
 
 Usage: python3 -B -m tests.comparison.builds BEFORE AFTER
 
 BEFORE and AFTER are folders with the programs of a build, target/bin each. The console gets the lists that the gate
-compares, by two seeds, and a million scans with IC 1; the calculator gets every root fifty times among other calls,
-a million lines. The last line printed is 'N passed, M failed', one count for each line.
+compares, by two seeds, a million scans with IC 1, and a million arithmetic lines, every root fifty times among them.
+The last line printed is 'N passed, M failed', one count for each line.
 """
 
 import pathlib
 import random
 import sys
 
-from tests.comparison import calculator, console
+from tests.comparison import arithmetic, console
 from tests.comparison.program import PROGRAM_SECONDS, run_lines
 from tests.gate import tally
 
+PROGRAM = "console"
 SEEDS = (6360, 31)
 STARTS, SCANS_A_START = 500, 2000
 LINES = 1_000_000
 
 
-def console_inputs():
-    """The lines of each run of the console."""
+def inputs():
+    """The name and the lines of each run."""
     for seed in SEEDS:
         for lists in console.all_lists(random.Random(seed)):
-            yield [entry.line for _, entries, _ in lists for entry in entries]
-    yield root_scans(random.Random(SEEDS[0]))
+            yield f"the gate's lists, seed {seed}", [entry.line for _, entries, _ in lists for entry in entries]
+    yield "scans with IC 1", root_scans(random.Random(SEEDS[0]))
+    yield "arithmetic lines", arithmetic_lines(random.Random(SEEDS[0]))
 
 
 def root_scans(generator):
@@ -43,30 +45,34 @@ def root_scans(generator):
     return lines
 
 
-def calculator_inputs():
-    """Every root fifty times in drawn order, and the calls that the gate compares, drawn until there are enough."""
-    generator = random.Random(SEEDS[0])
+def arithmetic_lines(generator):
+    """Every root fifty times in drawn order, and the lines that the gate compares, drawn until there are enough."""
     samples = [*range(10001)] * 50
     generator.shuffle(samples)
     lines = [f"root {sample}" for sample in samples]
     while len(lines) < LINES:
-        lines += [line for line, _ in calculator.all_comparisons(generator)[0]]
-    yield lines
+        lines += [line for line, _ in arithmetic.all_comparisons(generator)[0]]
+    return lines
+
+
+def compare(name, programs, inputs_of_both):
+    """How many lines two programs answer alike, each given its own lines, and the faults."""
+    (old, old_trouble), (new, new_trouble) = (run_lines(program, lines, PROGRAM_SECONDS)
+                                              for program, lines in zip(programs, inputs_of_both, strict=True))
+    lines = inputs_of_both[1]
+    different = [number for number, (one, other) in enumerate(zip(old.split("\n"), new.split("\n"))) if one != other]
+    is_whole = not old_trouble + new_trouble and old.count("\n") == new.count("\n") == len(lines)
+    print(f"{name}: {len(lines)} lines, {len(different)} answered otherwise", flush=True)
+    faults = [f"{name}: {lines[number]!r} is answered otherwise" for number in different]
+    return len(lines) - len(different), faults + ([] if is_whole else [f"{name}: not every line is answered: {old_trouble} {new_trouble}"])
 
 
 def main():
-    before, after = map(pathlib.Path, sys.argv[1:3])
+    programs = [pathlib.Path(folder) / PROGRAM for folder in sys.argv[1:3]]
     passed, faults = 0, []
-    for name, inputs in (("console", console_inputs()), ("calculator", calculator_inputs())):
-        for lines in inputs:
-            (old, old_trouble), (new, new_trouble) = (run_lines(folder / name, lines, PROGRAM_SECONDS) for folder in (before, after))
-            pairs = list(zip(old.split("\n"), new.split("\n")))
-            different = [number for number, (one, other) in enumerate(pairs) if one != other]
-            is_whole = not old_trouble + new_trouble and old.count("\n") == new.count("\n") == len(lines)
-            passed += len(lines) - len(different)
-            faults += [f"{name}: {lines[number]!r} is answered otherwise" for number in different]
-            faults += [] if is_whole else [f"{name}: a run that didn't answer every line: {old_trouble} {new_trouble}"]
-            print(f"{name}: {len(lines)} lines, {len(different)} answered otherwise", flush=True)
+    for name, lines in inputs():
+        alike, found = compare(name, programs, (lines, lines))
+        passed, faults = passed + alike, faults + found
     print("\n".join(faults[:10]) or "all are answered alike")
     return tally.close(passed, len(faults))
 

@@ -10,6 +10,7 @@ thing that the lists must meet.
 
 import argparse
 import concurrent.futures
+import gc
 import multiprocessing
 import random
 import sys
@@ -21,6 +22,7 @@ from tests.coverage.clock import ClockCoverage
 from tests.coverage.coverage import print_counts
 from tests.coverage.drop_outs import DropOutCoverage
 from tests.coverage.images import ImageCoverage
+from tests.coverage.lines_between import BetweenCoverage
 from tests.coverage.parameters import ParameterCoverage
 from tests.coverage.power_cuts import PowerCutCoverage
 from tests.coverage.ratio_halves import RatioHalfCoverage
@@ -33,7 +35,7 @@ from tests.coverage.writes import WriteCoverage
 from tests.figures import check as figure_check
 from tests.gate import tally
 from tests.lists import clock as clock_lists
-from tests.lists import drop_outs, power_cuts
+from tests.lists import drop_outs, lines_between, power_cuts
 from tests.lists import images as image_lists
 from tests.lists import parameters as parameter_lists
 from tests.lists import ratio_halves
@@ -51,11 +53,11 @@ from tests.model.pair import Pair, answers_of
 DEFAULT_SEED = 6360
 INPUTS, AT_ONCE = 4, 2     # the lists are shared out among so many runs of the program, so many of them at once
 COVERAGES = (ScanCoverage, ParameterCoverage, WriteCoverage, ImageCoverage, PowerCutCoverage, SheetCoverage, ClockCoverage,
-             RootCoverage, TerminalCoverage, RatioHalfCoverage, RightsCoverage, DropOutCoverage)
+             RootCoverage, TerminalCoverage, RatioHalfCoverage, RightsCoverage, DropOutCoverage, BetweenCoverage)
 KINDS = ((scan_lists, ScanCoverage), (parameter_lists, ParameterCoverage), (write_lists, WriteCoverage), (image_lists, ImageCoverage),
          (restart_lists, ImageCoverage), (power_cuts, PowerCutCoverage), (sheet_lists, SheetCoverage),
          (clock_lists, ClockCoverage), (root_lists, RootCoverage), (terminal_lists, TerminalCoverage),
-         (ratio_halves, RatioHalfCoverage), (rights_lists, RightsCoverage), (drop_outs, DropOutCoverage))
+         (ratio_halves, RatioHalfCoverage), (rights_lists, RightsCoverage), (drop_outs, DropOutCoverage), (lines_between, BetweenCoverage))
 FAULTS_PRINTED = 10
 
 
@@ -215,6 +217,7 @@ def main():
     parser.add_argument("program")
     given = parser.parse_args()
     print("seed", given.seed, flush=True)
+    gc.disable()  # there are no cycles to be found, and looking for them among all entries takes a tenth of the time
     generator, results = random.Random(given.seed), Results()
     check_figures(given.program, results)
     coverages = compare_lists(given.program, generator, results)

@@ -1,11 +1,11 @@
-"""Compare the answers of `sheet_console`, line by line, with the model: sheets that begin with kept numbers.
+"""Compare the console's answers, line by line, with the model: sheets that begin with kept numbers.
 
 Usage: python3 -B -m tests.comparison.kept_sheets [--seed N] PROGRAM
 
-A program over the library begins with the numbers of a kept sheet, so that a sheet can be made full by its own
-arithmetic.  Which kept sheets are right is told twice: by the model, and of short lists of few PVs by counting out all
-of them.  The last line printed is "N passed, M failed": one count for each answer, for each run of the program, for
-each sheet of few PVs, for each two lists joined in the model and for each thing that the lists must meet.
+A sheet can begin with the numbers of a kept one, so that it can be made full by its own arithmetic.  Which kept sheets
+are right is told twice: by the model, and of short lists of few PVs by counting out all of them.  The last line printed
+is "N passed, M failed": one count for each answer, for each run of the program, for each sheet of few PVs, for each two
+lists joined in the model and for each thing that the lists must meet.
 """
 
 import argparse
@@ -17,8 +17,9 @@ from tests.coverage.coverage import print_counts
 from tests.coverage.kept_sheets import KeptCoverage
 from tests.gate import tally
 from tests.lists import kept_sheets as kept_lists
-from tests.model.kept_sheets import KeptSession, call_of, faults_of
-from tests.model.lines import line_of
+from tests.model.kept_sheets import faults_of
+from tests.model.lines import call_of, line_of
+from tests.model.session import Session
 from tests.model.sheet import joined, numbers_of
 
 DEFAULT_SEED = 6360
@@ -47,8 +48,8 @@ def wrong_in_joining(generator):
 
 
 def expected_answers(lines, coverage):
-    """The model's answers, from the empty sheet."""
-    session, answers = KeptSession(), []
+    """The model's answers, from the empty sheet and numbers that are all 0; no line is a call of the controller."""
+    session, answers = Session(), []
     for line in lines:
         call = call_of(line)
         answer = session.make(call) if call else ("error",)

@@ -3,7 +3,7 @@ comes in pieces.
 """
 
 from tests.figures.images import FRESH
-from tests.figures.sheets import EMPTY
+from tests.figures.sheets import EMPTY, sheet
 from tests.figures.terminal import typed
 from tests.model.lines import LONGEST_LINE, lines_in
 
@@ -12,6 +12,9 @@ from tests.model.lines import LONGEST_LINE, lines_in
 FIRST_SCAN, SECOND_SCAN = "scan 128 0 0 0 0 0 36", "scan 128 0 0 0 0 0 72"
 FIRST_ANSWER = "scan 8192 32799 0 0 manual 0"
 IMAGE = FRESH.split()[1]  # a fresh controller's
+# The numbers of a sheet with one scan in Auto whose PV is -7, but the number of scans, and the sheet
+ONE_SCAN = "".join(f"sheet-number {place} {number}\n" for place, number in ((5, 1), (9, -7), (10, 1), (11, -7), (12, 1), (14, -7)))
+ONE_KEPT = sheet(1, "-7@1", "-7@1", sumpv=-7, auto=1)[1]
 # The first of the numbers is 2 to the 64th; the third has 21 digits
 NO_READINGS = ("18446744073709551616", "99999999999999999999", "000000000000000000000", "", "-0", "-1", "+1", "x", "1 1", "1.0", "none",
                "36ms")
@@ -102,17 +105,35 @@ BY_HAND = (
      f"{FIRST_ANSWER}\nok\n"
      "sheet scans=2 hold=0 track=0 forced=0 manual=1 auto=1 remote=0 ratio=0 fallback=0 max=0@2 min=-7@1 alarms=1 sumpv=-7 sumop=9\n"),
     ("sheet-last behind a restart alone", f"restart {IMAGE}\nsheet-last\nrestart -\nsheet-last\n", "ok\nerror\nrefused 12\nerror\n"),
-    ("the ends of what is fed", "sheet-feed hold -32768 0 0\nsheet-feed fallback 32767 65535 65535\nsheet-feed track -0 000 00065535\n"
-     "sheet-feed hold -32769 0 0\nsheet-feed hold 32768 0 0\nsheet-feed hold 0 -1 0\nsheet-feed hold 0 65536 0\nsheet-feed hold 0 0 -1\n"
-     "sheet-feed hold 0 0 65536\nsheet-feed hold 4294967296 0 0\nsheet-feed hold 0 4294967296 0\nsheet-feed hold 0 0 4294967296\nsheet\n",
-     "ok\n" * 3 + "error\n" * 9 + "sheet scans=3 hold=1 track=1 forced=0 manual=0 auto=0 remote=0 ratio=0 fallback=1 "
-     "max=32767@2 min=-32768@1 alarms=2 sumpv=-1 sumop=131070\n"),
+    ("the ends of what is fed", "".join(f"sheet-feed {each}\n" for each in (
+        "hold -2147483648 0 0", "fallback 2147483647 65535 65535", "track -0 000 00065535", "hold -32769 3 0", "hold 32768 3 0",
+        "hold -2147483649 0 0", "hold 2147483648 0 0", "hold 0 -1 0", "hold 0 65536 0", "hold 0 0 -1", "hold 0 0 65536",
+        "hold 4294967296 0 0", "hold -4294967297 0 0", "hold 0 4294967296 0", "hold 0 0 4294967296")) + "sheet\n",
+     "ok\n" * 5 + "error\n" * 10 + "sheet scans=5 hold=3 track=1 forced=0 manual=0 auto=0 remote=0 ratio=0 fallback=1 "
+     "max=2147483647@2 min=-2147483648@1 alarms=2 sumpv=-2 sumop=131070\n"),
     ("no calls on the sheet",
      "sheet-feed\nsheet-feed hold\nsheet-feed hold 0 0\nsheet-feed hold 0 0 0 0\nsheet-feed 0 0 0\nsheet-feed 0 hold 0 0\n"
      "sheet-feed Hold 0 0 0\nsheet-feed HOLD 0 0 0\nsheet-feed forced-manual 0 0 0\nsheet-feed fall-back 0 0 0\nsheet-feed hold 0 0 x\n"
      "sheet-feed hold +1 0 0\nsheet-feed forced manual 0 0 0\nsheet-new 0\nsheet-last 0\nsheet 0\nsheet new\nsheet last\nsheet-new -\n"
      "sheet sheet\nSheet\nSHEET\nSheet-new\nsheet-New\nsheet-\nsheetnew\nsheet_new\nsheet-last\nsheet\n",
      "error\n" * 28 + f"{EMPTY}\n"),
+    ("words that are no line of the console", "number 0 1\nkept\nfeed hold 0 0 0\nnumber\nfeed\nkept 0\nfeed auto -7 65533 9\n"
+     "sheet\nsheet-kept\nsheet\n", "error\n" * 7 + f"{EMPTY}\nok\n{EMPTY}\n"),
+    ("sheets begun with numbers", f"sheet-kept\nsheet-number 0 1\nsheet-kept\n{ONE_SCAN}sheet-kept\nsheet\nfresh 5\nsheet-new\n"
+     f"restart {IMAGE}\nsheet\nsheet-kept\n{FIRST_SCAN}\nsheet-last\nsheet\nsheet-number 14 -8\nsheet-kept\nsheet-number 14 -7\n"
+     "sheet-kept\nsheet\n",
+     "ok\nok\nrefused\n" + "ok\n" * 7 + f"{ONE_KEPT}\nok\nok\nok\n{EMPTY}\nok\n{FIRST_ANSWER}\nok\n"
+     f"{sheet(2, '0@2', '-7@1', sumpv=-7, auto=1, manual=1)[1]}\nok\nrefused\nok\nok\n{ONE_KEPT}\n"),
+    ("no places, and no numbers", "".join(f"sheet-number {each}\n" for each in (
+        "", "0", "0 0 0", "16 0", "-1 0", "x 0", "0 x", "0 +1", "256 1", "4294967296 1", "0 1234567890123456789")) + "sheet-kept 0\n"
+     "sheet-kept -\nSheet-kept\nsheet-Kept\nsheetkept\nsheet-number\t0 1\nsheet-kept\t\nsheet-kept\nsheet\n",
+     "error\n" * 18 + f"ok\n{EMPTY}\n"),
+    # Each leaves the others: the root of 5 x 10000 is 223, 10,000,000 x 1 / (1000 x 1000) units are 655,360 steps
+    ("arithmetic between other calls", f"root 5\n{FIRST_SCAN}\n  root  0005 \nproportional 1000 1000 1\nclock\nsheet-last\n"
+     "scale 0 1 5000\nsheet\nread 17\nlimit -5 -5 0\nlimit 5 4 0\nscale 1 1 0\nroot 10001\nroot -1\nroot\nroot 5 5\nRoot 5\n"
+     f"ratio 1 0\ninverse 5 150\n{SECOND_SCAN}\nsheet-last\nintegral 1000 1000 10 0 1\nderivative 1000 1000 10 0 0 1\nsheet\n",
+     f"223\n{FIRST_ANSWER}\n223\n655360\nclock 36\nok\n1\n{sheet(1, '0@1', '0@1', manual=1)[1]}\nvalue 1000\n-5\n" + "error\n" * 8
+     + f"8\n{FIRST_ANSWER}\nok\n23593\n-18204444\n{sheet(2, '0@1', '0@1', manual=2)[1]}\n"),
     ("blanks about calls on the sheet", "  sheet-new  \n   sheet-feed   hold  1   3  1 \n sheet-last \n  sheet \n",
      "ok\nok\nerror\nsheet scans=1 hold=1 track=0 forced=0 manual=0 auto=0 remote=0 ratio=0 fallback=0 "
      "max=1@1 min=1@1 alarms=0 sumpv=1 sumop=1\n"),
@@ -179,7 +200,9 @@ def cut_short(answers_of):
     for text in ("fresh 1024\nscan 192 4990 20 5000 4 0 0\nscan 0160  1001 -0 070 66 03  000036", f"{RB}write engineer 0022  -2147483649",
                  f"{RB}write  computer 22  -5 ", f"{RB}access operator  0022 ", f"{RB}read 0022", f"{RB}save  0000000137 ",
                  f"{RB}restart {IMAGE} ",
-                 "sheet-feed ratio -7 1 9\nsheet-feed forced  -32768 65535 065535 ", "sheet-feed ratio -7 1 9\nsheet-last  ",
+                 "sheet-feed ratio -7 1 9\nsheet-feed forced  -2147483648 65535 065535 ", f"{ONE_SCAN}sheet-number 0 1\nsheet-kept ",
+                 "sheet-feed ratio -7 1 9\n sheet-number  0015  -999999999999999999 ", "root 4\n derivative 1000  1000 0010 0 0  -100 ",
+                 "root 4\nlimit -5  5 0009", "sheet-feed ratio -7 1 9\nsheet-last  ",
                  "sheet-feed ratio -7 1 9\nsheet-new ", "sheet-feed ratio -7 1 9\n sheet 0", "scan 128 0 0 0 0 0 9\nclock 9",
                  f"{RB}line engineer 52423E2D30303939 0012 ", f"{RB}line operator 5242  009", f"{RB}line computer -  300"):
         first = text.index("\n") + 1

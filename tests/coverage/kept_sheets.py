@@ -35,22 +35,23 @@ class KeptCoverage(Coverage):
     def call(self, call, session, answer):
         """One call with the session after it and its answer."""
         word = call[0]
-        if word == "kept":
-            self.kept(session, answer)
-        elif word == "feed":
+        if word == "sheet-kept":
+            self.kept(session.numbers, answer)
+        elif word == "sheet-feed":
             self.fed(call, session, answer)
         elif word == "sheet":
             self.count("sheet", *["looked at when full"] * self.is_full, *["refused, then looked at"] * self.was_refused)
         self.was_refused = answer == ("refused",)
 
-    def kept(self, session, answer):
-        how, faults = "taken" if answer == ("ok",) else "refused", list(faults_of(session.given))
-        self.count("kept", how, f"{session.given[0]} scans, {how}", *([f"refused for {faults[0]} alone"] if len(faults) == 1 else []))
+    def kept(self, given, answer):
+        """A sheet to be begun with these numbers."""
+        how, faults = "taken" if answer == ("ok",) else "refused", list(faults_of(given))
+        self.count("kept", how, f"{given[SCANS]} scans, {how}", *([f"refused for {faults[0]} alone"] if len(faults) == 1 else []))
         self.is_full = self.is_full and how == "refused"
-        self.counts["right but for more than 32 bits"] += sum(session.given[1:9]) == session.given[SCANS] > MOST_SCANS
-        self.counts["modes that add up in 32 bits alone"] += sum(session.given[1:9]) == session.given[SCANS] + (1 << 32)
-        if session.given[SCANS] >= MANY and set(faults) <= {"sum of PV too small", "sum of PV too great"}:
-            self.counts.update(about_the_sum(numbers_in(session.given), session.given[SUM_OF_PV]))
+        self.counts["right but for more than 32 bits"] += sum(given[1:9]) == given[SCANS] > MOST_SCANS
+        self.counts["modes that add up in 32 bits alone"] += sum(given[1:9]) == given[SCANS] + (1 << 32)
+        if given[SCANS] >= MANY and set(faults) <= {"sum of PV too small", "sum of PV too great"}:
+            self.counts.update(about_the_sum(numbers_in(given), given[SUM_OF_PV]))
 
     def fed(self, call, session, answer):
         """Where the extremes stood before is told from the numbers that the sheet began with."""

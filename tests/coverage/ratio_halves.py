@@ -11,7 +11,7 @@ from functools import lru_cache
 from math import floor
 
 from tests.coverage.coverage import Coverage, on
-from tests.lists.calculator import near_tie_kind, quotient
+from tests.lists.arithmetic import near_tie_kind, quotient
 from tests.lists.exact_halves import WORDS, tried
 from tests.lists.ratio_halves import AREAS
 from tests.model.formulas import limit, scale

@@ -2,14 +2,18 @@
 
 from tests.coverage.coverage import Coverage
 from tests.lists.line_forms import line_errors_of, other_forms_of
-from tests.model.lines import SIGNED_WORD, WORD
+from tests.model.lines import VALUE, WORD
 from tests.model.session import SHEET_CALLS
+from tests.model.sheet import EMPTY
 from tests.model.words import MODES
 
 ENTERING = ("sheet-last", "sheet-feed")
 ALARMS = ("both alarms", "the low alarm alone", "the high alarm alone", "no alarm")  # by the two lowest bits of DS
 BATTERY, CAUSE = 0x08, 0x04  # bits of DS that are no alarms
-BEFORE_ANY = ("at the very beginning", "a refused scan", "fresh", "restart")
+BEFORE_ANY = ("at the very beginning", "a refused scan", "fresh", "restart", "sheet-kept")
+OF_NUMBERS = ("sheet-number", "sheet-kept")  # whose other forms stand in the lists with lines between other calls
+PV_ENDS, PVS_BEYOND = (*VALUE, -32769, -32768, 32767, 32768), (VALUE[0] - 1, VALUE[1] + 1)
+FED_ENDS = (("PV", PV_ENDS), ("DS", WORD), ("OP", WORD))
 
 
 def least_counts():
@@ -24,7 +28,8 @@ def least_counts():
     least.update({f"{event}, looked at before and behind": 200 for event in ("the greatest PV again", "the least PV again")})
     least.update({f"PV {sign} by {how}": 500 if sign == "at zero" else 2000 for sign in ("below zero", "at zero", "above zero")
                   for how in ENTERING})
-    least.update({f"{name} {end} by sheet-feed": 200 for name, ends in (("PV", SIGNED_WORD), ("DS", WORD), ("OP", WORD)) for end in ends})
+    least.update({f"{name} {end} by sheet-feed": 200 for name, ends in FED_ENDS for end in ends})
+    least.update({f"PV {PV}, no call": 16 for PV in PVS_BEYOND})
     least.update({"electrical output other than OP, entered": 5000, "an open scan, entered": 1000})
     least.update({f"looked at with {scans} scans": 100 for scans in (0, 1, 2)})
     least.update({f"looked at with {what}": 500 for what in ("every PV below zero", "every PV above zero", "PVs of both signs")})
@@ -32,13 +37,14 @@ def least_counts():
     least.update({f"looked at with the {end} behind number {number}": 2 if number == 65536 else 10 for end in ("greatest", "least")
                   for number in (256, 65536)})
     least.update({f"sheet-new on {what}": 60 for what in ("an empty sheet", "a sheet with scans")})
-    least.update({f"sheet-last before any accepted scan, behind {what}": 1 if what in ("fresh", "restart") else 4
-                  for what in BEFORE_ANY})
+    least.update({"sheet-kept on an empty sheet": 1, "sheet-kept on a sheet with scans": 8})
+    least.update({f"sheet-last before any accepted scan, behind {what}": 4 if what in BEFORE_ANY[:2] else 1 for what in BEFORE_ANY})
     least.update({f"sheet-last right behind {what}": 20 for what in ("a refused scan", "fresh", "restart", "a refused restart", "write",
                                                                       "read", "sheet-new", "sheet-feed", "sheet")})
     least.update({"the same answer entered again": 1000, "fresh looked past, scans in the sheet": 10,
                   "restart looked past, scans in the sheet": 30})
-    least.update({f"line: {kind} of {word}": 20 for word in SHEET_CALLS for kind in (*line_errors_of(word), *other_forms_of(word))})
+    least.update({f"line: {kind} of {word}": 20 for word in SHEET_CALLS
+                  for kind in (*line_errors_of(word), *(other_forms_of(word) if word not in OF_NUMBERS else ()))})
     return least
 
 
@@ -56,6 +62,8 @@ class SheetCoverage(Coverage):
     def lines(self, entries):
         """A list begins behind some other list, by whose scans the last answer may be another."""
         super().lines(entries)
+        beyond = (entry.line.split()[2] for entry in entries if (entry.kind, entry.word) == ("number beyond its type", "sheet-feed"))
+        self.counts.update(f"PV {PV}, no call" for PV in beyond)
         self.is_used, self.facts, self.previous = False, [], self.previous if self.previous == BEFORE_ANY[0] else None
 
     def call(self, call, before, after, answer, pair):
@@ -67,8 +75,9 @@ class SheetCoverage(Coverage):
             self.is_used = True
         if word in ENTERING and answer == ("ok",):
             self.entered(word, pair.session.sheet.entered[-1])
-        elif word == "sheet-new":
-            self.count(word, f"sheet-new on {'a sheet with scans' if self.scans else 'an empty sheet'}")
+        elif word in ("sheet-new", "sheet-kept"):
+            assert pair.session.sheet.beginning == EMPTY  # begun with numbers that are all 0
+            self.count(word, f"{word} on {'a sheet with scans' if self.scans else 'an empty sheet'}")
             self.greatest, self.least, self.scans, self.is_looked_at, self.again = None, None, 0, False, set()
         elif word == "sheet":
             self.looked_at()
@@ -92,8 +101,7 @@ class SheetCoverage(Coverage):
                           if self.is_looked_at and (events[event] or event in self.again)
                           and not events["a greater PV" if "greatest" in event else "a lesser PV"]}
         if how == "sheet-feed":
-            names += [f"{name} {value} by sheet-feed" for name, value, ends in
-                      (("PV", answer.PV, SIGNED_WORD), ("DS", answer.DS, WORD), ("OP", answer.OP, WORD)) if value in ends]
+            names += [f"{name} {getattr(answer, name)} by sheet-feed" for name, ends in FED_ENDS if getattr(answer, name) in ends]
         self.count(*names, *(self.facts if how == "sheet-last" else []))
         self.scans += 1
         if self.scans == 1 or answer.PV > self.greatest:

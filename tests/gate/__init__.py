@@ -1,1 +1,1 @@
-"""The gate: every step of `make test`, its tally and its times, and the tests of the gate itself."""
+"""The gate: every step of `make test`, its tally and its times, what a person sees of it, and the gate's own tests."""

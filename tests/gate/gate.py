@@ -3,31 +3,32 @@
 Usage: python3 -B -m tests.gate.gate
 
 The steps are `rt ci` (every listed crate proved from nothing, must-fail edits refused, programs run; a crate that is
-not listed fails it) and the tests. Behind them comes where the time went. The last line printed is 'N passed, M failed'
-over all steps; the exit status is 0 only if M is 0.
+not listed fails it) and the tests. A line is printed for each crate, edit, program and test as it ends; all that they
+say is in logs below target/logs. After the steps comes where the time went. The last line printed is 'N passed, M
+failed' over all steps; the exit status is 0 only if M is 0.
 """
 
 import concurrent.futures
+import itertools
 import re
-import subprocess
 import sys
-import time
 from typing import NamedTuple
 
 from tests import ROOT
-from tests.gate import tally, times
+from tests.gate import rt_progress, tally, times
+from tests.gate.progress import duration, on_standard_output
+from tests.gate.steps import end_of, excerpt, failures_of, last_of, log_name, run_step
 
 MODULE = [sys.executable, "-B", "-m"]
 TALLY = re.compile(r"(\d+) passed, (\d+) failed")
 
-PROOFS = (
-    ("proofs", ["rt", "ci"]),
-)
+PROOFS = ("proofs", ["rt", "ci"])
 # Two at once, the longest first
 TESTS = (
     ("the console's answers compared with the model's", [*MODULE, "tests.comparison.console", "target/bin/console"]),
-    ("the calculator's answers compared with the model's", [*MODULE, "tests.comparison.calculator", "target/bin/calculator"]),
-    ("kept sheets compared with the model's", [*MODULE, "tests.comparison.kept_sheets", "target/bin/sheet_console"]),
+    ("programs that forge a controller or a sheet", [*MODULE, "tests.outsider.outsider"]),
+    ("the arithmetic's answers compared with the model's", [*MODULE, "tests.comparison.arithmetic", "target/bin/console"]),
+    ("kept sheets compared with the model's", [*MODULE, "tests.comparison.kept_sheets", "target/bin/console"]),
     ("the hand-held terminal's answers compared with the model's", [*MODULE, "tests.comparison.handheld", "target/bin/handheld"]),
     ("must-fail edits that show nothing", [*MODULE, "tests.gate.edits"]),
     ("the gate's own tests", [*MODULE, "tests.gate.gate_test"]),
@@ -35,7 +36,6 @@ TESTS = (
     ("the table of roots", [*MODULE, "tests.roots.table"]),
     ("the look-up of a root, as compiled", [*MODULE, "tests.roots.lookup"]),
     ("the tests of the look-up's check", [*MODULE, "tests.roots.lookup_test"]),
-    ("programs that forge a controller or a sheet", [*MODULE, "tests.outsider.outsider"]),
     ("layout", [*MODULE, "tests.repository.layout"]),
     ("names", [*MODULE, "tests.repository.names"]),
     ("the tests of layout and names", [*MODULE, "tests.repository.repository_test"]),
@@ -53,27 +53,9 @@ class Result(NamedTuple):
     name: str
     passed: int
     failed: int
+    trouble: str    # what is wrong besides the failures that it counts, or nothing
     seconds: float
     lines: list
-
-
-def run_step(command, folder, echo):
-    """The step's lines, each echoed as it comes; its exit status and its seconds."""
-    lines, began = [], time.monotonic()
-    try:
-        process = subprocess.Popen(command, cwd=folder, stdin=subprocess.DEVNULL, stdout=subprocess.PIPE,
-                                   stderr=subprocess.STDOUT, text=True, errors="replace")
-    except OSError as error:
-        return [str(error)], 1, 0
-    for line in process.stdout:
-        echo(line)
-        lines.append(line)
-    return lines, process.wait(), time.monotonic() - began
-
-
-def last_of(lines):
-    """The last line that isn't blank."""
-    return next((line.strip() for line in reversed(lines) if line.strip()), "")
 
 
 def counts_of(last, status):
@@ -89,32 +71,69 @@ def counts_of(last, status):
     return passed, failed, ""
 
 
-def run_steps(steps, folder, at_once=1):
-    """The results of all steps, the later ones too when one fails.
+def result_of(name, lines, status, seconds):
+    return Result(name, *counts_of(last_of(lines), status), seconds, lines)
 
-    The lines of a step that runs alone are printed as they come, those of others when the step has ended.
-    """
+
+def told(result, choose):
+    """The counts and the time of a step, and where it failed the lines of its log that are chosen."""
+    failed = f", {result.failed} FAILED" if result.failed else ""
+    trouble = f" ({result.trouble})" if result.trouble else ""
+    line = f"{result.name}, {result.passed} passed{failed}{trouble}, {duration(result.seconds)}"
+    return [line, *(excerpt(result.name, choose(result.lines)) if result.failed else [])]
+
+
+def run_proofs(step, folder, progress):
+    """The result of `rt`, whose crates, edits and programs are shown as they end."""
+    name, command = step
+    result = result_of(name, *rt_progress.run_rt(name, command, folder, progress, has_edits=True))
+    progress.print(*told(result, failures_of))
+    return result
+
+
+def run_tests(groups, folder, progress):
+    """The results of all tests, the later ones too when one fails; a group comes with how many of it run at once."""
+    numbers, total = itertools.count(1), sum(len(steps) for steps, _ in groups)
+
+    def run_test(name, command):
+        progress.start("testing", name)
+        result = result_of(name, *run_step(name, command, folder))
+        with progress.lock:  # so that the numbers come in their order
+            line, *more = told(result, end_of)
+            progress.end("testing", name, f"tested {next(numbers)} of {total}: {line}", *more)
+        return result
+
     results = []
-    echo = (lambda line: print(line, end="", flush=True)) if at_once == 1 else (lambda line: None)
-    with concurrent.futures.ThreadPoolExecutor(at_once) as pool:
-        runs = [pool.submit(run_step, command, folder, echo) for _, command in steps]
-        for (name, command), run in zip(steps, runs, strict=True):
-            print(f"== {name}: {' '.join(map(str, command))}", flush=True)
-            lines, status, seconds = run.result()
-            print("".join(lines) if at_once > 1 else "", end="")
-            passed, failed, trouble = counts_of(last_of(lines), status)
-            print(f"== {name}: {passed} passed, {failed} failed{trouble and ' (' + trouble + ')'}, {seconds:.0f} s\n", flush=True)
-            results.append(Result(name, passed, failed, seconds, lines))
+    for steps, at_once in groups:
+        with concurrent.futures.ThreadPoolExecutor(at_once) as pool:
+            runs = [pool.submit(run_test, *step) for step in steps]
+            try:
+                results += [run.result() for run in runs]
+            finally:
+                pool.shutdown(cancel_futures=True)  # after an interruption no other test begins
     return results
 
 
-def gate(groups, folder):
-    """Runs each group of steps, given with how many of them run at once; prints the times and closes with the tally."""
-    results = [result for steps, at_once in groups for result in run_steps(steps, folder, at_once)]
-    lines = [line for result in results for line in result.lines]
-    print("\n".join(times.table([(result.name, result.seconds) for result in results], lines)))
+def intent(folder, tests):
+    """What will be done, in a line for a person."""
+    crates, edits, programs = map(len, (find(folder) for find in (rt_progress.crates_in, rt_progress.edits_in, rt_progress.programs_in)))
+    return (f"Proving {crates} crates from nothing, trying {edits} must-fail edits, running {programs} programs, then {tests} tests; "
+            "see README.md for how long.")
+
+
+def gate(proofs, groups, folder):
+    """Runs `rt` and the tests; prints the times and closes with the tally."""
+    with on_standard_output() as progress:
+        progress.print(intent(folder, sum(len(steps) for steps, _ in groups)))
+        results = [run_proofs(proofs, folder, progress), *run_tests(groups, folder, progress)]
+        lines = [line for result in results for line in result.lines]
+        progress.print("", *times.table([(result.name, result.seconds) for result in results], lines))
+        progress.print(*(f"FAILED: {result.name}; {log_name(result.name)}" for result in results if result.failed))
     return tally.close(sum(result.passed for result in results), sum(result.failed for result in results))
 
 
 if __name__ == "__main__":
-    sys.exit(gate(((PROOFS, 1), (TESTS, 2), (SPEED, 1)), ROOT))
+    try:
+        sys.exit(gate(PROOFS, ((TESTS, 2), (SPEED, 1)), ROOT))
+    except KeyboardInterrupt:
+        sys.exit("interrupted")

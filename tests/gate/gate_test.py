@@ -2,17 +2,17 @@
 
 Usage: python3 -B -m tests.gate.gate_test
 
-The last line printed is 'N passed, M failed'.
+What a person sees of a run is tested too, by `tests/gate/progress_test.py`. The last line printed is 'N passed, M
+failed'.
 """
 
-import contextlib
-import io
 import pathlib
 import subprocess
 import sys
 import tempfile
 
-from tests.gate import edits, gate, tally, times
+from tests.gate import edits, gate, progress_test, tally, times
+from tests.gate.stand_in import printed_by, proofs_of, results_of, untimed
 
 PASSES = ("a step", ["sh", "-c", "echo 3 passed, 0 failed"])
 # Lines as `rt ci` prints them
@@ -22,21 +22,15 @@ rt: console NOT PROVED (exit 1, 51 s)
 rt: must-fail outputs/minimum_lost: refused, as it must be (first at proofs/minimum/Proof.antt:31:129; 30 s)
 rt: must-fail outputs/limit_lost: refused, as it must be (5 s)
 rt: must-fail terms/half_up: NOT REFUSED: the crate is still proved with this edit (7 s)
-rt: calculator ran as nobody, and wrote what its file 'stdout' has (0 s)
+rt: console ran as nobody, and wrote what its file 'stdout' has (0 s)
 fn outputs::minimum: proved
 """.splitlines(keepends=True)
 
 
-def quietly(function, *arguments):
-    """What the function returns, and what it prints."""
-    printed = io.StringIO()
-    with contextlib.redirect_stdout(printed):
-        return function(*arguments), printed.getvalue()
-
-
-def counts(steps, folder=".", at_once=1):
+def counts(steps, at_once=1):
     """How many the gate counts as passed and as failed in these steps."""
-    results, _ = quietly(gate.run_steps, steps, folder, at_once)
+    with tempfile.TemporaryDirectory() as folder:
+        results, _ = printed_by(results_of, steps, pathlib.Path(folder), at_once)
     return sum(result.passed for result in results), sum(result.failed for result in results)
 
 
@@ -62,21 +56,25 @@ def unlisted_crate_is_refused():
         failed = []
         for listed in ("listed:\n", "listed:\nunlisted:\n"):
             (root / "crates.txt").write_text(listed)
-            results, _ = quietly(gate.run_steps, [("rt ci", ["rt", "ci"])], folder)
-            failed.append(results[0].failed)
-        timed = times.crate_seconds(results[0].lines)
-        return failed[0] > 0 and failed[1] == 0 and timed.keys() == {"listed", "unlisted"}
+            result, printed = printed_by(proofs_of, root)
+            failed.append(result.failed)
+        timed = times.crate_seconds(result.lines)
+        ended = [line.split(": ") for line in untimed(printed)[:2]]
+        return (failed[0] > 0 and failed[1] == 0 and timed.keys() == {"listed", "unlisted"}
+                and [count for count, _ in ended] == ["proved 1 of 2", "proved 2 of 2"]
+                and {name for _, name in ended} == {"listed, N s", "unlisted, N s"})
 
 
 def closes_with_the_tally():
     """The exit status and the last line of a gate that passes, and of one that fails; the times come before."""
     fails = ("another step", ["sh", "-c", "echo 1 passed, 2 failed; exit 1"])
-    status, printed = quietly(gate.gate, (((PASSES,), 1), ((PASSES, PASSES), 2)), ".")
-    bad_status, bad_printed = quietly(gate.gate, (((PASSES, fails), 2),), ".")
+    with tempfile.TemporaryDirectory() as folder:
+        status, printed = printed_by(gate.gate, PASSES, (((PASSES,), 1), ((PASSES, PASSES), 2)), pathlib.Path(folder))
+        bad_status, bad_printed = printed_by(gate.gate, PASSES, (((fails,), 2),), pathlib.Path(folder))
     lines = printed.splitlines()
-    behind = lines[lines.index("== steps, seconds, the longest first"):]
-    return (status == 0 and lines[-1] == "9 passed, 0 failed" and not any("passed" in line for line in behind[:-1])
-            and bad_status == 1 and bad_printed.endswith("\n4 passed, 2 failed\n"))
+    after = lines[lines.index("== steps, seconds, the longest first"):]
+    return (status == 0 and lines[-1] == "12 passed, 0 failed" and not any("passed" in line for line in after[:-1])
+            and bad_status == 1 and bad_printed.endswith("\nFAILED: another step; target/logs/another-step.log\n4 passed, 2 failed\n"))
 
 
 def times_are_read():
@@ -115,7 +113,7 @@ def edits_of_form():
 
 CASES = (
     ("a step that passes", lambda: outcome("echo 3 passed, 0 failed") == (3, 0)),
-    ("blank lines behind a tally", lambda: outcome("echo 3 passed, 0 failed; echo") == (3, 0)),
+    ("blank lines after a tally", lambda: outcome("echo 3 passed, 0 failed; echo") == (3, 0)),
     ("a failure counted", lambda: outcome("echo 3 passed, 2 failed; exit 1") == (3, 2)),
     ("a failure counted, and exit status 0", lambda: outcome("echo 3 passed, 2 failed") == (3, 2)),
     ("a tally, and a bad exit status", lambda: outcome("echo 3 passed, 0 failed; exit 1") == (3, 1)),
@@ -126,11 +124,12 @@ CASES = (
     ("a command that is not there", lambda: counts([("step", ["no-such-command-at-all"])]) == (0, 1)),
     ("two at once that pass", lambda: two_at_once("sleep 0.1; echo 3 passed, 0 failed", "echo 4 passed, 0 failed") == (7, 0)),
     ("one of two at once that fails", lambda: two_at_once("echo 3 passed, 0 failed", "echo 4 passed, 1 failed; exit 1") == (7, 1)),
-    ("the tally behind the times", closes_with_the_tally),
+    ("the tally after the times", closes_with_the_tally),
     ("the seconds of crates and edits", times_are_read),
     ("the longest first", longest_stands_first),
     ("edits that show nothing", edits_of_form),
     ("a crate that is not listed", unlisted_crate_is_refused),
+    *progress_test.CASES,
 )
 
 

@@ -3,7 +3,7 @@
 import collections
 import re
 
-# Lines of `rt ci`, which counts whole seconds; crates and edits run two at once, so that their sum is more
+# Lines of `rt ci`, which counts whole seconds; crates and edits run beside others, so that their sum is more
 CRATE = re.compile(r"rt: ([\w-]+) (?:proved|NOT PROVED) \((?:.*, )?(\d+) s\)")
 EDIT = re.compile(r"rt: must-fail ([\w-]+)/[\w-]+: .*?(?:\(|; )(\d+) s\)")
 
@@ -33,5 +33,5 @@ def table(steps, lines):
     crates = [(seconds, name) for name, seconds in crate_seconds(lines).items()]
     edits = [(seconds, f"{name} ({count} edits)") for name, (seconds, count) in edit_seconds(lines).items()]
     return [*longest_first("steps", [(seconds, name) for name, seconds in steps]),
-            *longest_first("proofs of the crates, two at once", crates),
-            *longest_first("must-fail edits of the crates, two at once", edits)]
+            *longest_first("proofs of the crates, each beside others", crates),
+            *longest_first("must-fail edits of the crates, each beside others", edits)]

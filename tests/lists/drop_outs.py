@@ -9,7 +9,7 @@ import itertools
 
 from tests.lists.drop_out_source import (IN_AUTO, IN_REMOTE, MEASURED_POWER, READS, Station, drawn_ranges,
                                          ratio_ranges)
-from tests.lists.entries import POWER_FAIL, RATIO, entries, switch_word
+from tests.lists.entries import POWER_FAIL, RATIO, completed, entries, switch_word
 from tests.lists.scan_source import SP, R
 from tests.lists.writers import ENGINEER
 from tests.model.formulas import limit
@@ -164,7 +164,7 @@ def call_list(generator, kind, number):
     SW = switch_word(generator) & ~RATIO | (RATIO if is_ratio else 0)
     station = Station(generator, number, ratio_ranges if is_ratio else drawn_ranges)
     calls = itertools.chain([("fresh", SW)], station.beginning(), kind(station))
-    return list(entries(station, calls if kind is straight else station.following(calls)))
+    return list(entries(station, completed(station, calls) if kind is straight else station.following(calls)))
 
 
 def all_lists(generator):

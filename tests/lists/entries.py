@@ -30,13 +30,17 @@ def switch_word(generator):
     return used & USED | generator.getrandbits(16) & ~USED
 
 
-def entries(operator, calls):
-    """The calls as lines, some in other forms; some refused scans and lines that are no call among them.
-
-    Scans that have no reading get one here, and writes and lines that have no writer theirs.
+def completed(operator, calls):
+    """The calls of a list that isn't followed in the model: scans that have no reading get one here, and writes and
+    lines that have no writer theirs.
     """
+    return named(operator.generator, operator.clock.timed(calls))
+
+
+def entries(operator, calls):
+    """The calls as lines, some in other forms; some refused scans and lines that are no call among them."""
     generator = operator.generator
-    for call in named(generator, operator.clock.timed(calls)):
+    for call in calls:
         if generator.random() < 0.02:
             yield Entry(line_of(operator.clock.with_reading(operator.refused_scan())), "call", "scan")
         if generator.random() < 0.03:

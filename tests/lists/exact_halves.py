@@ -1,13 +1,13 @@
 """Every exact half of the two quotients of a ratio setpoint, 100 x q / s and q x s / 100, within areas of q and s.
 
 They are listed by steps, and found once more by trying every q with every s, so that a test can tell whether one is
-missing.  The words are the calculator's: ratio for 100 x q / s, inverse for q x s / 100.
+missing.  The words are those of the arithmetic lines: ratio for 100 x q / s, inverse for q x s / 100.
 """
 
 import collections
 from typing import NamedTuple
 
-from tests.lists.calculator import quotient
+from tests.lists.arithmetic import quotient
 
 WORDS = ("ratio", "inverse")
 
@@ -22,8 +22,8 @@ def up_to(most_q, most_s):
     return Area(most_q, range(1, most_s + 1))
 
 
-# What the calculator is asked: every s with small q, every q with small s, and both in the middle
-CALCULATOR_AREAS = {"ratio": (up_to(150, 9999), up_to(9999, 25), up_to(500, 500)),
+# What the arithmetic lines ask: every s with small q, every q with small s, and both in the middle
+ARITHMETIC_AREAS = {"ratio": (up_to(150, 9999), up_to(9999, 25), up_to(500, 500)),
                     "inverse": (up_to(25, 9999), up_to(9999, 25), up_to(500, 500))}
 
 
@@ -51,7 +51,7 @@ def tried(word, areas):
 
 
 def kinds_tried(word, areas):
-    """How many there are of each kind, as tests/lists/calculator.py names the kinds of ties."""
+    """How many there are of each kind, as tests/lists/arithmetic.py names the kinds of ties."""
     counts = collections.Counter()
     for q, s in tried(word, areas):
         lower = 100 * q // s if word == "ratio" else q * s // 100

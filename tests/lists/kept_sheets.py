@@ -1,33 +1,37 @@
-"""Lists of lines for the program `sheet_console`, drawn from a seed: sheets begun with kept numbers, right and wrong,
-and fed until they are full and beyond.
+"""Lists of lines for the console's sheet, drawn from a seed: sheets begun with kept numbers, right and wrong, and fed
+until they are full and beyond.
 """
 
 import itertools
 
 from tests.lists.sheets import ALARMS as ALARM_BITS
-from tests.lists.sheets import OPS
+from tests.lists.sheets import KEPT, LOOK, OPS
 from tests.model.kept_sheets import (ALARMS, COUNTS, GREATEST, LEAST, MODES_AT, PLACES, SCANS, SUM_OF_OP, SUM_OF_PV, given_by, numbers_in,
                                      stretches)
 from tests.model.lines import VALUE, line_of
 from tests.model.sheet import MOST_SCANS, Answer, numbers_of
 from tests.model.words import MODES
 
-KEPT, LOOK = "kept", "sheet"
 # All lists of up to so many of these PVs are counted out; so the sheets that they give are known one by one.
 FEW_PVS, MOST_OF_FEW = (-2, -1, 0, 1), 6
 MANY_SCANS = (1, 2, 3, 4, 5, 10, 1000, 65535, 65536, (1 << 31) - 1, 1 << 31, MOST_SCANS - 1, MOST_SCANS)
 PV_ENDS = (VALUE[0], VALUE[0] + 1, -1, 0, 1, VALUE[1] - 1, VALUE[1])
 GREATEST_SUM = 10 ** 18 - 1  # that a line can have
-NO_LINES = ("", " ", "kept 0", "kept kept", "Kept", "keep", "number", "number 0", "number 0 0 0", "number 16 0", "number -1 0",
-            "number x 0", "number 0 x", "number 0 +1", "number 0 1234567890123456789", "number 0 -1234567890123456789", "number 256 1",
-            "number 4294967296 1", "Number 0 1", "numbers 0 1", "feed", "feed hold", "feed hold 0 0", "feed hold 0 0 0 0",
-            "feed Hold 0 0 0", "feed forced-manual 0 0 0", "feed 0 0 0 0", "feed hold 2147483648 0 0", "feed hold -2147483649 0 0",
-            "feed hold 4294967296 0 0", "feed hold 0 -1 0", "feed hold 0 65536 0", "feed hold 0 0 -1", "feed hold 0 0 65536",
-            "feed hold x 0 0", "Feed hold 0 0 0", "feeds hold 0 0 0",
-            "sheet 0", "Sheet", "sheets", "sheet-new", "sheet-last", "sheet-feed hold 0 0 0", "new", "full", "number\t0 1", "kept\t",
-            "\tkept")
-OTHER_FORMS = ("  kept  ", " number   0  0 ", "number 00 -0", "number 000000000000000014 -000000000000000000", "  sheet ",
-               "feed  hold -0 000 00 ")
+# Words that aren't the console's with what would make a call of them, and other texts nearly like a call
+NO_LINES = ("", " ", "kept", "kept 0", "kept kept", "number 0 0", "number 0 1", "number 15 -1", "number", "feed hold 0 0 0",
+            "feed hold 2147483647 65535 65535", "feed", "new", "full", "empty",
+            *(line.replace("@", "sheet-") for line in (
+                "@kept 0", "@kept @kept", "@Kept", "@keep", "@kep", "@number", "@number 0", "@number 0 0 0", "@number 16 0", "@number -1 0",
+                "@number x 0", "@number 0 x", "@number 0 +1", "@number 0 1234567890123456789", "@number 0 -1234567890123456789",
+                "@number 256 1", "@number 4294967296 1", "@number 18446744073709551616 1", "@Number 0 1", "@numbers 0 1", "@number 0 1.0",
+                "@feed", "@feed hold", "@feed hold 0 0", "@feed hold 0 0 0 0", "@feed Hold 0 0 0", "@feed forced-manual 0 0 0",
+                "@feed 0 0 0 0", "@feed hold 2147483648 0 0", "@feed hold -2147483649 0 0", "@feed hold 4294967296 0 0",
+                "@feed hold 0 -1 0", "@feed hold 0 65536 0", "@feed hold 0 0 -1", "@feed hold 0 0 65536", "@feed hold x 0 0",
+                "@Feed hold 0 0 0", "@feeds hold 0 0 0", "@number\t0 1", "@kept\t", "\t@kept", "@", "-@kept")),
+            "Sheet-kept", "SHEET-KEPT", "sheet kept", "sheetkept", "sheet_kept", "Sheet-number 0 1", "sheet number 0 1", "sheetnumber 0 1",
+            "sheet 0", "Sheet", "sheets")
+OTHER_FORMS = ("  sheet-kept  ", " sheet-number   0  0 ", "sheet-number 00 -0", "sheet-number 000000000000000014 -000000000000000000",
+               "  sheet ", "sheet-feed  hold -0 000 00 ")
 
 
 def given_by_few():
@@ -48,16 +52,19 @@ def about_few():
 
 
 class KeptSource:
-    """Draws numbers and answers; what has been given for each place is known, so that only changes are lines."""
+    """Draws numbers and answers; what has been given for each place is known, so that only changes are calls.
 
-    def __init__(self, generator):
-        self.generator, self.given = generator, [0] * PLACES
+    At the beginning of an input all are 0; where a list comes after others, none is known.
+    """
+
+    def __init__(self, generator, number=0):
+        self.generator, self.given = generator, [number] * PLACES
 
     def numbers(self, given):
-        """The lines that give these sixteen numbers."""
+        """The calls that give these sixteen numbers."""
         for place, (number, wanted) in enumerate(zip(self.given, given, strict=True)):
             if number != wanted:
-                yield f"number {place} {wanted}"
+                yield "sheet-number", place, wanted
         self.given = list(given)
 
     def kept(self, given):
@@ -187,7 +194,7 @@ def to_the_end(source):
         yield from (*source.kept(given), LOOK)
         beyond = [given[GREATEST], given[LEAST], max(VALUE[0], given[LEAST] - 1), min(VALUE[1], given[GREATEST] + 1)]
         for _ in range(place % 10 + 4):
-            yield line_of(("feed", *source.feed(generator.choice((beyond, PV_ENDS)))))
+            yield ("sheet-feed", *source.feed(generator.choice((beyond, PV_ENDS))))
             yield from [LOOK] if generator.random() < 0.7 else []
         yield LOOK
 
@@ -199,10 +206,10 @@ def kept_again(source):
         PVs = generator.choice((PV_ENDS, (5, 6), (-3, -2, -1), range(-4, 5), [generator.randint(*VALUE) for _ in range(4)]))
         answers = [source.feed(PVs) for _ in range(generator.choice((0, 1, 2, 3, 8, 30)))]
         yield from source.kept([0] * PLACES)
-        yield from (line_of(("feed", *answer)) for answer in answers)
+        yield from (("sheet-feed", *answer) for answer in answers)
         yield LOOK
         yield from (*source.kept(given_by(numbers_of(answers))), LOOK)
-        yield from (line_of(("feed", *source.feed(PVs))) for _ in range(generator.choice((0, 1, 5))))
+        yield from (("sheet-feed", *source.feed(PVs)) for _ in range(generator.choice((0, 1, 5))))
         yield LOOK
 
 
@@ -220,5 +227,5 @@ KINDS = (few, about_the_edges, two_changed, beyond_their_types, of_no_scan, to_t
 
 
 def all_lists(generator):
-    """Pairs of a list's kind and its lines; each is an input of its own."""
-    return [(kind.__name__, list(kind(KeptSource(generator)))) for kind in KINDS]
+    """Pairs of a list's kind and its lines, which are calls or no calls; each is an input of its own."""
+    return [(kind.__name__, [each if isinstance(each, str) else line_of(each) for each in kind(KeptSource(generator))]) for kind in KINDS]

@@ -1,6 +1,7 @@
 """Lines that are no call, made of calls and drawn from a seed."""
 
 from tests.lists.line_parts import bytes_at, filled_up, of_digits, with_number, with_text
+from tests.model import arithmetic
 from tests.model.lines import ANY, MODE, MODE_WORDS, MOST_BYTES, RANGES, READING, TYPED, WRITER, line_of, text_of
 
 NO_NUMBERS = ("+5", "--5", "-", "5-", "1-2", "12x", "x12", "1.0", "1e3", "0x5", "80h", "1_0", "1,0", "\u00b2", "\xff")
@@ -11,7 +12,10 @@ NO_WORDS = ("scam", "sca", "scann", "scan,", "scans", "freshen", "fres", "writ",
             "cloc", "clocks", "clock36", "clock-", "time", "none", "acces", "accesses", "access-", "who", "engineer")
 NO_LINE_WORDS = (*NO_WORDS, "lin", "lines", "line-", "line:", "line>", "in", "reply", "typed", "terminal", "XP", "5850", "MD>1000")
 NO_SHEET_WORDS = (*NO_WORDS, "shee", "sheets", "sheet-", "sheet-ne", "sheet-news", "sheet_new", "sheetnew", "sheet-las", "sheet-lasts",
-                  "sheetlast", "sheet-fee", "sheet-feeds", "sheetfeed", "new", "last", "feed", "full", "sheet-old", "sheet=", "-sheet")
+                  "sheetlast", "sheet-fee", "sheet-feeds", "sheetfeed", "new", "last", "feed", "full", "sheet-old", "sheet=", "-sheet",
+                  "number", "sheet-numbe", "sheet-numbers", "sheetnumber", "sheet-place", "kept", "sheet-kep", "sheet-keep", "sheetkept")
+NO_ARITHMETIC_WORDS = (*NO_WORDS, "scal", "scales", "roo", "roots", "rati", "ratios", "inverses", "inverse-ratio", "inverse_ratio", "limi",
+                       "limits", "proportiona", "proportion", "integrals", "integra", "derivativ", "derivatives", "square", "term")
 # In place of a mode: parts and other forms of the words, the names that document 01 has for modes, numbers
 NO_MODES = ("hol", "holds", "trac", "tracking", "force", "forced-manual", "forcedmanual", "manua", "man", "manuals", "aut", "automatic",
             "autos", "remot", "remotes", "rati", "ratios", "fall-back", "fallbac", "fallbacks", "fall", "m", "a", "r", "-", "0", "1", "7",
@@ -55,7 +59,16 @@ def number_beyond_its_type(generator, call):
 def number_below_zero(generator, call):
     """In place of a number that has no sign, or of a restart's bytes."""
     number = generator.choice([-1, -2, -128, -256, -32768, -65536, -(1 << 32), 1 - 10 ** 18])
-    return with_number(call, generator.choice([place for place, least, _ in numbers_in(call) if least == 0] or [1]), number)
+    return with_number(call, generator.choice([place for place, least, _ in numbers_in(call) if least >= 0] or [1]), number)
+
+
+def ends_out_of_order(generator, call):
+    """Of an arithmetic line: L above H or equal to it, LOW above HIGH."""
+    word, low, high, *others = call
+    least, greatest = RANGES[word][0]
+    pairs = ((high, low), (low, low), (high + 1, high), (low, low - 1), (greatest, least))
+    legal = [pair for pair in pairs if least <= min(pair) and max(pair) <= greatest and not arithmetic.is_in_order(word, pair)]
+    return line_of((word, *generator.choice(legal), *others))
 
 
 def nineteen_digits(generator, call):
@@ -119,12 +132,13 @@ def writer_missing(generator, call):
 
 
 def unknown_word(generator, call):
-    words = NO_SHEET_WORDS if call[0].startswith("sheet") else NO_LINE_WORDS if call[0] == "line" else NO_WORDS
+    words = (NO_SHEET_WORDS if call[0].startswith("sheet") else NO_LINE_WORDS if call[0] == "line" else
+             NO_ARITHMETIC_WORDS if call[0] in arithmetic.WORDS else NO_WORDS)
     return line_of((generator.choice(words), *call[1:]))
 
 
 def word_in_capitals(generator, call):
-    return line_of((generator.choice([call[0].upper(), call[0].capitalize()]), *call[1:]))
+    return " ".join([generator.choice([call[0].upper(), call[0].capitalize()]), *map(text_of, call[1:])])
 
 
 def no_word(generator, call):
@@ -196,7 +210,8 @@ def too_many_bytes(generator, call):
 
 
 LINE_ERRORS = {"number missing": number_missing, "number too many": number_too_many, "number beyond its type": number_beyond_its_type,
-               "number below zero": number_below_zero, "nineteen digits": nineteen_digits, "no number": no_number,
+               "number below zero": number_below_zero, "ends out of order": ends_out_of_order,
+               "nineteen digits": nineteen_digits, "no number": no_number,
                "unknown word": unknown_word, "word in capitals": word_in_capitals, "no word": no_word, "word twice": word_twice,
                "empty line": empty_line, "blanks only": blanks_only, "other blank": other_blank, "two calls": two_calls,
                "overlong line": overlong_line, "no bytes": no_bytes, "odd digits": odd_digits, "blank in bytes": blank_in_bytes,

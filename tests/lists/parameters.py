@@ -8,7 +8,7 @@ import itertools
 import random
 
 from tests.lists import scans as scan_lists
-from tests.lists.entries import POWER_FAIL, entries, switch_word
+from tests.lists.entries import POWER_FAIL, completed, entries, switch_word
 from tests.lists.scan_source import HELD, MODES_ASKED, Operator
 from tests.model.formulas import limit
 from tests.model.state import Parameters
@@ -119,4 +119,5 @@ def all_calls(generator):
 
 def all_lists(generator):
     """Pairs of a list's kind and the list, in the form of tests/lists/entries.py."""
-    return [("drawn parameters", list(entries(Operator(generator), calls))) for calls in all_calls(generator)]
+    lists = ((Operator(generator), calls) for calls in all_calls(generator))
+    return [("drawn parameters", list(entries(operator, completed(operator, calls)))) for operator, calls in lists]

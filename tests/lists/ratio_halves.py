@@ -6,8 +6,8 @@ SP and SL are read behind each scan.  The lists are in the form of tests/lists/e
 
 from math import floor
 
-from tests.lists.calculator import near_tie_kind, propose_near_ties, quotient
-from tests.lists.entries import RATIO, entries, switch_word
+from tests.lists.arithmetic import near_tie_kind, propose_near_ties, quotient
+from tests.lists.entries import RATIO, completed, entries, switch_word
 from tests.lists.exact_halves import WORDS, Area, listed, up_to
 from tests.lists.parameters import draw_parameters, near_or_far, pair_of, writes_of
 from tests.lists.scan_source import HELD, LOWER, RAISE, SP, Operator
@@ -166,5 +166,5 @@ def all_lists(generator):
         for pairs, size in ((halves, A_LIST), (near, A_LIST), (limited, A_LIMITED_LIST)):
             for piece in pieces(generator, pairs, size):
                 station = Station(generator, len(lists), word, piece, size == A_LIST)
-                lists.append(("ratio halves", list(entries(station.operator, station.calls()))))
+                lists.append(("ratio halves", list(entries(station.operator, completed(station.operator, station.calls())))))
     return lists

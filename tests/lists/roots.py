@@ -2,7 +2,7 @@
 scales to a PV of its own, and once with a drawn range.  The lists are in the form of tests/lists/entries.py.
 """
 
-from tests.lists.entries import entries, switch_word
+from tests.lists.entries import completed, entries, switch_word
 from tests.lists.parameters import draw_parameters, writes_of
 from tests.lists.scan_source import HELD, MODES_ASKED, Operator
 
@@ -40,5 +40,5 @@ def all_lists(generator):
             operator = Operator(generator, number)
             writes = writes_of(parameters_of(generator, is_widest), "M", 0, False, number)
             calls = [("fresh", switch_word(generator)), *writes, *scans_of(operator, samples[number::LISTS // 2])]
-            lists.append(("roots", list(entries(operator, calls))))
+            lists.append(("roots", list(entries(operator, completed(operator, calls)))))
     return lists

@@ -1,6 +1,6 @@
 """Lists of scans, drawn from a seed: every mode, switch, button, pin, refusal, open run, and lines that are no call."""
 
-from tests.lists.entries import INVERSION, POWER_FAIL, RATIO, entries, switch_word
+from tests.lists.entries import INVERSION, POWER_FAIL, RATIO, completed, entries, switch_word
 from tests.lists.scan_source import HELD, LOWER, MODES_ASKED, RAISE, SP, A, M, Operator, R
 
 # Kinds of list: the scans that follow a fresh start -------------------------
@@ -163,7 +163,7 @@ def call_list(generator, kind, number):
     if kind is ratios or kind is to_the_ends and number & 1:
         SW |= RATIO
     operator = Operator(generator, number)
-    return list(entries(operator, [("fresh", SW), *kind(operator)]))
+    return list(entries(operator, completed(operator, [("fresh", SW), *kind(operator)])))
 
 
 def all_lists(generator):
@@ -176,4 +176,4 @@ def all_lists(generator):
 def first_list(generator):
     """A list for the beginning of an input, where the controller is fresh with SW 0 without any fresh start."""
     operator = Operator(generator)
-    return "first_list", list(entries(operator, quick_changes(operator)))
+    return "first_list", list(entries(operator, completed(operator, quick_changes(operator))))

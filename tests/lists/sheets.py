@@ -14,17 +14,20 @@ from tests.lists.restarts import RestartSource
 from tests.lists.scan_source import HELD, MODES_ASKED
 from tests.model import loop
 from tests.model.formulas import limit
-from tests.model.lines import SIGNED_WORD, line_of
+from tests.model.kept_sheets import PLACES
+from tests.model.lines import VALUE, line_of
 from tests.model.session import SHEET_CALLS
 from tests.model.state import Stored
 from tests.model.words import MODES
 
-NEW, LAST, LOOK = ("sheet-new",), ("sheet-last",), ("sheet",)
-PV_ENDS = (-32768, -32767, -1, 0, 1, 32766, 32767)
+NEW, LAST, LOOK, KEPT = ("sheet-new",), ("sheet-last",), ("sheet",), ("sheet-kept",)
+# The ends of 32 bits, and those of 16, which the controller's own PVs don't leave
+PV_ENDS = (VALUE[0], VALUE[0] + 1, -32769, -32768, -1, 0, 1, 32767, 32768, VALUE[1] - 1, VALUE[1])
+BEYOND = (VALUE[0] - 1, VALUE[1] + 1, -1 << 32, (1 << 32) - 1, 1 << 32, 1 - 10 ** 18, 10 ** 18 - 1)
 OPS = (0, 1, 9998, 9999, 10000, 65534, 65535)
 ALARMS = (0, 1, 2, 3)  # the two lowest bits of DS: both alarms, the low one, the high one, none
 # Of the long sheet: so many scans, and the numbers behind which it is looked at.  65,536 is the first that 16 bits
-# can't hold, and with so many answers that have great PVs and OPs the sums are more than 31 and 32 bits can hold.
+# can't hold, and with so many answers that have great OPs their sum is more than 32 bits can hold.
 LONG, LOOKED_AT = 66_000, (1, 2, 255, 256, 257, 300, 32767, 32768, 65534, 65535, 65536, 65537, 65538, 65539, 65600, 66_000)
 
 
@@ -56,13 +59,19 @@ class SheetSource(RestartSource):
         return ("sheet-feed", generator.choice(modes), generator.choice(PVs), others << 2 | generator.choice(ALARMS),
                 generator.choice((*OPS, generator.randint(0, 9999), generator.getrandbits(16))))
 
+    def sheet_call(self, word):
+        """A call on the sheet with drawn numbers."""
+        if word == "sheet-number":
+            return word, self.generator.randrange(PLACES), self.generator.choice((0, 1, -1, *BEYOND))
+        return self.fed(PV_ENDS, MODES) if word == "sheet-feed" else (word,)
+
     def few_PVs(self):
         """PVs to choose from, few enough for extremes to come again: of either sign alone, of both, about the ends."""
         generator = self.generator
-        low, high = generator.choice(((-32768, -1), (1, 32767), SIGNED_WORD, (-2, 2), (-9999, 9999)))
+        low, high = generator.choice(((VALUE[0], -1), (1, VALUE[1]), VALUE, (-32769, 32768), (-2, 2), (-9999, 9999)))
         drawn = [generator.randint(low, high) for _ in range(generator.choice((1, 2, 3, 6)))]
-        within = [limit(*SIGNED_WORD, PV) for PV in (*drawn, max(drawn) - 1, min(drawn) + 1)]
-        return generator.choice((drawn, drawn, within, PV_ENDS, range(-32768, 32768)))
+        within = [limit(*VALUE, PV) for PV in (*drawn, max(drawn) - 1, min(drawn) + 1)]
+        return generator.choice((drawn, drawn, within, PV_ENDS, range(VALUE[0], VALUE[1] + 1)))
 
     def another_state(self):
         """Drawn parameters, with alarms and a range of channel 1 to match; the output within its limits."""
@@ -136,22 +145,28 @@ def long_sheet():
 
     Extremes come behind the 256th answer and behind the 65,536th, so that their numbers are great too.
     """
-    PVs = {257: 32766, 300: 32764, 65_537: SIGNED_WORD[1], 65_539: SIGNED_WORD[0]}
+    PVs = {257: VALUE[1] - 1, 300: VALUE[1] - 3, 65_537: VALUE[1], 65_539: VALUE[0]}
     yield NEW
     for number in range(1, LONG + 1):
-        yield "sheet-feed", "Fall-back", PVs.get(number, 32765), 0, 65535
+        yield "sheet-feed", "Fall-back", PVs.get(number, VALUE[1] - 2), 0, 65535
         yield from [LOOK] if number in LOOKED_AT else []
 
 
 def no_calls(source):
-    """Each line error of each call on the sheet; then the sheet shows that nothing has changed."""
+    """Each line error of each call on the sheet, and PVs beyond 32 bits; then the sheet shows that nothing has changed,
+    and the numbers, which were all 0, do when a sheet is begun with them.
+    """
     generator = source.generator
-    yield from (Entry(line_of(call), "call", call[0]) for call in (NEW, source.fed(PV_ENDS, MODES)))
-    for word, kind in [(word, kind) for word in SHEET_CALLS for kind in line_errors_of(word)] * 6:
-        call = source.fed(PV_ENDS, MODES) if word == "sheet-feed" else (word,)
-        yield Entry(LINE_ERRORS[kind](generator, call), kind, word)
+    fed = source.fed(PV_ENDS, MODES)
+    yield from (Entry(line_of(call), "call", call[0]) for call in (NEW, *(("sheet-number", place, 0) for place in range(PLACES)), fed))
+    errors = [(word, kind) for word in SHEET_CALLS for kind in line_errors_of(word)] * 6
+    lines = [Entry(LINE_ERRORS[kind](generator, source.sheet_call(word)), kind, word) for word, kind in errors]
+    lines += [Entry(line_of((*source.fed(BEYOND, MODES)[:2], PV, *fed[3:])), "number beyond its type", "sheet-feed") for PV in BEYOND] * 4
+    for line in generator.sample(lines, len(lines)):
+        yield line
         if generator.random() < 0.5:
             yield Entry(line_of(LOOK), "call", "sheet")
+    yield from (Entry(line_of(call), "call", call[0]) for call in (KEPT, LOOK))
 
 
 def scanned(generator, kind, number, new_share):
@@ -176,12 +191,14 @@ def all_lists(generator):
 
 
 def first_list(generator, number):
-    """A list for the beginning of an input, where the sheet is empty and no scan has been accepted.
+    """A list for the beginning of an input, where the sheet is empty, no scan has been accepted and the sixteen numbers
+    are 0.
 
-    A fresh start with SW 0 or a restart stands in some; both leave what the program begins with.
+    A fresh start with SW 0 or a restart stands in some; both leave what the program begins with.  A sheet begun with
+    the sixteen numbers is empty.
     """
     source = SheetSource(generator)
     source.controller = loop.fresh(0, Stored)
-    begins = [[], [], [("fresh", 0)], [("restart", source.image())]][number % 4]
-    calls = [LAST, LOOK, source.refused_scan(), LAST, *begins, LAST, LOOK, source.fed(PV_ENDS, MODES), LAST, LOOK]
+    begins = [[], [KEPT], [("fresh", 0)], [("restart", source.image())]][number % 4]
+    calls = [LAST, LOOK, source.refused_scan(), LAST, *begins, LAST, LOOK, source.fed(PV_ENDS, MODES), LAST, LOOK, KEPT, LOOK]
     return "first_sheet", [Entry(line_of(call), "call", call[0]) for call in source.clock.timed(calls)]

@@ -7,7 +7,7 @@ Switches are given as True or 1 for ON, False or 0 for OFF.
 """
 
 from fractions import Fraction
-from math import floor, isqrt
+from math import isqrt
 
 STEPS_IN_A_UNIT = 65536  # "the stored output is a whole number of 1/65,536 units"
 TERM_LIMIT = 10000       # "Each exact term is limited to +-10,000", in units
@@ -17,22 +17,21 @@ TERM_LIMIT = 10000       # "Each exact term is limited to +-10,000", in units
 
 def nearest_halves_up(exact):
     """The nearest whole number; a half goes toward plus infinity."""
-    return floor(exact + Fraction(1, 2))
+    return (2 * exact.numerator + exact.denominator) // (2 * exact.denominator)
 
 
 def nearest_halves_to_even(exact):
     """The nearest whole number; a half goes to the even neighbour, above and below zero alike."""
-    lower = floor(exact)
-    above_lower = exact - lower
-    if above_lower == Fraction(1, 2):
+    lower, above_lower = divmod(exact.numerator, exact.denominator)
+    if 2 * above_lower == exact.denominator:
         return lower if lower % 2 == 0 else lower + 1
-    return lower if above_lower < Fraction(1, 2) else lower + 1
+    return lower if 2 * above_lower < exact.denominator else lower + 1
 
 
 def limit(low, high, value):
     """The value, or the end of low..high that it lies beyond."""
     assert low <= high
-    return max(low, min(high, value))
+    return low if value < low else high if value > high else value
 
 
 # One scan, step 1: samples -------------------------------------------------

@@ -1,21 +1,18 @@
-"""Sheets that begin with the numbers of a kept one, and the lines of the program `sheet_console` over them: number
-PLACE VALUE, kept, feed MODE PV DS OP, sheet.
+"""Sheets that begin with the sixteen numbers of a kept one, as sheet-number and sheet-kept give them.
 
 A kept sheet is one that some list of answers gives, of at most 4,294,967,295, with any mode, any PV of 32 bits and any
 DS and OP of 16 bits.  Whether there is such a list is told here by what may stand at each place of it.
 """
 
-from tests.model.lines import ANY, MODE, VALUE, WORD, call_by, line_of, words_of
-from tests.model.session import sheet_answer
-from tests.model.sheet import EMPTY, MOST_SCANS, Answer, Extreme, Numbers, Sheet
+from tests.model.lines import PLACE, VALUE, WORD
+from tests.model.sheet import MOST_SCANS, Extreme, Numbers
 
 # The places of the sixteen numbers: scans, the eight modes, greatest PV and its number, least PV and its number, scans
 # with an alarm, the sums of PV and OP
-PLACES = 16
+PLACES = PLACE[1] + 1
 SCANS, MODES_AT, GREATEST, LEAST, ALARMS, SUM_OF_PV, SUM_OF_OP = 0, range(1, 9), 9, 11, 13, 14, 15
 NUMBERS_AT = (GREATEST + 1, LEAST + 1)
 COUNTS = (SCANS, *MODES_AT, *NUMBERS_AT, ALARMS)  # of 32 bits without a sign
-RANGES = {"number": ((0, PLACES - 1), ANY), "kept": (), "feed": (MODE, VALUE, WORD, WORD), "sheet": ()}
 
 
 def numbers_in(given):
@@ -85,34 +82,3 @@ def faults_of(given):
         yield "no extreme"
     elif extremes or numbers.sum_of_PV:
         yield "an extreme of no scan" if extremes else "a sum of no PV"
-
-
-class KeptSession:
-    """What the program keeps: the sixteen numbers, and the sheet in hand."""
-
-    def __init__(self):
-        self.given, self.sheet = [0] * PLACES, Sheet()
-
-    def make(self, call):
-        """A call, given as its word and what follows it: the answer."""
-        word, *parts = call
-        if word == "number":
-            self.given[parts[0]] = parts[1]
-            return ("ok",)
-        if word == "kept":
-            if any(True for _ in faults_of(self.given)):
-                return ("refused",)
-            self.sheet = Sheet(numbers_in(self.given) if self.given[SCANS] else EMPTY)
-            return ("ok",)
-        return (self.sheet.enter(Answer(*parts)),) if word == "feed" else sheet_answer(self.sheet.numbers())
-
-
-def call_of(line):
-    """The call that a line of this program makes, or None."""
-    word, *texts = words_of(line)
-    return call_by(RANGES, word, texts)
-
-
-def answer_to(session, line):
-    call = call_of(line)
-    return line_of(session.make(call)) if call else "error"

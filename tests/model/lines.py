@@ -4,12 +4,14 @@ A number is an optional minus and one to eighteen digits; the milliseconds of a 
 sign.  Bytes are two hexadecimal digits each, of either case; a minus alone stands for none.  A mode is one of eight
 words in small letters, a writer one of three.  One or more blanks, spaces only, stand between words and may stand
 before and behind.  A line has up to 700 bytes without its newline.  A line that isn't a call is answered error and
-changes nothing.  Texts here have one character for each byte of the line.
+changes nothing.  Texts here have one character for each byte of the line.  The numbers of an arithmetic line have
+ranges of their own (`arithmetic.py`).
 """
 
 import re
 from functools import lru_cache
 
+from tests.model import arithmetic
 from tests.model.rights import WRITERS
 
 LONGEST_LINE = 700
@@ -20,17 +22,18 @@ MODE_WORDS = {"Hold": "hold", "Track": "track", "Forced Manual": "forced", "Manu
               "Ratio": "ratio", "Fall-back": "fallback"}
 MODE_OF_WORD = {word: mode for mode, word in MODE_WORDS.items()}
 # The least and the greatest of each number: SW, samples, DS and OP have 16 bits, pins, buttons and sensors 8, a value
-# to be written 32 and a sign, a PV to be entered in a sheet 16 and a sign; a parameter number may be any; a save's
-# buffer and that of a line's reply have up to 300 bytes; milliseconds have 64 bits, and no sign even at 0.  A restart
-# has bytes in place of numbers, a line of the terminal its own, up to 300, an answer to be entered begins with a mode,
-# and what a writer makes or asks begins with the writer.  Further kinds of call are to be added here.
-BYTE, WORD, SIGNED_WORD, VALUE = (0, 255), (0, 65535), (-1 << 15, (1 << 15) - 1), (-1 << 31, (1 << 31) - 1)
+# to be written and a PV to be entered in a sheet 32 and a sign; a parameter number and a number of a kept sheet may be
+# any, the second at one of sixteen places; a save's buffer and that of a line's reply have up to 300 bytes;
+# milliseconds have 64 bits, and no sign even at 0.  A restart has bytes in place of numbers, a line of the terminal its
+# own, up to 300, an answer to be entered begins with a mode, and what a writer makes or asks begins with the writer.
+# Further kinds of call are to be added here.
+BYTE, WORD, VALUE, PLACE = (0, 255), (0, 65535), (-1 << 31, (1 << 31) - 1), (0, 15)
 ANY, BUFFER, MODE, TYPED, READING = (1 - 10 ** 18, 10 ** 18 - 1), (0, 300), "mode", "typed", (0, (1 << 64) - 1)
 WRITER = "writer"
 RANGES = {"fresh": (WORD,), "scan": (BYTE, WORD, WORD, WORD, BYTE, BYTE, READING), "write": (WRITER, ANY, VALUE),
           "access": (WRITER, ANY), "read": (ANY,), "save": (BUFFER,), "clock": (), "line": (WRITER, TYPED, BUFFER), "sheet-new": (),
-          "sheet-last": (),
-          "sheet-feed": (MODE, SIGNED_WORD, WORD, WORD), "sheet": ()}
+          "sheet-last": (), "sheet-feed": (MODE, VALUE, WORD, WORD), "sheet": (), "sheet-number": (PLACE, ANY), "sheet-kept": (),
+          **arithmetic.RANGES}
 MOST_BYTES = 300  # of a line; of an image in the lists, what the console makes of more isn't decided
 
 
@@ -46,33 +49,27 @@ def call_of(line):
     word, *texts = words_of(line)
     if word == "restart":
         return (word, bytes_of(texts[0])) if len(texts) == 1 and BYTES.fullmatch(texts[0]) else None
-    return call_by(RANGES, word, texts)
+    if word not in RANGES or len(texts) != len(RANGES[word]):
+        return None
+    parts = tuple(map(part_of, texts, RANGES[word]))
+    return None if None in parts or not arithmetic.is_in_order(word, parts) else (word, *parts)
 
 
 def words_of(line):
     return [part for part in line.split(" ") if part] or [""]
 
 
-def call_by(ranges, word, texts):
-    """The call with these texts behind its word, by a table of what stands behind each word; None if it isn't one."""
-    if word not in ranges or len(texts) != len(ranges[word]):
-        return None
-    parts = tuple(map(part_of, texts, ranges[word]))
-    return None if None in parts else (word, *parts)
-
-
 def part_of(text, kind):
     """The number, the mode, the writer or the typed bytes that a text is, or None."""
+    if isinstance(kind, tuple):
+        least, greatest = kind
+        is_number = (MILLISECONDS if kind == READING else NUMBER).fullmatch(text)
+        return int(text) if is_number and least <= int(text) <= greatest else None
     if kind == MODE:
         return MODE_OF_WORD.get(text)
     if kind == WRITER:
         return text if text in WRITERS else None
-    if kind == TYPED:
-        return bytes_of(text) if BYTES.fullmatch(text) and len(text) <= 2 * MOST_BYTES else None
-    if not (MILLISECONDS if kind == READING else NUMBER).fullmatch(text):
-        return None
-    (least, greatest), number = kind, int(text)
-    return number if least <= number <= greatest else None
+    return bytes_of(text) if BYTES.fullmatch(text) and len(text) <= 2 * MOST_BYTES else None
 
 
 def bytes_of(text):
@@ -81,9 +78,11 @@ def bytes_of(text):
 
 def text_of(part):
     """A word, a mode, a writer, a number or bytes; the console answers bytes in capitals."""
+    if isinstance(part, int):
+        return str(part)
     if isinstance(part, bytes):
         return part.hex().upper() or "-"
-    return MODE_WORDS.get(part) or str(part)
+    return MODE_WORDS.get(part) or part
 
 
 @lru_cache(maxsize=1 << 14)

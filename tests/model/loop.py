@@ -186,7 +186,7 @@ def next_output(before, now, mode, sample_3, is_open, arithmetic):
         for term in terms(before, now, mode):
             change = arithmetic.term(*term)
             output = output + change if change else output  # adding a fraction of zero takes long
-    return limit(arithmetic.of_units(now.parameters.LO), arithmetic.of_units(now.parameters.HO), output)
+    return arithmetic.limited(now.parameters.LO, now.parameters.HO, output)
 
 
 def terms(before, now, mode):

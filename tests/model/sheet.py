@@ -71,10 +71,15 @@ def joined(earlier, later):
 
 
 class Sheet:
-    """The numbers that it began with, and the answers entered since."""
+    """The numbers that it began with, and the answers entered since.
+
+    What the first so many of them give is kept when it has been told, so that a long sheet isn't told from its first
+    answer on whenever it is asked for.
+    """
 
     def __init__(self, beginning=EMPTY):
         self.beginning, self.entered = beginning, []
+        self.told, self.many = beginning, 0
 
     def enter(self, answer):
         """"the next one leaves it as it was and says full"."""
@@ -84,4 +89,6 @@ class Sheet:
         return "ok"
 
     def numbers(self):
-        return joined(self.beginning, numbers_of(self.entered))
+        self.told = joined(self.told, numbers_of(self.entered[self.many:]))
+        self.many = len(self.entered)
+        return self.told

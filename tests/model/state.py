@@ -33,6 +33,10 @@ class Stored:
         return formulas.stored_term(formula(*numbers))
 
     @staticmethod
+    def limited(low, high, output):
+        return limit(low * STEPS_IN_A_UNIT, high * STEPS_IN_A_UNIT, output)
+
+    @staticmethod
     def whole_units(output):
         return output // STEPS_IN_A_UNIT
 
@@ -56,6 +60,13 @@ class Exact:
     @lru_cache(maxsize=1 << 17)
     def term(formula, *numbers):
         return limit(-TERM_LIMIT, TERM_LIMIT, formula(*numbers))
+
+    @staticmethod
+    def limited(low, high, output):
+        """Compared in whole numbers: fractions take longer."""
+        above, below = output.as_integer_ratio()
+        assert low <= high
+        return Exact.of_units(low) if above < low * below else Exact.of_units(high) if above > high * below else output
 
     @staticmethod
     def whole_units(output):

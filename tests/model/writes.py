@@ -133,5 +133,5 @@ def with_parameter(controller, name, value, arithmetic):
         parameters = parameters._replace(RS=limit(parameters.LR, parameters.HR, parameters.RS))
     output = controller.output
     if name in ("HO", "LO") and mode_of(controller) not in ("Hold", "Track"):
-        output = limit(arithmetic.of_units(parameters.LO), arithmetic.of_units(parameters.HO), output)
+        output = arithmetic.limited(parameters.LO, parameters.HO, output)
     return controller._replace(parameters=parameters, output=output)

@@ -1,1 +1,1 @@
-"""The repository's own checks: layout, names, and names in the documents."""
+"""The repository's own checks: layout, layers of crates, notes on changes, names, and names in the documents."""

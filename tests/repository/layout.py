@@ -7,10 +7,14 @@ Usage: python3 -B -m tests.repository.layout
 - of both the table of roots, which is written by a program, may have more lines;
 - a line of code has at most 140 columns, a line of prose at most 120 (`tests/repository/line_lengths.py`);
 - a file of Rattle or antt uses every name that it imports, and imports it once (`tests/repository/imports.py`);
-- no file names a path in one of the usual folders outside the repository.
+- no file names a path in one of the usual folders outside the repository;
+- every crate stands in one of five layers, and none depends on a higher layer, nor a program on a claim; the picture of
+  the layers has every crate in its layer, and marks those that a host names (`tests/repository/layers.py`);
+- a section of docs/CHANGES.md has at most 30 lines (`tests/repository/changes.py`).
 
-The last line printed is 'N passed, M failed', one count for each file, each function, each line that is too long and
-each name that is imported in vain.
+The last line printed is 'N passed, M failed', one count for each file, each function, each line that is too long, each
+name that is imported in vain, each layer, crate and dependency, each crate of the picture, and each section and line of
+the changes.
 """
 
 import re
@@ -19,6 +23,7 @@ import sys
 
 from tests import ROOT
 from tests.gate import tally
+from tests.repository import changes, layers
 from tests.repository.files import text_of, tracked
 from tests.repository.imports import idle_imports
 from tests.repository.line_lengths import too_long_lines
@@ -95,8 +100,7 @@ def main():
     formatted = subprocess.run(["rt", "fmt", "--check"], cwd=ROOT, capture_output=True, text=True)
     if formatted.returncode != 0:
         found.append("rt fmt --check: " + (formatted.stdout + formatted.stderr).strip())
-    for name in tracked():
-        more, count = faults(name)
+    for more, count in (*map(faults, tracked()), layers.faults(ROOT), changes.change_faults(text_of(changes.NAME))):
         found, looked = found + more, looked + count
     return tally.report(found, looked, "nothing out of order")
 

@@ -47,9 +47,11 @@ WRONG = (
     ("no table", f"\t\t\t12: R_X86_64_PC32\t{TABLE}-0x4\n", "", "relocations"),
     ("many instructions", LOAD, "".join(f"  1{at}:\tadd    $0x0,%edx\n" for at in "234") + LOAD, "10 instructions"),
     ("nothing", RIGHT, "", "0 instructions"))
-CALL = f"   0:\tcall   5 <main+0x5>\n\t\t\t1: R_X86_64_PLT32\t.text.{FUNCTION}-0x4"
+ONE_CALL = f"   0:\tcall   5 <main+0x5>\n\t\t\t1: R_X86_64_PLT32\t.text.{FUNCTION}-0x4"
+CALL = f"{ONE_CALL}\n{ONE_CALL}"
 # The lines of another function beside the right look-up, and a fault that must be found in the program, if any
-OTHERS = ((CALL, ""), (f"{CALL}\n   5:\tsub    $0x2710,%rsp", ""), ("   0:\tret", "never called"),
+OTHERS = ((CALL, ""), (f"{CALL}\n   5:\tsub    $0x2710,%rsp", ""), ("   0:\tret", "called at 0 places"),
+          (ONE_CALL, "called at 1 places"),
           (f"{CALL}\n   5:\tsub    $0x2000,%rsp\n   9:\tsub    $0x2000,%rsp", "16384 bytes on its stack"),
           (f"{CALL}\n   5:\tlea    0x0(%rip),%rax\n\t\t\t8: R_X86_64_PC32\t{TABLE}-0x4", "used elsewhere"))
 # Constant data: its sections, its roots, and a fault that must be found, if any

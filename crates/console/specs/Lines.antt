@@ -6,10 +6,10 @@ use lib.ListN.{length, replicate}
 use Rattle.formatting.specs.Buffer.{buffer, appendAll}
 use Rattle.formatting.specs.Laws.{replaced}
 use Rattle.lines.specs.Lines.{startOf}
-use Rattle.console.specs.Commands.{commandIn, bytesAfter}
-use Rattle.console.specs.Replies.{replyLine}
+use Rattle.commands.specs.Commands.{commandIn, bytesAfter}
+use Rattle.replies.specs.Replies.{replyLine}
 use Rattle.console.specs.Sessions.{sessionStep, sessionBuffer}
-use Rattle.console.specs.declared.request.Command.{Command}
+use Rattle.commands.specs.declared.Command.{Command}
 use Rattle.console.specs.declared.session.Session.{Session}
 use Rattle.console.specs.declared.session.SessionStep.{SessionStep}
 
@@ -32,7 +32,7 @@ lineSaved s line len = sessionBuffer s (lineCommand line len) (lineBytes line le
 abbrev pub answerLine : Session → List ℕ → ℕ → List ℕ
 answerLine s line len =
     let step = lineStep s line len in
-    replyLine (step .reply) (lineSaved s line len) (step .session .sheet)
+    replyLine (step .reply) (lineSaved s line len) (step .session .sheet .sheet)
 
 -- A line's command is performed, and the line of the reply is appended to the output.
 pub record Performed (s next : Session) (line : List ℕ) (len : ℕ) (before after : List ℕ) (used end : ℕ) : Type 0 where

@@ -13,26 +13,22 @@
 //     sheet-new                              ok
 //     sheet-last                             ok, or full: enters the answer of the last accepted scan
 //     sheet-feed MODE PV DS OP               ok, or full: enters an answer with these values
+//     sheet-number PLACE VALUE               ok: sets one of the sixteen numbers of a kept sheet, all 0 at first
+//     sheet-kept                             ok, or refused: the sheet with these numbers, if it is a valid one
 //     sheet                                  sheet scans=N hold=N track=N forced=N manual=N auto=N remote=N ratio=N
 //                                                fallback=N max=V@N min=V@N alarms=N sumpv=V sumop=V, in one line
-// A line that is no such command gets `error` and changes nothing. Before the first `fresh` the controller is fresh
-// with SW 0, and before the first `sheet-new` the sheet is empty.
+// and those of the arithmetic, each answered with a number:
+//     scale L H SAMPLE, root SAMPLE, ratio Q S, inverse Q S, limit LOW HIGH VALUE, proportional XP W CHANGE,
+//     integral XP W TI MINUTES C, derivative XP W TD MINUTES INVERTED D
+// A line that is no such command gets `error` and changes nothing. A run begins with a controller that is fresh with
+// SW 0, an empty sheet, and all numbers of a kept one 0.
 ghost use mathlib.Core.Path.{_≡_};
 ghost use lib.ListN.{length};
 ghost use Rattle.console.specs.Lines.{Performed};
 ghost use Rattle.console.specs.Sessions.{ValidSession};
 use session::Session;
 
-mod call;
-mod filled;
-mod image;
-mod print;
-mod request;
 mod session;
-mod sheet_call;
-mod terminal_line;
-mod write_call;
-mod writer;
 
 // The session after a line, and how much of the output is used.
 struct Answered {
@@ -49,15 +45,16 @@ fn line_answer(session: Session, line: &[u8], len: usize, out: &mut [u8], used: 
         × Performed session (r .session) (now (line .entry)) len (now (out .entry)) (now (out .exit)) used (r .used) ⌝ }
 {
     let free = lines::room(out, used);
-    let mut buffer = image::buffer();
-    let command = request::parse(line, len, &mut buffer);
+    let mut buffer = controller_calls::buffer();
+    let command = commands::parse(line, len, &mut buffer);
     let step = session::perform(session, command, &mut buffer);
     let next = step.session;
     let reply = step.reply;
-    let sheet = next.sheet;
+    let held = next.sheet;
+    let sheet = held.sheet;
     Answered {
         session: next,
-        used: print::append_reply(out, free, reply, &buffer, sheet),
+        used: replies::append_reply(out, free, reply, &buffer, sheet),
     }
 }
 

@@ -1,24 +1,18 @@
 // What a run holds from line to line, and what comes of a command.
 ghost use mathlib.Core.Path.{_≡_};
-ghost use Rattle.console.specs.Sessions.{ValidSession, firstSession, lastAfter, afterCall, sessionStep, sessionBuffer};
-use crate::call::Reply;
-use crate::call::Step;
-use crate::request::Command;
-use answers::ScanValues;
+ghost use Rattle.sheet_session.specs.SheetSessions.{sheetStep};
+ghost use Rattle.console.specs.Sessions.{ValidSession, firstSession, afterCall, afterSheetCall, sessionStep, sessionBuffer};
+use commands::Command;
+use commands::SheetCall;
 use controller::Controller;
-use sheet::Sheet;
-
-// The answer of the last accepted scan, if there was one.
-pub enum LastAnswer {
-    None,
-    Answer(ScanValues),
-}
+use controller_calls::Step;
+use replies::Reply;
+use sheet_session::SheetSession;
 
 // The state of a run.
 pub struct Session {
     pub controller: Controller,
-    pub sheet: Sheet,
-    pub last: LastAnswer,
+    pub sheet: SheetSession,
 }
 
 // The session after a line, and the reply to it.
@@ -27,49 +21,48 @@ pub struct SessionStep {
     pub reply: Reply,
 }
 
-// Before the first line: a controller that is fresh with SW 0, an empty sheet, and no answer. The contract rules out
-// others.
+// Before the first line: a controller that is fresh with SW 0, and of the sheet what a run begins with. The contract
+// rules out others.
 pub fn first() -> Session
     ensures { λ r. ⌜ (r ≡ firstSession) × ValidSession r ⌝ }
 {
     Session {
         controller: Controller::fresh(0),
-        sheet: Sheet::empty(),
-        last: LastAnswer::None,
+        sheet: sheet_session::first(),
     }
 }
 
-// The contract rules out that anything but an accepted scan changes the last answer.
-fn last_after(last: LastAnswer, reply: Reply) -> LastAnswer
-    ensures { λ r. ⌜ r ≡ lastAfter last reply ⌝ }
-{
-    match reply {
-        Reply::Answer(values) => LastAnswer::Answer(values),
-        Reply::Accepted => last,
-        Reply::Value(_) => last,
-        Reply::Clock(_) => last,
-        Reply::Image => last,
-        Reply::Line(_) => last,
-        Reply::WholeSheet => last,
-        Reply::Full => last,
-        Reply::Refused(_) => last,
-        Reply::Error => last,
-    }
-}
-
-// After a call of the controller: the sheet stays. The contract rules out a controller other than the call's.
+// After a call of the controller. The contract rules out a controller other than the call's, and that the sheet
+// changes.
 fn after_call(session: Session, step: Step) -> SessionStep
     ensures { λ r. ⌜ r ≡ afterCall session step ⌝ }
 {
     let controller = step.controller;
     let reply = step.reply;
     let sheet = session.sheet;
-    let last = session.last;
     SessionStep {
         session: Session {
             controller,
-            sheet,
-            last: last_after(last, reply),
+            sheet: sheet_session::after_reply(sheet, reply),
+        },
+        reply,
+    }
+}
+
+// Performs a command of the sheet. The contract rules out that it changes the controller.
+fn perform_sheet_call(session: Session, call: SheetCall) -> SessionStep
+    requires { ⌜ ValidSession session ⌝ }
+    ensures { λ r. ⌜ (r ≡ afterSheetCall session (sheetStep (session .sheet) call)) × ValidSession (r .session) ⌝ }
+{
+    let controller = session.controller;
+    let sheet = session.sheet;
+    let step = sheet_session::perform(sheet, call);
+    let next = step.session;
+    let reply = step.reply;
+    SessionStep {
+        session: Session {
+            controller,
+            sheet: next,
         },
         reply,
     }
@@ -87,10 +80,14 @@ pub fn perform(session: Session, command: Command, buffer: &mut [u8]) -> Session
     match command {
         Command::Call(call) => {
             let controller = session.controller;
-            let step = crate::call::perform(controller, call, buffer);
+            let step = controller_calls::perform(controller, call, buffer);
             after_call(session, step)
         }
-        Command::Sheet(call) => crate::sheet_call::perform(session, call),
+        Command::Sheet(call) => perform_sheet_call(session, call),
+        Command::Calculated(number) => SessionStep {
+            session,
+            reply: Reply::Number(number),
+        },
         Command::Invalid => SessionStep {
             session,
             reply: Reply::Error,

@@ -1,6 +1,5 @@
 pub mod ModeWords
 pub mod ModeLaws
 pub mod Answers
-pub mod AnswerLaws
 pub mod Appended
 pub mod SheetText

@@ -13,38 +13,36 @@ pub enum ParsedAnswer {
     Malformed,
 }
 
-// The answer with this mode and the numbers PV DS OP, with a PV from least to most. The contract rules out a number of
-// another place, one out of its range that is taken, and one in range that isn't.
-fn of_numbers(mode: Mode, values: [i64; 6], least: i32, most: i32) -> ParsedAnswer
-    ensures { λ r. ⌜ r ≡ answerOfNumbers mode values least most ⌝ }
+// The answer with this mode and the numbers PV DS OP, with a PV of 32 bits. The contract rules out a number of another
+// place, one out of its range that is taken, and one in range that isn't.
+fn of_numbers(mode: Mode, values: [i64; 6]) -> ParsedAnswer
+    ensures { λ r. ⌜ r ≡ answerOfNumbers mode values ⌝ }
 {
-    let pv = values[0];
+    let pv = text::arguments::integer_in(values[0]);
     let ds = text::arguments::natural_in(values[1], 0, 65535);
     let op = text::arguments::natural_in(values[2], 0, 65535);
-    let above = integers::not_above(integers::wide(least), pv);
-    let below = integers::not_above(pv, integers::wide(most));
-    if above & below & ds.ok & op.ok {
+    if pv.ok & ds.ok & op.ok {
         return ParsedAnswer::Answer(ScanValues {
             md: 0,
             ds: ds.value as u16,
             op: op.value as u16,
             electrical: 0,
             mode,
-            pv: integers::narrow(pv),
+            pv: pv.value,
         });
     }
     ParsedAnswer::Malformed
 }
 
 // The contract rules out an answer without a mode, and one with a number too few or too many.
-fn of_words(mode: ParsedMode, arguments: Arguments, least: i32, most: i32) -> ParsedAnswer
-    ensures { λ r. ⌜ r ≡ answerOf mode arguments least most ⌝ }
+fn of_words(mode: ParsedMode, arguments: Arguments) -> ParsedAnswer
+    ensures { λ r. ⌜ r ≡ answerOf mode arguments ⌝ }
 {
     match mode {
         ParsedMode::Mode(m) => {
             let values = arguments.values;
             if text::arguments::has(arguments, 3) {
-                of_numbers(m, values, least, most)
+                of_numbers(m, values)
             } else {
                 ParsedAnswer::Malformed
             }
@@ -53,15 +51,15 @@ fn of_words(mode: ParsedMode, arguments: Arguments, least: i32, most: i32) -> Pa
     }
 }
 
-// The answer that a line has from a position on, with a PV from least to most. The contract rules out another answer
-// than the line has, and one that is taken of a line with another form.
-pub fn parse(line: &[u8], start: usize, least: i32, most: i32) -> ParsedAnswer
+// The answer that a line has from a position on. The contract rules out another answer than the line has, and one that
+// is taken of a line with another form.
+pub fn parse(line: &[u8], start: usize) -> ParsedAnswer
     requires { ⌜ start ≤ length (now line) ⌝ }
-    ensures { λ r. ⌜ r ≡ answerFrom (now (line .entry)) start least most ⌝ }
+    ensures { λ r. ⌜ r ≡ answerFrom (now (line .entry)) start ⌝ }
 {
     let w = text::word(line, start);
     let from = w.from;
     let to = w.to;
     let mode = crate::mode::parse(&line[from..to]);
-    of_words(mode, text::arguments::parse(line, to), least, most)
+    of_words(mode, text::arguments::parse(line, to))
 }

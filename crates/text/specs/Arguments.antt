@@ -1,16 +1,18 @@
 -- The numbers of a line from a position on, as a call's arguments: at most six.
-use mathlib.Core.Bool.{Bool, true, false, _||_, cond}
+use mathlib.Core.Bool.{Bool, true, false, _&&_, _||_, cond}
 use mathlib.Core.List.{List, [], _∷_, _++_}
 use Prim.Native.Nat.{ℕ, zero, suc, _-_}
 use lib.Dec.{eqb, ltb}
-use lib.IntN.{ℤ, pos, natAbs}
+use lib.IntN.{ℤ, pos, negℤ, natAbs}
 use lib.ListN.{length, take, drop, getD, replicate}
+use lib.Signed.{leZ}
 use Rattle.integers.specs.Sign.{isNegative}
 use Rattle.numerals.specs.Parsed.{numberOf}
 use Rattle.numerals.specs.declared.ParsedNumber.{ParsedNumber}
 use Rattle.numerals.specs.declared.ParsedNumber.the-variants.{Number, Malformed}
 use Rattle.text.specs.Words.{wordAt, sameBytes}
 use Rattle.text.specs.declared.arguments.Arguments.{Arguments}
+use Rattle.text.specs.declared.arguments.Integer.{Integer}
 use Rattle.text.specs.declared.arguments.Natural.{Natural}
 
 -- the bytes of a line from a position up to another
@@ -66,3 +68,10 @@ naturalIn value least most =
     cond (isNegative value || (ltb (natAbs value) least || ltb most (natAbs value)))
     (record { ok = false; value = least })
     (record { ok = true; value = natAbs value })
+
+-- an integer of 32 bits
+unfoldable pub integerIn : ℤ → Integer
+integerIn value =
+    cond (leZ (negℤ (pos 2147483648)) value && leZ value (pos 2147483647))
+    (record { ok = true; value = value })
+    (record { ok = false; value = pos 0 })

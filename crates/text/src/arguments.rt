@@ -1,7 +1,7 @@
 // The arguments of a call: the decimal numbers of a line from a position on, each of up to eighteen digits.
 ghost use mathlib.Core.Path.{_≡_};
 ghost use Prim.Native.Nat.{_≤_, max};
-ghost use Rattle.text.specs.Arguments.{argumentsFrom, hasCount, isCall, naturalIn};
+ghost use Rattle.text.specs.Arguments.{argumentsFrom, hasCount, isCall, naturalIn, integerIn};
 use numerals::ParsedNumber;
 
 // The numbers in front of the first word that is none, zeros behind them; `ok` says whether all words are numbers and
@@ -16,6 +16,12 @@ pub struct Arguments {
 pub struct Natural {
     pub ok: bool,
     pub value: u64,
+}
+
+// A number of 32 bits; `ok` is false, and the value 0, where there are more.
+pub struct Integer {
+    pub ok: bool,
+    pub value: i32,
 }
 
 fn result(ok: bool, count: usize, values: [i64; 6]) -> Arguments
@@ -103,5 +109,21 @@ pub fn natural_in(value: i64, least: u64, most: u64) -> Natural
     Natural {
         ok: true,
         value: size,
+    }
+}
+
+// The contract rules out a value of 32 bits that is refused, and another number in its place.
+pub fn integer_in(value: i64) -> Integer
+    ensures { λ r. ⌜ r ≡ integerIn value ⌝ }
+{
+    if integers::not_above(-2147483648, value) & integers::not_above(value, 2147483647) {
+        return Integer {
+            ok: true,
+            value: integers::narrow(value),
+        };
+    }
+    Integer {
+        ok: false,
+        value: 0,
     }
 }

@@ -7,7 +7,7 @@ use borrow.Author.Needs.{needs}
 use Rattle.lines.specs.Lines.{startOf}
 use Rattle.lines.specs.LinesLaws.{start-most}
 use Rattle.console.specs.Lines.{lineSaved, lineStep}
-use Rattle.console.specs.ReplyLaws.{reply-fits}
+use Rattle.replies.specs.ReplyLaws.{reply-fits}
 use Rattle.console.specs.declared.session.SessionStep.{SessionStep}
 use Rattle.console.proofs.line_answer.Statement.{statement}
 use Rattle.console.proofs.line_answer.Tie as tie
@@ -42,7 +42,7 @@ same-length c = search needs
 returns : tie.Need-returns
 returns c =
     let a = c .before .before in
-    let p = a .before .before .before .before .before .before in
+    let p = a .before .before .before .before .before .before .before in
     let q = p .before .before .before in
     let empty = q .before .before in
     let room = empty .before in
@@ -54,7 +54,7 @@ returns c =
     let parsed = rw (empty .buffer .ensures .0) at (q .parse .ensures) in
     let result = rw (parsed .0, parsed .1) at (p .perform .ensures) in
     let reply = ap (λ (s : SessionStep). s .reply) (result .0) in
-    let sheet = ap (λ (s : SessionStep). s .session .sheet) (result .0) in
+    let sheet = ap (λ (s : SessionStep). s .session .sheet .sheet) (result .0) in
     let short : length (lineSaved session line len) ≤ 346 =
     rw (← (result .1)) (omega (arith, p .perform .kept .1 .1 .0, q .parse .kept .1 .1 .0, empty .buffer .ensures .1)) in
     let o = rw (room .room .ensures, reply, sheet, result .1) at (a .append-reply .ensures .0) in (
@@ -64,7 +64,7 @@ returns c =
         output = o;
         whole = λ size.
             o ∙
-            reply-fits (step .reply) (lineSaved session line len) (step .session .sheet) (start .args .out .now)
+            reply-fits (step .reply) (lineSaved session line len) (step .session .sheet .sheet) (start .args .out .now)
             (startOf (start .args .used)) (rw (reply, sheet) at (a .append-reply .ensures .1)) short (start-most (start .args .used)) size;
       },
     )

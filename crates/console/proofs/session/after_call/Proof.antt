@@ -4,12 +4,12 @@ use Rattle.console.specs.Sessions.{afterCall}
 use Rattle.console.proofs.session.after_call.Statement.{statement}
 use Rattle.console.proofs.session.after_call.Tie as tie
 
-last-after-requires : tie.Need-last-after-requires
-last-after-requires c κs = tt
+after-reply-requires : tie.Need-after-reply-requires
+after-reply-requires c κs = tt
 
 returns : tie.Need-returns
 unfolding afterCall
-returns c = rw (c .last-after .ensures) refl
+returns c = rw (c .after-reply .ensures) refl
 
 pub after-call-spec : {M : Type 1} → statement M
-after-call-spec = tie.close (tie.spec last-after-requires returns)
+after-call-spec = tie.close (tie.spec after-reply-requires returns)

@@ -7,14 +7,14 @@ use Rattle.console.proofs.session.first.Tie as tie
 fresh-requires : tie.Need-fresh-requires
 fresh-requires c κs = tt
 
-empty-requires : tie.Need-empty-requires
-empty-requires c κs = tt
+first-requires : tie.Need-first-requires
+first-requires c κs = tt
 
 returns : tie.Need-returns
 unfolding firstSession
 returns c =
     let fresh = c .before .fresh .ensures in
-    (rw (fresh .0, c .empty .ensures .0) refl, record { controller = fresh .1; sheet = c .empty .ensures .1 })
+    (rw (fresh .0, c .first .ensures .0) refl, record { controller = fresh .1; sheet = c .first .ensures .1 })
 
 pub first-spec : {M : Type 1} → statement M
-first-spec = tie.close (tie.spec fresh-requires empty-requires returns)
+first-spec = tie.close (tie.spec fresh-requires first-requires returns)

@@ -1,23 +1,20 @@
 -- `sheet_lines::answer::of_numbers` meets its contract.
-use mathlib.Core.Bool.{_&&_}
 use mathlib.Core.List.{List}
-use mathlib.Core.Path.{_≡_, refl, sym, _∙_}
+use mathlib.Core.Path.{_≡_, refl}
 use native.Mathlib.Omega.{arith}
 use lib.IntN.{ℤ}
-use lib.Signed.{leZ}
-use mir.Facts.{toZ-ofZ}
 use mir.Syntax.{w32, w64}
-use mir.Val.{toZ, ofZ}
-use Rattle.integers.specs.Choice.{both}
 use Rattle.integers.specs.Machine.{back}
-use Rattle.text.specs.Arguments.{argument, naturalIn}
+use Rattle.text.specs.Arguments.{argument, naturalIn, integerIn}
 use Rattle.sheet_lines.specs.Answers.{answerOfNumbers}
-use Rattle.sheet_lines.specs.AnswerLaws.{held-between, order-is}
 use Rattle.sheet_lines.proofs.answer.of_numbers.Statement.{statement}
 use Rattle.sheet_lines.proofs.answer.of_numbers.Tie as tie
 
-array-copy-out-pv : tie.Need-array-copy-out-pv
-array-copy-out-pv c = omega arith
+array-copy-out-integer-in : tie.Need-array-copy-out-integer-in
+array-copy-out-integer-in c = omega arith
+
+integer-in-requires : tie.Need-integer-in-requires
+integer-in-requires c κs = tt
 
 array-copy-out-natural-in : tie.Need-array-copy-out-natural-in
 array-copy-out-natural-in c = omega arith
@@ -31,108 +28,57 @@ array-copy-out-natural-in-2 c = omega arith
 natural-in-requires-2 : tie.Need-natural-in-requires-2
 natural-in-requires-2 c κs = tt
 
-wide-requires : tie.Need-wide-requires
-wide-requires c κs = tt
+cast-t16 : tie.Need-cast-t16
+cast-t16 c = omega arith
 
-not-above-requires : tie.Need-not-above-requires
-not-above-requires c κs = tt
-
-wide-requires-2 : tie.Need-wide-requires-2
-wide-requires-2 c κs = tt
-
-not-above-requires-2 : tie.Need-not-above-requires-2
-not-above-requires-2 c κs = tt
-
-cast-t21 : tie.Need-cast-t21
-cast-t21 c = omega arith
-
-cast-t22 : tie.Need-cast-t22
-cast-t22 c = omega arith
+cast-t17 : tie.Need-cast-t17
+cast-t17 c = omega arith
 
 -- what each call gives
-module _ (n : tie.After-not-above2) where
-  abbrev first : tie.After-not-above
-  first = n .before .before
+module _ (three : tie.After-natural-in2) where
+  abbrev two : tie.After-natural-in
+  two = three .before .before
 
-  abbrev two : tie.After-natural-in2
-  two = first .before .before
-
-  abbrev one : tie.After-natural-in
+  abbrev one : tie.After-integer-in
   one = two .before .before
 
-  abbrev start : tie.Start
-  start = one .before .before .before
-
   abbrev values : List ℤ
-  values = start .args .t2
+  values = one .before .before .args .t2
 
-  pv-back : toZ w64 (ofZ w64 (argument values 0)) ≡ argument values 0
-  pv-back = back w64 (argument values 0) (one .before .before .pv .given)
+  pv-is : one .integer-in .result ≡ integerIn (argument values 0)
+  pv-is = rw (back w64 (argument values 0) (one .before .integer-in-arg .given)) at (one .integer-in .ensures)
 
-  above-is : first .not-above .result ≡ leZ (start .args .least) (argument values 0)
-  above-is =
-      let w = first .before .wide in
-      order-is _ _ (first .not-above .ensures) (back w64 (w .result) (w .ok) ∙ w .ensures ∙ toZ-ofZ (start .fits .least)) pv-back
+  ds-is : two .natural-in .result ≡ naturalIn (argument values 1) 0 65535
+  ds-is = rw (back w64 (argument values 1) (two .before .natural-in-arg .given)) at (two .natural-in .ensures .0)
 
-  below-is : n .not-above2 .result ≡ leZ (argument values 0) (start .args .most)
-  below-is =
-      let w = n .before .wide2 in
-      order-is _ _ (n .not-above2 .ensures) pv-back (back w64 (w .result) (w .ok) ∙ w .ensures ∙ toZ-ofZ (start .fits .most))
-
-  ds-is : one .natural-in .result ≡ naturalIn (argument values 1) 0 65535
-  ds-is = rw (back w64 (argument values 1) (one .before .natural-in-arg .given)) at (one .natural-in .ensures .0)
-
-  op-is : two .natural-in2 .result ≡ naturalIn (argument values 2) 0 65535
-  op-is = rw (back w64 (argument values 2) (two .before .natural-in-arg2 .given)) at (two .natural-in2 .ensures .0)
-
-narrow-requires : tie.Need-narrow-requires
-narrow-requires c κs =
-    let t = c .before .before in
-    let n = t .before .before .before in
-    let s = start n in
-    let range = both (first n .not-above .result && n .not-above2 .result) _ (both _ _ (t .if1 .taken) .0) .0 in
-    let each = both (first n .not-above .result) (n .not-above2 .result) range in
-    rw (pv-back n)
-    (held-between (s .args .least) (argument (values n) 0) (s .args .most) (s .fits .least .sfits) (s .fits .most .sfits)
-    (sym (above-is n) ∙ each .0) (sym (below-is n) ∙ each .1))
+  op-is : three .natural-in2 .result ≡ naturalIn (argument values 2) 0 65535
+  op-is = rw (back w64 (argument values 2) (three .before .natural-in-arg2 .given)) at (three .natural-in2 .ensures .0)
 
 returns : tie.Need-returns
 unfolding answerOfNumbers
 returns c =
-    let t = c .before .before .before in
-    let n = t .before .before .before in
-    rw (
-      ← above-is n,
-      ← below-is n,
-      ← ds-is n,
-      ← op-is n,
-      t .if1 .taken,
-      back w32 (c .narrow .result) (c .narrow .ok),
-      c .narrow .ensures,
-      pv-back n,
-    ) refl
+    let test = c .before .before .before in
+    let n = test .before .before .before .before in
+    let same = back w32 (one n .integer-in .result .value) (c .struct-told .given .1 .0 .1) in
+    rw (← pv-is n, ← ds-is n, ← op-is n, test .if1 .taken, same) refl
 
 returns-2 : tie.Need-returns-2
 unfolding answerOfNumbers
 returns-2 c =
-    let n = c .before .before .before in
-    rw (← above-is n, ← below-is n, ← ds-is n, ← op-is n, c .if1 .left) refl
+    let n = c .before .before .before .before in
+    rw (← pv-is n, ← ds-is n, ← op-is n, c .if1 .left) refl
 
 pub of-numbers-spec : {M : Type 1} → statement M
 of-numbers-spec =
     tie.close
     (tie.spec
-    array-copy-out-pv
+    array-copy-out-integer-in
+    integer-in-requires
     array-copy-out-natural-in
     natural-in-requires
     array-copy-out-natural-in-2
     natural-in-requires-2
-    wide-requires
-    not-above-requires
-    wide-requires-2
-    not-above-requires-2
-    cast-t21
-    cast-t22
-    narrow-requires
+    cast-t16
+    cast-t17
     returns
     returns-2)

@@ -1,7 +1,6 @@
 -- `sheet_lines::answer::of_words` meets its contract.
 use borrow.Author.Needs.{needs}
 use mathlib.Core.Path.{refl, sym, _∙_}
-use mir.Facts.{toZ-ofZ}
 use Rattle.sheet_lines.specs.Answers.{answerOf}
 use Rattle.sheet_lines.proofs.answer.of_words.Statement.{statement}
 use Rattle.sheet_lines.proofs.answer.of_words.Tie as tie
@@ -24,8 +23,7 @@ returns c =
     let t = c .before in
     let h = t .before in
     let e = h .before .before .before .mode .given .1 in
-    let fits = h .before .before .before .before .before .fits in
-    rw (e, sym (h .has .ensures) ∙ t .if1 .taken) (rw (toZ-ofZ (fits .least), toZ-ofZ (fits .most)) at (c .of-numbers .ensures))
+    rw (e, sym (h .has .ensures) ∙ t .if1 .taken) (c .of-numbers .ensures)
 
 returns-2 : tie.Need-returns-2
 unfolding answerOf

@@ -1,6 +1,5 @@
 -- `sheet_lines::answer::parse` meets its contract.
 use native.Mathlib.Omega.{arith}
-use mir.Facts.{toZ-ofZ}
 use Rattle.sheet_lines.specs.Answers.{answerFrom}
 use Rattle.sheet_lines.proofs.answer.parse.Statement.{statement}
 use Rattle.sheet_lines.proofs.answer.parse.Tie as tie
@@ -31,9 +30,8 @@ unfolding answerFrom
 returns c =
     let m = c .before .before in
     let w = m .before .before in
-    let s = w .before .before in
     rw (← (w .word .ensures .0), ← (m .parse .ensures))
-    (rw (c .before .parse2 .ensures, toZ-ofZ (s .fits .least), toZ-ofZ (s .fits .most)) at (c .of-words .ensures))
+    (rw (c .before .parse2 .ensures) at (c .of-words .ensures))
 
 pub parse-spec : {M : Type 1} → statement M
 parse-spec =

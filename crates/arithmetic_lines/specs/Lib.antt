@@ -1,0 +1,2 @@
+pub mod Calculations
+pub mod Ranges

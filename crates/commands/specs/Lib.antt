@@ -1,0 +1,2 @@
+pub mod Writers
+pub mod Commands
