@@ -28,8 +28,7 @@ class Coverage:
             self.counts[f"line: {kind} of {word}"] += count
 
     def count(self, *names):
-        for name in names:
-            self.counts[name] += 1
+        self.counts.update(names)
 
     def join(self, other):
         """With what another run met."""

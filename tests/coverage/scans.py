@@ -7,6 +7,7 @@ from tests.lists.line_forms import line_errors_of, other_forms_of
 from tests.model.words import AUTOMATIC, MODES, mode_of
 
 BUTTONS = {"Lower": 7, "Raise": 6, "SP": 3, "R": 2, "A": 1, "M": 0}
+SINGLE_PINS = {pins: f"pin {place} alone at {pins >> place & 1}" for place in range(8) for pins in (1 << place, 255 - (1 << place))}
 # One SW has either Remote or Ratio; every other mode may follow every mode.
 TRANSITIONS = [(before, after) for before in MODES for after in MODES if {before, after} != {"Remote", "Ratio"}]
 AT_THE_85TH = ("minimum, S2.2 ON", "minimum, S2.2 OFF", "automatic before, S2.5 OFF", "S2.5 ON, Manual before",
@@ -45,6 +46,12 @@ def switches_in(SW, mode):
     return (*positions, *(f"{position} in {mode}" for position in positions))
 
 
+@lru_cache(maxsize=1 << 8)
+def pressed_in(buttons):
+    pressed = [name for name, place in BUTTONS.items() if on(buttons, place)]
+    return [f"button {pressed[0]} alone"] if len(pressed) == 1 else ["two buttons or more"] if pressed else []
+
+
 class ScanCoverage(Coverage):
     title, least_counts = "scans", staticmethod(least_counts)
 
@@ -64,9 +71,8 @@ class ScanCoverage(Coverage):
         for place, sample in enumerate(samples, 1):
             if sample in (0, 10000, 10001, 65535):
                 self.counts[f"sample {place} at {sample}"] += 1
-        for place in range(8):
-            if pins in (1 << place, 255 - (1 << place)):
-                self.counts[f"pin {place} alone at {pins >> place & 1}"] += 1
+        if pins in SINGLE_PINS:
+            self.counts[SINGLE_PINS[pins]] += 1
 
     def refused(self, call, before, number):
         _, _, *samples, buttons, sensors, _ = call
@@ -79,8 +85,7 @@ class ScanCoverage(Coverage):
         was, mode = mode_of(before), mode_of(after)
         names = ["scans, accepted", f"mode {mode}", f"{was} to {mode}"]
         names += switches_in(after.SW, mode)
-        pressed = [name for name, place in BUTTONS.items() if on(after.buttons, place)]
-        names += [f"button {pressed[0]} alone"] if len(pressed) == 1 else ["two buttons or more"] if pressed else []
+        names += pressed_in(after.buttons)
         names += ["battery low"] if after.battery_low else []
         if after.open_count:
             names += [f"open scan {after.open_count}"] + (["open in an automatic mode"] if mode in AUTOMATIC else [])

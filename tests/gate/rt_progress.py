@@ -5,7 +5,6 @@ the crate's start on, and closes with what came of it. These files are for a per
 is `rt`'s own, its exit status and its last line.
 """
 
-import os
 import pathlib
 import re
 import threading
@@ -17,9 +16,6 @@ from tests.gate.steps import run_step
 SECONDS = re.compile(r"(\d+) s\)$")
 RUN = re.compile(r"rt: (\w+) (ran\b|proved, and its run FAILED).*\((\d+) s\)")
 MOST_COLUMNS = 160  # of what `rt` says of a failure
-# How many crates or edits `rt` checks at once, unless RT_JOBS says otherwise. It starts none before all of a batch have
-# ended, so with two at once on two processors one of them often waits
-AT_ONCE = 4
 
 
 class Kind(NamedTuple):
@@ -143,7 +139,6 @@ def run_rt(name, command, folder, progress, has_edits=False):
     """Runs `rt` as a step; each crate, edit and program is shown as it ends."""
     watch = Watch(folder, progress, has_edits)
     with repeated(watch.poll):
-        at_once = os.environ.get("RT_JOBS", str(AT_ONCE))
-        ended = run_step(name, ["env", f"RT_JOBS={at_once}", *command], folder, watch.hear)
+        ended = run_step(name, command, folder, watch.hear)
     watch.close()
     return ended

@@ -125,7 +125,7 @@ def forms(source):
 
 
 def call_list(generator, kind, number):
-    """One list, which begins with a fresh start with a drawn switch word."""
+    """One list: a sheet is begun, then comes a fresh start with a drawn switch word."""
     source = BetweenSource(generator, number)
     calls = source.following(itertools.chain([("fresh", switch_word(generator))], kind(source)))
     return list(entries(source, source.between(calls)))

@@ -62,18 +62,21 @@ def brings_fault(image):
 
 def first_mode_present(exact):
     """Step 3: the first in the priority order whose condition is present."""
-    hold_pin, track_pin, remote_pin = bit(exact.pins, 7), bit(exact.pins, 6), bit(exact.pins, 5)
-    ratio_switch = bit(exact.SW, 15)
-    cause = exact.memory_fault or exact.open_count > 84
+    return first_of_conditions(exact.pins, bit(exact.SW, 15), exact.memory_fault or exact.open_count > 84, exact.request)
+
+
+@lru_cache(maxsize=1 << 12)
+def first_of_conditions(pins, ratio_switch, cause, request):
+    hold_pin, track_pin, remote_pin = bit(pins, 7), bit(pins, 6), bit(pins, 5)
     conditions = (
         ("Hold", hold_pin == 0),
         ("Track", track_pin == 1),
         ("Forced Manual", cause),
-        ("Manual", exact.request == "M"),
-        ("Auto", exact.request == "A"),
-        ("Remote", exact.request == "R" and remote_pin == 1 and ratio_switch == 0),
-        ("Ratio", exact.request == "R" and remote_pin == 1 and ratio_switch == 1),
-        ("Fall-back", exact.request == "R" and remote_pin == 0))
+        ("Manual", request == "M"),
+        ("Auto", request == "A"),
+        ("Remote", request == "R" and remote_pin == 1 and ratio_switch == 0),
+        ("Ratio", request == "R" and remote_pin == 1 and ratio_switch == 1),
+        ("Fall-back", request == "R" and remote_pin == 0))
     return next(mode for mode, present in conditions if present)
 
 
