@@ -55,11 +55,9 @@ def arithmetic_lines(generator):
     return lines
 
 
-def compare(name, programs, inputs_of_both):
-    """How many lines two programs answer alike, each given its own lines, and the faults."""
-    (old, old_trouble), (new, new_trouble) = (run_lines(program, lines, PROGRAM_SECONDS)
-                                              for program, lines in zip(programs, inputs_of_both, strict=True))
-    lines = inputs_of_both[1]
+def compare(name, programs, lines):
+    """How many lines two programs answer alike, and the faults."""
+    (old, old_trouble), (new, new_trouble) = (run_lines(program, lines, PROGRAM_SECONDS) for program in programs)
     different = [number for number, (one, other) in enumerate(zip(old.split("\n"), new.split("\n"))) if one != other]
     is_whole = not old_trouble + new_trouble and old.count("\n") == new.count("\n") == len(lines)
     print(f"{name}: {len(lines)} lines, {len(different)} answered otherwise", flush=True)
@@ -71,7 +69,7 @@ def main():
     programs = [pathlib.Path(folder) / PROGRAM for folder in sys.argv[1:3]]
     passed, faults = 0, []
     for name, lines in inputs():
-        alike, found = compare(name, programs, (lines, lines))
+        alike, found = compare(name, programs, lines)
         passed, faults = passed + alike, faults + found
     print("\n".join(faults[:10]) or "all are answered alike")
     return tally.close(passed, len(faults))
