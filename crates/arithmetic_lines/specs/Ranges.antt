@@ -13,6 +13,6 @@ pub read_back : (z : ℤ) (most : ℕ) → leb most 999999999 ≡ true → nat_a
 read_back z most few h = back w64 z (omega (arith, number z, leb-true most 999999999 few))
 
 -- two ends in their range and in order, and a sample in its range, are what `scaling::scale` asks
-pub channel-range : {low high : ℤ} {sample : ℕ} → nat_abs low ≤ 9999 → nat_abs high ≤ 9999 → lt_z low high ≡ true → sample ≤ 10000 →
+pub channel_range : {low high : ℤ} {sample : ℕ} → nat_abs low ≤ 9999 → nat_abs high ≤ 9999 → lt_z low high ≡ true → sample ≤ 10000 →
     ChannelRange low high sample
-channel-range {low} {high} l h order s = omega (arith, integers, number low, number high)
+channel_range {low} {high} l h order s = omega (arith, integers, number low, number high)

@@ -2,11 +2,11 @@
 // tested against its range before the function is called.
 ghost use Rattle.std.specs.Prelude.{◌≡◌, ◌≤◌, ◌<◌, max, nat_abs};
 ghost use Rattle.terms.specs.Terms.{TuningRange};
-ghost use Rattle.text.specs.Arguments.{argument, naturalIn};
-ghost use Rattle.arithmetic_lines.specs.Calculations.{signedIn, scaleCalculation, rootCalculation, limitCalculation};
-ghost use Rattle.arithmetic_lines.specs.Calculations.{ratioCalculation, tuningIn, proportionalCalculation};
-ghost use Rattle.arithmetic_lines.specs.Calculations.{integralCalculation, derivativeCalculation};
-ghost use Rattle.arithmetic_lines.specs.Calculations.{ofTerm, ofRatio, calculationOf};
+ghost use Rattle.text.specs.Arguments.{argument, natural_in};
+ghost use Rattle.arithmetic_lines.specs.Calculations.{signed_in, scale_calculation, root_calculation, limit_calculation};
+ghost use Rattle.arithmetic_lines.specs.Calculations.{ratio_calculation, tuning_in, proportional_calculation};
+ghost use Rattle.arithmetic_lines.specs.Calculations.{integral_calculation, derivative_calculation};
+ghost use Rattle.arithmetic_lines.specs.Calculations.{of_term, of_ratio, calculation_of};
 
 use terms::Tuning;
 use text::arguments::{Arguments, Natural};
@@ -36,7 +36,7 @@ struct Setting {
 // The contract rules out a value in range that isn't accepted, and another number in its place.
 fn signed_at(values: [i64; 6], place: usize, most: u64) -> Signed
     requires { place < 6 }
-    ensures { (result ≡ signedIn (argument values place) most) × (nat_abs result.value ≤ most) }
+    ensures { (result ≡ signed_in (argument values place) most) × (nat_abs result.value ≤ most) }
 {
     let value = values[place];
     let size = integers::magnitude(value);
@@ -52,7 +52,7 @@ fn signed_at(values: [i64; 6], place: usize, most: u64) -> Signed
 // The contract rules out the same.
 fn natural_at(values: [i64; 6], place: usize, least: u64, most: u64) -> Natural
     requires { place < 6 }
-    ensures { (result ≡ naturalIn (argument values place) least most) × (least ≤ result.value) × (result.value ≤ max least most) }
+    ensures { (result ≡ natural_in (argument values place) least most) × (least ≤ result.value) × (result.value ≤ max least most) }
 {
     text::arguments::natural_in(values[place], least, most)
 }
@@ -60,7 +60,7 @@ fn natural_at(values: [i64; 6], place: usize, least: u64, most: u64) -> Natural
 // scale L H SAMPLE. This contract and those below rule out another function than the line names, an argument of another
 // place, one that isn't tested, and a call in range that isn't answered.
 fn scale(values: [i64; 6]) -> Calculation
-    ensures { result ≡ scaleCalculation values }
+    ensures { result ≡ scale_calculation values }
 {
     let low = signed_at(values, 0, 9999);
     let high = signed_at(values, 1, 9999);
@@ -73,7 +73,7 @@ fn scale(values: [i64; 6]) -> Calculation
 
 // root SAMPLE
 fn root(values: [i64; 6]) -> Calculation
-    ensures { result ≡ rootCalculation values }
+    ensures { result ≡ root_calculation values }
 {
     let sample = natural_at(values, 0, 0, 10000);
     if sample.ok {
@@ -84,7 +84,7 @@ fn root(values: [i64; 6]) -> Calculation
 
 // limit LOW HIGH VALUE
 fn limit(values: [i64; 6]) -> Calculation
-    ensures { result ≡ limitCalculation values }
+    ensures { result ≡ limit_calculation values }
 {
     let low = signed_at(values, 0, 999999999);
     let high = signed_at(values, 1, 999999999);
@@ -97,7 +97,7 @@ fn limit(values: [i64; 6]) -> Calculation
 
 // ratio Q S, or inverse Q S
 fn ratio(values: [i64; 6], inverse: bool) -> Calculation
-    ensures { result ≡ ratioCalculation values inverse }
+    ensures { result ≡ ratio_calculation values inverse }
 {
     let q = signed_at(values, 0, 9999);
     let s = natural_at(values, 1, 1, 9999);
@@ -114,7 +114,7 @@ fn ratio(values: [i64; 6], inverse: bool) -> Calculation
 // are exchanged, or tested against each other's range.
 fn tuning_in(values: [i64; 6], ti: u64, td: u64, minutes: bool, inverted: bool) -> Setting
     requires { (ti ≤ 9999) × (td ≤ 9999) }
-    ensures { (result ≡ tuningIn values ti td minutes inverted) × TuningRange result.tuning }
+    ensures { (result ≡ tuning_in values ti td minutes inverted) × TuningRange result.tuning }
 {
     let xp = natural_at(values, 0, 1, 9999);
     let span = natural_at(values, 1, 1, 19998);
@@ -133,7 +133,7 @@ fn tuning_in(values: [i64; 6], ti: u64, td: u64, minutes: bool, inverted: bool) 
 
 // proportional XP W CHANGE
 fn proportional(values: [i64; 6]) -> Calculation
-    ensures { result ≡ proportionalCalculation values }
+    ensures { result ≡ proportional_calculation values }
 {
     let setting = tuning_in(values, 0, 0, false, false);
     let change = signed_at(values, 2, 39996);
@@ -146,7 +146,7 @@ fn proportional(values: [i64; 6]) -> Calculation
 
 // integral XP W TI MINUTES C
 fn integral(values: [i64; 6]) -> Calculation
-    ensures { result ≡ integralCalculation values }
+    ensures { result ≡ integral_calculation values }
 {
     let ti = natural_at(values, 2, 0, 9999);
     let minutes = natural_at(values, 3, 0, 1);
@@ -161,7 +161,7 @@ fn integral(values: [i64; 6]) -> Calculation
 
 // derivative XP W TD MINUTES INVERTED D
 fn derivative(values: [i64; 6]) -> Calculation
-    ensures { result ≡ derivativeCalculation values }
+    ensures { result ≡ derivative_calculation values }
 {
     let td = natural_at(values, 2, 0, 9999);
     let minutes = natural_at(values, 3, 0, 1);
@@ -177,7 +177,7 @@ fn derivative(values: [i64; 6]) -> Calculation
 
 // One of the three terms.
 fn of_term(word: &[u8], arguments: Arguments) -> Calculation
-    ensures { result ≡ ofTerm word.now arguments }
+    ensures { result ≡ of_term word.now arguments }
 {
     let values = arguments.values;
     if text::arguments::is_call(word, b"proportional", arguments, 3) {
@@ -194,7 +194,7 @@ fn of_term(word: &[u8], arguments: Arguments) -> Calculation
 
 // One of the two quotients of a ratio, or a term.
 fn of_ratio(word: &[u8], arguments: Arguments) -> Calculation
-    ensures { result ≡ ofRatio word.now arguments }
+    ensures { result ≡ of_ratio word.now arguments }
 {
     let values = arguments.values;
     if text::arguments::is_call(word, b"ratio", arguments, 2) {
@@ -208,7 +208,7 @@ fn of_ratio(word: &[u8], arguments: Arguments) -> Calculation
 
 // What answers a line of the arithmetic, by its first word and its arguments.
 pub fn of_call(word: &[u8], arguments: Arguments) -> Calculation
-    ensures { result ≡ calculationOf word.now arguments }
+    ensures { result ≡ calculation_of word.now arguments }
 {
     let values = arguments.values;
     if text::arguments::is_call(word, b"scale", arguments, 3) {

@@ -1,13 +1,13 @@
 // Two square roots for the benchmark to count: that of the table, as the product reads it, and the computed one that
 // the product had before document 02's request 3. Nothing of the product depends on this crate.
 ghost use Rattle.std.specs.Prelude.{◌≡◌, ◌≤◌};
-ghost use Rattle.scaling.specs.Root.{rootOf};
+ghost use Rattle.scaling.specs.Root.{root_of};
 
 // Read from the table.
 #[unsafe(no_mangle)]
 pub extern "C" fn table_root(sample: u16) -> u16
     requires { sample ≤ 10000 }
-    ensures { result ≡ rootOf sample }
+    ensures { result ≡ root_of sample }
 {
     scaling::root(sample)
 }
@@ -16,7 +16,7 @@ pub extern "C" fn table_root(sample: u16) -> u16
 #[unsafe(no_mangle)]
 pub extern "C" fn computed_root(sample: u16) -> u16
     requires { sample ≤ 10000 }
-    ensures { result ≡ rootOf sample }
+    ensures { result ≡ root_of sample }
 {
     let n = 10000 * (sample as u32);
     let mut found: u32 = 0;

@@ -1,7 +1,7 @@
 // The commands of the drum, as lines have them.
 ghost use Rattle.std.specs.Prelude.{◌≡◌, ◌≤◌, length};
-ghost use Rattle.commands.specs.DrumCommands.{drumStepCommand, runCommand, drumCommand};
-ghost use Rattle.commands.specs.Commands.{drumNumbersCommand};
+ghost use Rattle.commands.specs.DrumCommands.{drum_step_command, run_command, drum_command};
+ghost use Rattle.commands.specs.Commands.{drum_numbers_command};
 
 use crate::{Command, DrumCall};
 use drum_lines::ParsedDrum;
@@ -10,7 +10,7 @@ use text::arguments::Arguments;
 
 // drum-step U. This contract and the next rule out an argument of another place, and one in range that is refused.
 fn step(values: [i64; 6]) -> Command
-    ensures { result ≡ drumStepCommand values }
+    ensures { result ≡ drum_step_command values }
 {
     let output = text::arguments::natural_in(values[0], 0, 65535);
     if output.ok {
@@ -21,7 +21,7 @@ fn step(values: [i64; 6]) -> Command
 
 // run TURNS PINS S2 S3 BUTTONS SENSORS
 fn run(values: [i64; 6]) -> Command
-    ensures { result ≡ runCommand values }
+    ensures { result ≡ run_command values }
 {
     let turns = text::arguments::natural_in(values[0], 0, 65535);
     let pins = text::arguments::natural_in(values[1], 0, 255);
@@ -45,7 +45,7 @@ fn run(values: [i64; 6]) -> Command
 // A command of the drum whose arguments are numbers; else it may be one of the sheet. The contract rules out the
 // command of another word, and one with a number too few or too many.
 pub fn of_word(word: &[u8], a: Arguments) -> Command
-    ensures { result ≡ drumNumbersCommand word.now a }
+    ensures { result ≡ drum_numbers_command word.now a }
 {
     let values = a.values;
     if text::arguments::is_call(word, b"run", a, 6) {
@@ -64,7 +64,7 @@ pub fn of_word(word: &[u8], a: Arguments) -> Command
 // line has.
 pub fn set(line: &[u8], start: usize) -> Command
     requires { start ≤ length line.now }
-    ensures { result ≡ drumCommand line.now start }
+    ensures { result ≡ drum_command line.now start }
 {
     let parsed = drum_lines::parse(line, start);
     match parsed {

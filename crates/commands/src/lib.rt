@@ -1,7 +1,7 @@
 // The command that a line of the console is. A line of another form is no command.
 ghost use Rattle.std.specs.Prelude.{◌≡◌, ◌≤◌, length};
-ghost use Rattle.text.specs.Hexadecimal.{countIn, bytesIn};
-ghost use Rattle.commands.specs.Commands.{namedCommand, restartImage, restartOf, commandIn, bytesAfter};
+ghost use Rattle.text.specs.Hexadecimal.{count_in, bytes_in};
+ghost use Rattle.commands.specs.Commands.{named_command, restart_image, restart_of, command_in, bytes_after};
 
 use answers::ScanValues;
 use drum_lines::HeldDrum;
@@ -77,7 +77,7 @@ pub enum Command {
 // another name.
 fn of_name(word: &[u8], call: &[u8], start: usize) -> Command
     requires { start ≤ length call.now }
-    ensures { result ≡ namedCommand word.now call.now start }
+    ensures { result ≡ named_command word.now call.now start }
 {
     if text::same(word, b"scan") {
         return crate::scan_call::scan(call, start);
@@ -101,8 +101,8 @@ fn of_name(word: &[u8], call: &[u8], start: usize) -> Command
 // rules out other bytes than the line has.
 fn restart(line: &[u8], start: usize, bytes: &mut [u8]) -> Command
     requires { start ≤ length line.now }
-    ensures { (result ≡ restartOf (countIn (restartImage line.now start) (length bytes.old)))
-        × (bytes.new ≡ bytesIn (restartImage line.now start) bytes.old) }
+    ensures { (result ≡ restart_of (count_in (restart_image line.now start) (length bytes.old)))
+        × (bytes.new ≡ bytes_in (restart_image line.now start) bytes.old) }
 {
     let w = text::only_word(line, start);
     let from = w.from;
@@ -118,8 +118,8 @@ fn restart(line: &[u8], start: usize, bytes: &mut [u8]) -> Command
 // buffer is too long. The contract gives the command and every byte of the buffer, so it rules out a command that is
 // taken for another or for none.
 pub fn parse(line: &[u8], len: usize, bytes: &mut [u8]) -> Command
-    ensures { (result ≡ commandIn line.now len (length bytes.old))
-        × (bytes.new ≡ bytesAfter line.now len bytes.old) }
+    ensures { (result ≡ command_in line.now len (length bytes.old))
+        × (bytes.new ≡ bytes_after line.now len bytes.old) }
 {
     if line.len() <= len {
         return Command::Invalid;

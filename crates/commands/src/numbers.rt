@@ -1,6 +1,6 @@
 // Commands whose arguments are numbers.
 ghost use Rattle.std.specs.Prelude.{◌≡◌};
-ghost use Rattle.commands.specs.Commands.{parameterNumber, freshCommand, saveCommand, numbersCommand};
+ghost use Rattle.commands.specs.Commands.{parameter_number, fresh_command, save_command, numbers_command};
 
 use crate::{Call, Command};
 use text::arguments::Arguments;
@@ -8,7 +8,7 @@ use text::arguments::Arguments;
 // fresh SW. This contract and those below rule out another command than the line has, an argument of another place,
 // and one in range that is refused.
 fn fresh(values: [i64; 6]) -> Command
-    ensures { result ≡ freshCommand values }
+    ensures { result ≡ fresh_command values }
 {
     let sw = text::arguments::natural_in(values[0], 0, 65535);
     if sw.ok {
@@ -19,7 +19,7 @@ fn fresh(values: [i64; 6]) -> Command
 
 // The number of a parameter, as a line has it: one below zero is no parameter's, and 0 stands for it.
 pub fn number_in(value: i64) -> u64
-    ensures { result ≡ parameterNumber value }
+    ensures { result ≡ parameter_number value }
 {
     let size = integers::magnitude(value);
     if integers::negative(value) { 0 } else { size }
@@ -27,7 +27,7 @@ pub fn number_in(value: i64) -> u64
 
 // save LENGTH
 fn save(values: [i64; 6]) -> Command
-    ensures { result ≡ saveCommand values }
+    ensures { result ≡ save_command values }
 {
     let size = text::arguments::natural_in(values[0], 0, 300);
     if size.ok {
@@ -38,7 +38,7 @@ fn save(values: [i64; 6]) -> Command
 
 // A command whose arguments are numbers. The contract rules out the command of another name.
 pub fn of_numbers(word: &[u8], a: Arguments) -> Command
-    ensures { result ≡ numbersCommand word.now a }
+    ensures { result ≡ numbers_command word.now a }
 {
     let values = a.values;
     if text::arguments::is_call(word, b"read", a, 1) {

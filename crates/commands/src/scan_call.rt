@@ -1,6 +1,6 @@
 // A scan, as a line has it.
 ghost use Rattle.std.specs.Prelude.{◌≡◌, ◌≤◌, length};
-ghost use Rattle.commands.specs.Commands.{scanOf, scanWith, scanCommand};
+ghost use Rattle.commands.specs.Commands.{scan_of, scan_with, scan_command};
 
 use crate::{Call, Command};
 use numerals::ParsedNatural;
@@ -9,7 +9,7 @@ use text::arguments::Arguments;
 
 // The scan of six numbers and a reading of the clock.
 fn scan_of(values: [i64; 6], milliseconds: u64) -> Command
-    ensures { result ≡ scanOf values milliseconds }
+    ensures { result ≡ scan_of values milliseconds }
 {
     let pins = text::arguments::natural_in(values[0], 0, 255);
     let sample1 = text::arguments::natural_in(values[1], 0, 65535);
@@ -33,7 +33,7 @@ fn scan_of(values: [i64; 6], milliseconds: u64) -> Command
 
 // The contract rules out a scan with another count of numbers, and one without a reading.
 fn scan_with(a: Arguments, reading: ParsedNatural) -> Command
-    ensures { result ≡ scanWith a reading }
+    ensures { result ≡ scan_with a reading }
 {
     match reading {
         ParsedNatural::Natural(milliseconds) => {
@@ -52,7 +52,7 @@ fn scan_with(a: Arguments, reading: ParsedNatural) -> Command
 // read apart from the six in front of it. The contract rules out a reading of another word, and a word behind it.
 pub fn scan(line: &[u8], start: usize) -> Command
     requires { start ≤ length line.now }
-    ensures { result ≡ scanCommand line.now start }
+    ensures { result ≡ scan_command line.now start }
 {
     let sixth = text::after_words(line, start, 6);
     let numbers = text::arguments::parse(&line[0..sixth], start);

@@ -1,6 +1,6 @@
 // The commands of the sheet, as lines have them, and a line of the arithmetic.
 ghost use Rattle.std.specs.Prelude.{◌≡◌, ◌≤◌, length};
-ghost use Rattle.commands.specs.Commands.{sheetNumberCommand, sheetCommand, feedCommand, calculationCommand};
+ghost use Rattle.commands.specs.Commands.{sheet_number_command, sheet_command, feed_command, calculation_command};
 
 use crate::{Command, SheetCall};
 use arithmetic_lines::Calculation;
@@ -9,7 +9,7 @@ use text::arguments::Arguments;
 
 // sheet-number PLACE VALUE. The contract rules out a place that no number of a sheet has, and the two exchanged.
 fn number(values: [i64; 6]) -> Command
-    ensures { result ≡ sheetNumberCommand values }
+    ensures { result ≡ sheet_number_command values }
 {
     let place = text::arguments::natural_in(values[0], 0, 15);
     if place.ok {
@@ -20,7 +20,7 @@ fn number(values: [i64; 6]) -> Command
 
 // A line of the arithmetic. The contract rules out another number than the arithmetic gives.
 fn of_calculation(calculation: Calculation) -> Command
-    ensures { result ≡ calculationCommand calculation }
+    ensures { result ≡ calculation_command calculation }
 {
     match calculation {
         Calculation::Number(number) => Command::Calculated(number),
@@ -31,7 +31,7 @@ fn of_calculation(calculation: Calculation) -> Command
 // A command of the sheet whose arguments are numbers, or a line of the arithmetic. The contract rules out the command
 // of another word, and one with a number too few or too many.
 pub fn of_word(word: &[u8], a: Arguments) -> Command
-    ensures { result ≡ sheetCommand word.now a }
+    ensures { result ≡ sheet_command word.now a }
 {
     let values = a.values;
     if text::arguments::is_call(word, b"sheet-new", a, 0) {
@@ -55,7 +55,7 @@ pub fn of_word(word: &[u8], a: Arguments) -> Command
 // sheet-feed MODE PV DS OP. The contract rules out another answer than the line has.
 pub fn feed(line: &[u8], start: usize) -> Command
     requires { start ≤ length line.now }
-    ensures { result ≡ feedCommand line.now start }
+    ensures { result ≡ feed_command line.now start }
 {
     let answer = sheet_lines::answer::parse(line, start);
     match answer {

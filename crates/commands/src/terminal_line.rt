@@ -1,7 +1,7 @@
 // A line of the hand-held terminal, as a line of the console has it.
 ghost use Rattle.std.specs.Prelude.{◌≡◌, ◌≤◌, length};
-ghost use Rattle.text.specs.Hexadecimal.{bytesIn};
-ghost use Rattle.commands.specs.Commands.{terminalBytes, terminalOf, terminalBy, terminalCommand};
+ghost use Rattle.text.specs.Hexadecimal.{bytes_in};
+ghost use Rattle.commands.specs.Commands.{terminal_bytes, terminal_of, terminal_by, terminal_command};
 
 use crate::{Call, Command};
 use rights::Writer;
@@ -12,7 +12,7 @@ use writer_lines::ParsedWriter;
 // With so many bytes of a line, and the numbers behind them. The contract rules out a line of more than 300 bytes, and
 // another number for the LENGTH.
 fn of_count(writer: Writer, count: Count, a: Arguments) -> Command
-    ensures { result ≡ terminalOf writer count a }
+    ensures { result ≡ terminal_of writer count a }
 {
     match count {
         Count::Bytes(n) => {
@@ -29,7 +29,7 @@ fn of_count(writer: Writer, count: Count, a: Arguments) -> Command
 
 // The contract rules out a line that nobody typed.
 fn of_writer(writer: ParsedWriter, count: Count, a: Arguments) -> Command
-    ensures { result ≡ terminalBy writer count a }
+    ensures { result ≡ terminal_by writer count a }
 {
     match writer {
         ParsedWriter::Writer(w) => of_count(w, count, a),
@@ -41,8 +41,8 @@ fn of_writer(writer: ParsedWriter, count: Count, a: Arguments) -> Command
 // than the line has, and another writer.
 pub fn parse(line: &[u8], start: usize, bytes: &mut [u8]) -> Command
     requires { start ≤ length line.now }
-    ensures { (result ≡ terminalCommand line.now start (length bytes.old))
-        × (bytes.new ≡ bytesIn (terminalBytes line.now start) bytes.old) }
+    ensures { (result ≡ terminal_command line.now start (length bytes.old))
+        × (bytes.new ≡ bytes_in (terminal_bytes line.now start) bytes.old) }
 {
     let writer = crate::writer::parse(line, start);
     let behind = text::after_words(line, start, 1);

@@ -1,19 +1,19 @@
 -- What a run of the console holds from line to line, and what each command does to it.
 use Rattle.std.specs.Prelude.{List, ℕ}
 use Rattle.sheet.specs.Valid as sheet
-use Rattle.controller.specs.State.{freshController}
+use Rattle.controller.specs.State.{fresh_controller}
 use Rattle.controller.specs.Valid as controller
 use Rattle.commands.specs.declared.Command.{Command}
 use Rattle.commands.specs.declared.Command.TheVariants as command
 use Rattle.replies.specs.declared.Reply.{Reply}
 use Rattle.replies.specs.declared.Reply.TheVariants.{Number, Error}
 use Rattle.sheet_session.specs.SheetSessions as sheetsession
-use Rattle.sheet_session.specs.SheetSessions.{afterReply, afterRun, sheetStep}
+use Rattle.sheet_session.specs.SheetSessions.{after_reply, after_run, sheet_step}
 use Rattle.sheet_session.specs.declared.SheetStep.{SheetStep}
 use Rattle.drum_session.specs.DrumSessions as drumsession
 use Rattle.drum_session.specs.declared.DrumResult.{DrumResult}
 use Rattle.drum_session.specs.declared.DrumSession.TheVariants.{None}
-use Rattle.controller_calls.specs.Calls.{performed, bufferAfter}
+use Rattle.controller_calls.specs.Calls.{performed, buffer_after}
 use Rattle.controller_calls.specs.declared.Step.{Step}
 use Rattle.console.specs.declared.session.Session.{Session}
 use Rattle.console.specs.declared.session.SessionStep.{SessionStep}
@@ -24,48 +24,48 @@ pub record ValidSession (s : Session) : Type 0 where
   pub sheet : sheet.Valid s.sheet.sheet
 
 -- before the first line
-unfoldable pub firstSession : Session
-firstSession = record { controller = freshController 0; sheet = sheetsession.firstSession; drum = None }
+unfoldable pub first_session : Session
+first_session = record { controller = fresh_controller 0; sheet = sheetsession.first_session; drum = None }
 
 -- a command that leaves everything as it was
 abbrev pub staying : Session → Reply → SessionStep
 staying s reply = record { session = s; reply = reply }
 
 -- after a call of the controller: the sheet and the drum stay
-unfoldable pub afterCall : Session → Step → SessionStep
-afterCall s step =
+unfoldable pub after_call : Session → Step → SessionStep
+after_call s step =
     record {
-      session = record { controller = step.controller; sheet = afterReply s.sheet step.reply; drum = s.drum };
+      session = record { controller = step.controller; sheet = after_reply s.sheet step.reply; drum = s.drum };
       reply = step.reply;
     }
 
 -- after a command of the sheet: the controller and the drum stay
-abbrev pub afterSheetCall : Session → SheetStep → SessionStep
-afterSheetCall s step =
+abbrev pub after_sheet_call : Session → SheetStep → SessionStep
+after_sheet_call s step =
     record { session = record { controller = s.controller; sheet = step.session; drum = s.drum }; reply = step.reply }
 
 -- after a command of the drum: the turns of a run count as accepted scans
-unfoldable pub afterDrumCall : Session → DrumResult → SessionStep
-afterDrumCall s result =
+unfoldable pub after_drum_call : Session → DrumResult → SessionStep
+after_drum_call s result =
     record {
-      session = record { controller = result.controller; sheet = afterRun s.sheet result.last; drum = result.session };
+      session = record { controller = result.controller; sheet = after_run s.sheet result.last; drum = result.session };
       reply = result.reply;
     }
 
 -- ---- every command
 
 -- the next session and the reply, with the buffer that holds a restart's bytes or a terminal's line
-unfoldable pub sessionStep : Session → Command → List ℕ → SessionStep
-sessionStep s (command.Call call) bytes = afterCall s (performed s.controller call bytes)
-sessionStep s (command.Sheet call) bytes = afterSheetCall s (sheetStep s.sheet call)
-sessionStep s (command.Drum call) bytes = afterDrumCall s (drumsession.performed s.controller s.drum call)
-sessionStep s (command.Calculated number) bytes = staying s (Number number)
-sessionStep s command.Invalid bytes = staying s Error
+unfoldable pub session_step : Session → Command → List ℕ → SessionStep
+session_step s (command.Call call) bytes = after_call s (performed s.controller call bytes)
+session_step s (command.Sheet call) bytes = after_sheet_call s (sheet_step s.sheet call)
+session_step s (command.Drum call) bytes = after_drum_call s (drumsession.performed s.controller s.drum call)
+session_step s (command.Calculated number) bytes = staying s (Number number)
+session_step s command.Invalid bytes = staying s Error
 
 -- the buffer afterwards
-unfoldable pub sessionBuffer : Session → Command → List ℕ → List ℕ
-sessionBuffer s (command.Call call) bytes = bufferAfter s.controller call bytes
-sessionBuffer s (command.Sheet call) bytes = bytes
-sessionBuffer s (command.Drum call) bytes = bytes
-sessionBuffer s (command.Calculated number) bytes = bytes
-sessionBuffer s command.Invalid bytes = bytes
+unfoldable pub session_buffer : Session → Command → List ℕ → List ℕ
+session_buffer s (command.Call call) bytes = buffer_after s.controller call bytes
+session_buffer s (command.Sheet call) bytes = bytes
+session_buffer s (command.Drum call) bytes = bytes
+session_buffer s (command.Calculated number) bytes = bytes
+session_buffer s command.Invalid bytes = bytes

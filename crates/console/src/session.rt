@@ -1,9 +1,9 @@
 // What a run holds from line to line, and what comes of a command.
 ghost use Rattle.std.specs.Prelude.{◌≡◌};
 ghost use Rattle.drum_session.specs.DrumSessions.{performed};
-ghost use Rattle.sheet_session.specs.SheetSessions.{sheetStep};
-ghost use Rattle.console.specs.Sessions.{ValidSession, firstSession, afterCall, afterSheetCall, afterDrumCall};
-ghost use Rattle.console.specs.Sessions.{sessionStep, sessionBuffer};
+ghost use Rattle.sheet_session.specs.SheetSessions.{sheet_step};
+ghost use Rattle.console.specs.Sessions.{ValidSession, first_session, after_call, after_sheet_call, after_drum_call};
+ghost use Rattle.console.specs.Sessions.{session_step, session_buffer};
 
 use commands::{Command, DrumCall, SheetCall};
 use controller::Controller;
@@ -30,7 +30,7 @@ pub struct SessionStep {
 // Before the first line: a controller that is fresh with SW 0, of the sheet what a run begins with, and no drum. The
 // contract rules out others.
 pub fn first() -> Session
-    ensures { (result ≡ firstSession) × ValidSession result }
+    ensures { (result ≡ first_session) × ValidSession result }
 {
     Session {
         controller: Controller::fresh(0),
@@ -42,7 +42,7 @@ pub fn first() -> Session
 // After a call of the controller. The contract rules out a controller other than the call's, and that the sheet or the
 // drum changes.
 fn after_call(session: Session, step: Step) -> SessionStep
-    ensures { result ≡ afterCall session step }
+    ensures { result ≡ after_call session step }
 {
     let controller = step.controller;
     let reply = step.reply;
@@ -61,7 +61,7 @@ fn after_call(session: Session, step: Step) -> SessionStep
 // Performs a command of the sheet. The contract rules out that it changes the controller or the drum.
 fn perform_sheet_call(session: Session, call: SheetCall) -> SessionStep
     requires { ValidSession session }
-    ensures { (result ≡ afterSheetCall session (sheetStep session.sheet call)) × ValidSession result.session }
+    ensures { (result ≡ after_sheet_call session (sheet_step session.sheet call)) × ValidSession result.session }
 {
     let controller = session.controller;
     let sheet = session.sheet;
@@ -83,7 +83,7 @@ fn perform_sheet_call(session: Session, call: SheetCall) -> SessionStep
 // don't count for the sheet.
 fn perform_drum_call(session: Session, call: DrumCall) -> SessionStep
     requires { ValidSession session }
-    ensures { (result ≡ afterDrumCall session (performed session.controller session.drum call)) × ValidSession result.session }
+    ensures { (result ≡ after_drum_call session (performed session.controller session.drum call)) × ValidSession result.session }
 {
     let controller = session.controller;
     let sheet = session.sheet;
@@ -108,8 +108,8 @@ fn perform_drum_call(session: Session, call: DrumCall) -> SessionStep
 // that isn't handed on; and one that the next command could not take.
 pub fn perform(session: Session, command: Command, buffer: &mut [u8]) -> SessionStep
     requires { ValidSession session }
-    ensures { (result ≡ sessionStep session command buffer.old)
-        × (buffer.new ≡ sessionBuffer session command buffer.old)
+    ensures { (result ≡ session_step session command buffer.old)
+        × (buffer.new ≡ session_buffer session command buffer.old)
         × ValidSession result.session }
 {
     match command {

@@ -3,7 +3,7 @@ use Rattle.std.specs.Prelude.{◌≡◌, refl, ℕ, ◌/◌, ◌-◌, ℤ, nat_a
 use Rattle.std.proofs.Math.Option.{Option, some, none}
 use Rattle.integers.specs.Choice.{if◌then◌else◌}
 use Rattle.signals.specs.Refusals.{number_of, number_in}
-use Rattle.signals.specs.Signals.{switchesOf}
+use Rattle.signals.specs.Signals.{switches_of}
 use Rattle.signals.specs.declared.Verdict.{Verdict}
 use Rattle.signals.specs.declared.Verdict.TheVariants as verdict
 use Rattle.signals.specs.declared.Verdict.TheVariants.{Accepted}
@@ -29,44 +29,44 @@ pub data Reply : Type 0 where
   number : ℕ → Reply
 
 -- the paper's number and values for each case of our answer
-abbrev pub replyOf : Answer → Reply
-replyOf (answer.Accepted v) = words v.md v.ds v.op v.electrical v.mode v.pv
-replyOf (answer.Refused refusal) = number (number_of refusal)
+abbrev pub reply_of : Answer → Reply
+reply_of (answer.Accepted v) = words v.md v.ds v.op v.electrical v.mode v.pv
+reply_of (answer.Refused refusal) = number (number_of refusal)
 
 -- "Each call takes the controller and hands back the next one": it, and the answer
 pub record Response : Type 0 where
   pub next : Controller
   pub answer : Reply
 
-abbrev pub responseOf : ScanResult → Response
-responseOf r = record { next = r.controller; answer = replyOf r.answer }
+abbrev pub response_of : ScanResult → Response
+response_of r = record { next = r.controller; answer = reply_of r.answer }
 
 -- of a write, a restart or a save
-abbrev pub replyOfVerdict : Verdict → Reply
-replyOfVerdict Accepted = acceptance
-replyOfVerdict (verdict.Refused refusal) = number (number_of refusal)
+abbrev pub reply_of_verdict : Verdict → Reply
+reply_of_verdict Accepted = acceptance
+reply_of_verdict (verdict.Refused refusal) = number (number_of refusal)
 
 -- of a call that is refused with a number, or accepted
-abbrev pub replyBy : Option ℕ → Reply
-replyBy none = acceptance
-replyBy (some n) = number n
+abbrev pub reply_by : Option ℕ → Reply
+reply_by none = acceptance
+reply_by (some n) = number n
 
-pub reply-by : (v : Verdict) → replyOfVerdict v ≡ replyBy (number_in v)
-reply-by Accepted = refl
-reply-by (verdict.Refused refusal) = refl
+pub reply_by_lem : (v : Verdict) → reply_of_verdict v ≡ reply_by (number_in v)
+reply_by_lem Accepted = refl
+reply_by_lem (verdict.Refused refusal) = refl
 
-abbrev pub responseOfVerdict : CallResult → Response
-responseOfVerdict r = record { next = r.controller; answer = replyOfVerdict r.verdict }
+abbrev pub response_of_verdict : CallResult → Response
+response_of_verdict r = record { next = r.controller; answer = reply_of_verdict r.verdict }
 
 -- of a read, which returns no controller: it changes nothing
-abbrev pub replyOfRead : ReadAnswer → Reply
-replyOfRead (Value v) = reading v
-replyOfRead (readanswer.Refused refusal) = number (number_of refusal)
+abbrev pub reply_of_read : ReadAnswer → Reply
+reply_of_read (Value v) = reading v
+reply_of_read (readanswer.Refused refusal) = number (number_of refusal)
 
 -- "OP is its floor in units": of a stored output, which is never below zero
 unfoldable pub op_of : ℤ → ℕ
 op_of output = nat_abs output / 65536
 
 -- "Electrical output is OP, or 9999 - OP with S2.2 ON."
-unfoldable pub electricalOf : ℕ → ℤ → ℕ
-electricalOf sw output = if (switchesOf sw).displayinversion then 9999 - op_of output else op_of output
+unfoldable pub electrical_of : ℕ → ℤ → ℕ
+electrical_of sw output = if (switches_of sw).displayinversion then 9999 - op_of output else op_of output

@@ -8,13 +8,13 @@ use Rattle.controller.specs.declared.Core.{Core}
 
 -- "Tags 1..23 as above .. 41h OP .. 42h request .. 43h fault .. 44h": parameters 1 to 23, OP, request,
 -- memory fault, and user bits with MD bit 4
-unfoldable pub settingsOf : Core → ℕ → Settings
-settingsOf c op =
+unfoldable pub settings_of : Core → ℕ → Settings
+settings_of c op =
     record { parameters = c.parameters; op = op; request = c.conditions.request; fault = c.conditions.fault; userbits = c.userbits }
 
 -- with the OP of our own stored output
-unfoldable pub settingsNow : Controller → Settings
-settingsNow c = settingsOf c.core (op_of c.output)
+unfoldable pub settings_now : Controller → Settings
+settings_now c = settings_of c.core (op_of c.output)
 
-unfoldable pub savedImage : Controller → List ℕ
-savedImage c = image_of (settingsNow c)
+unfoldable pub saved_image : Controller → List ℕ
+saved_image c = image_of (settings_now c)

@@ -16,27 +16,27 @@ use Rattle.controller.specs.declared.Core.{Core}
 -- ---- "A fresh start and an accepted restart leave pins 80h, no buttons, open count 0, PV = 1L, SP =
 -- SL, ER = PV - SP, MP 0, battery good, no alarms"
 
-abbrev pub startConditions : Request → Bool → Conditions
-startConditions request fault = record { request = request; fault = fault; opencount = 0; pins = 0x80 }
+abbrev pub start_conditions : Request → Bool → Conditions
+start_conditions request fault = record { request = request; fault = fault; opencount = 0; pins = 0x80 }
 
-unfoldable pub startReadings : Parameters → Readings
-startReadings p = record { pv = L1 p; sp = SL p; er = L1 p -ℤ SL p; mp = pos 0 }
+unfoldable pub start_readings : Parameters → Readings
+start_readings p = record { pv = L1 p; sp = SL p; er = L1 p -ℤ SL p; mp = pos 0 }
 
-abbrev pub startIndications : Indications
-startIndications = record { buttons = 0; batterylow = false; lowalarm = false; highalarm = false }
+abbrev pub start_indications : Indications
+start_indications = record { buttons = 0; batterylow = false; lowalarm = false; highalarm = false }
 
 -- a core of these settings, and of what such a start leaves. "no earlier PV or SP remembered"; "All
 -- earlier PV and SP are forgotten."; document 02, request 2: "Until a scan is accepted after a fresh start or a
 -- restart, any reading is taken."
-abbrev pub startCore : ℕ → Parameters → Request → Bool → UserBits → Core
-startCore sw parameters request fault userbits =
+abbrev pub start_core : ℕ → Parameters → Request → Bool → UserBits → Core
+start_core sw parameters request fault userbits =
     record {
       sw = sw;
       parameters = parameters;
-      conditions = startConditions request fault;
+      conditions = start_conditions request fault;
       userbits = userbits;
-      readings = startReadings parameters;
-      indications = startIndications;
+      readings = start_readings parameters;
+      indications = start_indications;
       history = Nothing;
       clock = None;
     }
@@ -44,12 +44,12 @@ startCore sw parameters request fault userbits =
 -- ---- "start fresh (any 16-bit switch word SW)"
 
 -- "A fresh controller has the defaults in the table."
-abbrev pub freshParameters : Parameters
-freshParameters = record { values = defaults }
+abbrev pub fresh_parameters : Parameters
+fresh_parameters = record { values = defaults }
 
 -- "A fresh controller requests Manual with output 0, user bits and MD bit 4 zero, no memory fault"
-unfoldable pub freshCore : ℕ → Core
-freshCore sw = startCore sw freshParameters Manual false (record { user1 = false; user2 = false; measuredpower = false })
+unfoldable pub fresh_core : ℕ → Core
+fresh_core sw = start_core sw fresh_parameters Manual false (record { user1 = false; user2 = false; measuredpower = false })
 
-unfoldable pub freshController : ℕ → Controller
-freshController sw = record { core = freshCore sw; output = pos 0 }
+unfoldable pub fresh_controller : ℕ → Controller
+fresh_controller sw = record { core = fresh_core sw; output = pos 0 }

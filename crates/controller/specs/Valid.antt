@@ -9,10 +9,10 @@ use Rattle.controller.specs.declared.Controller.{Controller}
 
 -- numbers that 32 bits hold: ER is a difference of two in -9999..9999
 pub record Readable (r : Readings) : Type 0 where
-  pub pv-most : nat_abs r.pv ≤ 19998
-  pub sp-most : nat_abs r.sp ≤ 19998
-  pub er-most : nat_abs r.er ≤ 19998
-  pub mp-most : nat_abs r.mp ≤ 19998
+  pub pv_most : nat_abs r.pv ≤ 19998
+  pub sp_most : nat_abs r.sp ≤ 19998
+  pub er_most : nat_abs r.er ≤ 19998
+  pub mp_most : nat_abs r.mp ≤ 19998
 
 pub record Valid (c : Controller) : Type 0 where
   -- each parameter keeps its row of the table

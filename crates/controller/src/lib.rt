@@ -2,9 +2,9 @@
 ghost use Rattle.std.specs.Prelude.{◌≡◌, ◌≤◌};
 ghost use Rattle.parameters.specs.Legal.{Legal};
 ghost use Rattle.outputs.specs.OutputLaws.{OutputRange};
-ghost use Rattle.controller.specs.Answers.{op_of, electricalOf};
-ghost use Rattle.controller.specs.Scan.{modeNow, mdNow, dsNow};
-ghost use Rattle.controller.specs.State.{startConditions, startReadings, startCore, freshController};
+ghost use Rattle.controller.specs.Answers.{op_of, electrical_of};
+ghost use Rattle.controller.specs.Scan.{mode_now, md_now, ds_now};
+ghost use Rattle.controller.specs.State.{start_conditions, start_readings, start_core, fresh_controller};
 ghost use Rattle.controller.specs.Valid.{Valid};
 
 use answers::ScanValues;
@@ -76,7 +76,7 @@ pub enum ReadAnswer {
 const START_PINS: u8 = 0x80;
 
 fn start_conditions(request: Request, fault: bool) -> Conditions
-    ensures { result ≡ startConditions request fault }
+    ensures { result ≡ start_conditions request fault }
 {
     Conditions {
         request,
@@ -88,7 +88,7 @@ fn start_conditions(request: Request, fault: bool) -> Conditions
 
 fn start_readings(p: Parameters) -> Readings
     requires { Legal p }
-    ensures { result ≡ startReadings p }
+    ensures { result ≡ start_readings p }
 {
     let pv = p.get(parameters::L1);
     let sp = p.get(parameters::SL);
@@ -106,7 +106,7 @@ fn start_core(
     userbits: UserBits,
 ) -> Core
     requires { Legal parameters }
-    ensures { result ≡ startCore sw parameters request fault userbits }
+    ensures { result ≡ start_core sw parameters request fault userbits }
 {
     let conditions = start_conditions(request, fault);
     let readings = start_readings(parameters);
@@ -136,7 +136,7 @@ fn op_of(output: i64) -> u16
 
 fn electrical_of(sw: u16, output: i64) -> u16
     requires { OutputRange output }
-    ensures { result ≡ electricalOf sw output }
+    ensures { result ≡ electrical_of sw output }
 {
     let s = signals::switches_of(sw);
     let op = op_of(output);
@@ -149,7 +149,7 @@ fn electrical_of(sw: u16, output: i64) -> u16
 
 impl Core {
     fn mode(self) -> Mode
-        ensures { result ≡ modeNow self }
+        ensures { result ≡ mode_now self }
     {
         let s = signals::switches_of(self.sw);
         let conditions = self.conditions;
@@ -157,7 +157,7 @@ impl Core {
     }
 
     fn md(self) -> u16
-        ensures { result ≡ mdNow self }
+        ensures { result ≡ md_now self }
     {
         let conditions = self.conditions;
         let userbits = self.userbits;
@@ -167,7 +167,7 @@ impl Core {
     }
 
     fn ds(self) -> u16
-        ensures { result ≡ dsNow self }
+        ensures { result ≡ ds_now self }
     {
         let conditions = self.conditions;
         let userbits = self.userbits;
@@ -181,7 +181,7 @@ impl Controller {
     // Starts fresh with any switch word. The contract rules out any other state than document 01's, and a controller
     // that the next call could not take.
     pub fn fresh(sw: u16) -> Controller
-        ensures { (result ≡ freshController sw) × Valid result }
+        ensures { (result ≡ fresh_controller sw) × Valid result }
     {
         let values = Self::DEFAULTS;
         let parameters = Parameters::of(values);

@@ -2,8 +2,8 @@
 ghost use Rattle.std.specs.Prelude.{◌≡◌, ◌≤◌};
 ghost use Rattle.parameters.specs.Legal.{Legal};
 ghost use Rattle.parameters.specs.Table.{value};
-ghost use Rattle.controller.specs.Answers.{op_of, replyOfRead};
-ghost use Rattle.controller.specs.Read.{valueIn, read};
+ghost use Rattle.controller.specs.Answers.{op_of, reply_of_read};
+ghost use Rattle.controller.specs.Read.{value_in, read};
 ghost use Rattle.controller.specs.Valid.{Valid};
 
 use crate::{Controller, Core, ReadAnswer};
@@ -27,7 +27,7 @@ impl Controller {
     // "a read answers the value": by number, MD and DS as they stand now; MP, the last of the table, for any other.
     fn value(self, number: u64) -> i32
         requires { Valid self }
-        ensures { result ≡ valueIn self.core (op_of self.output) number }
+        ensures { result ≡ value_in self.core (op_of self.output) number }
     {
         let core = self.core;
         let r = core.readings;
@@ -50,7 +50,7 @@ impl Controller {
     // any other refusal; nothing changes, since no controller is returned.
     pub fn read(self, number: u64) -> ReadAnswer
         requires { Valid self }
-        ensures { replyOfRead result ≡ read self number }
+        ensures { reply_of_read result ≡ read self number }
     {
         let rule = Controller::rule(number);
         let unknown = rule.unknown_verdict();

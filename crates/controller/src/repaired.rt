@@ -1,7 +1,7 @@
 // The parameters that an image holds: whether they are legal, and what becomes of them under a wrong sumcheck.
 ghost use Rattle.std.specs.Prelude.{◌≡◌};
-ghost use Rattle.parameters.specs.Legal.{areLegal};
-ghost use Rattle.parameters.specs.Repaired.{default, rangedValue, byRange, pairedValue, byPairs, repaired};
+ghost use Rattle.parameters.specs.Legal.{are_legal};
+ghost use Rattle.parameters.specs.Repaired.{default, ranged_value, by_range, paired_value, by_pairs, repaired};
 
 use crate::Controller;
 use parameters::Parameters;
@@ -16,7 +16,7 @@ fn default(number: u64) -> i64
 
 // Whether each value keeps its row of the table. The contract rules out a row that isn't looked at.
 pub fn are_legal(p: Parameters) -> bool
-    ensures { result ≡ areLegal p }
+    ensures { result ≡ are_legal p }
 {
     let mut number: u64 = parameters::H1;
     while number < parameters::MD {
@@ -32,7 +32,7 @@ pub fn are_legal(p: Parameters) -> bool
 }
 
 fn ranged_value(p: Parameters, number: u64) -> i64
-    ensures { result ≡ rangedValue p number }
+    ensures { result ≡ ranged_value p number }
 {
     let v = p.get(number);
     let instead = default(number);
@@ -43,7 +43,7 @@ fn ranged_value(p: Parameters, number: u64) -> i64
 
 // A value out of its range takes its default.
 fn by_range(p: Parameters) -> Parameters
-    ensures { result ≡ byRange p }
+    ensures { result ≡ by_range p }
 {
     let mut values: [i64; parameters::VALUE_COUNT] = [0; parameters::VALUE_COUNT];
     let mut number: usize = 0;
@@ -56,7 +56,7 @@ fn by_range(p: Parameters) -> Parameters
 }
 
 fn paired_value(p: Parameters, number: u64) -> i64
-    ensures { result ≡ pairedValue p number }
+    ensures { result ≡ paired_value p number }
 {
     let v = p.get(number);
     let instead = default(number);
@@ -67,7 +67,7 @@ fn paired_value(p: Parameters, number: u64) -> i64
 
 // Both of a pair out of order take their defaults.
 fn by_pairs(p: Parameters) -> Parameters
-    ensures { result ≡ byPairs p }
+    ensures { result ≡ by_pairs p }
 {
     let mut values: [i64; parameters::VALUE_COUNT] = [0; parameters::VALUE_COUNT];
     let mut number: usize = 0;

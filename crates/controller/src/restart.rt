@@ -1,10 +1,10 @@
 // Restarts: whether an image is accepted, and what it leaves.
 ghost use Rattle.std.specs.Prelude.{◌≡◌};
-ghost use Rattle.signals.specs.Refusals.{number_in, refusedBy};
+ghost use Rattle.signals.specs.Refusals.{number_in, refused_by};
 ghost use Rattle.parameters.specs.Legal.{Legal};
-ghost use Rattle.controller.specs.Answers.{responseOfVerdict};
-ghost use Rattle.controller.specs.Restart.{isLegal, restartTests, repairedSettings, restoredSettings};
-ghost use Rattle.controller.specs.Restart.{restartedRequest, controllerRestarted, restart};
+ghost use Rattle.controller.specs.Answers.{response_of_verdict};
+ghost use Rattle.controller.specs.Restart.{is_legal, restart_tests, repaired_settings, restored_settings};
+ghost use Rattle.controller.specs.Restart.{restarted_request, controller_restarted, restart};
 ghost use Rattle.controller.specs.Valid.{Valid};
 
 use crate::{CallResult, Controller};
@@ -14,7 +14,7 @@ use signals::{Refusal, Verdict};
 
 // Whether all values are legal.
 fn is_legal(values: [u16; fields::FIELD_COUNT]) -> bool
-    ensures { result ≡ isLegal values }
+    ensures { result ≡ is_legal values }
 {
     let parameters = settings::decoding::parameters_in(values);
     crate::repaired::are_legal(parameters) & settings::decoding::are_others_legal(values)
@@ -23,7 +23,7 @@ fn is_legal(values: [u16; fields::FIELD_COUNT]) -> bool
 // Whether an image is accepted. The contract rules out a refusal for another cause, one that is
 // forgotten, and a higher number where a lower one applies.
 fn restart_verdict(image: &[u8]) -> Verdict
-    ensures { number_in result ≡ refusedBy (restartTests image.now) }
+    ensures { number_in result ≡ refused_by (restart_tests image.now) }
 {
     if image.len() != fields::IMAGE_LENGTH {
         return Verdict::Refused(Refusal::ImageLength);
@@ -41,7 +41,7 @@ fn restart_verdict(image: &[u8]) -> Verdict
 
 // What is taken under a wrong sumcheck.
 fn repaired_settings(values: [u16; fields::FIELD_COUNT]) -> Settings
-    ensures { result ≡ repairedSettings values }
+    ensures { result ≡ repaired_settings values }
 {
     let decoded = settings::decoding::parameters_in(values);
     let parameters = crate::repaired::repaired(decoded);
@@ -56,7 +56,7 @@ fn repaired_settings(values: [u16; fields::FIELD_COUNT]) -> Settings
 }
 
 fn restored_settings(values: [u16; fields::FIELD_COUNT]) -> Settings
-    ensures { result ≡ restoredSettings values }
+    ensures { result ≡ restored_settings values }
 {
     let right = settings::decoding::is_sum_right(values);
     if right {
@@ -67,7 +67,7 @@ fn restored_settings(values: [u16; fields::FIELD_COUNT]) -> Settings
 
 // The request that a restart leaves: S2.5 ON makes it Manual.
 fn restarted_request(powerfail: bool, request: Request) -> Request
-    ensures { result ≡ restartedRequest powerfail request }
+    ensures { result ≡ restarted_request powerfail request }
 {
     if powerfail { Request::Manual } else { request }
 }
@@ -76,8 +76,8 @@ impl Controller {
     // The controller after an accepted restart. The contract rules out that it keeps anything of the
     // earlier state but SW.
     fn restarted(self, values: [u16; fields::FIELD_COUNT]) -> Controller
-        requires { Legal (restoredSettings values).parameters }
-        ensures { result ≡ controllerRestarted self values }
+        requires { Legal (restored_settings values).parameters }
+        ensures { result ≡ controller_restarted self values }
     {
         let before = self.core;
         let s = signals::switches_of(before.sw);
@@ -104,7 +104,7 @@ impl Controller {
     // could not take.
     pub fn restart(self, image: &[u8]) -> CallResult
         requires { Valid self }
-        ensures { (responseOfVerdict result ≡ restart self image.now) × Valid result.controller }
+        ensures { (response_of_verdict result ≡ restart self image.now) × Valid result.controller }
     {
         let verdict = restart_verdict(image);
         match verdict {

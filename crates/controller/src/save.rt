@@ -1,9 +1,9 @@
 // Saving: an image of the settings in the caller's buffer.
 ghost use Rattle.std.specs.Prelude.{◌≡◌};
-ghost use Rattle.signals.specs.Refusals.{refusedBy};
-ghost use Rattle.fields.specs.Fields.{saveTests, savedIn};
-ghost use Rattle.controller.specs.Answers.{replyOfVerdict, replyBy};
-ghost use Rattle.controller.specs.Save.{settingsNow, savedImage};
+ghost use Rattle.signals.specs.Refusals.{refused_by};
+ghost use Rattle.fields.specs.Fields.{save_tests, saved_in};
+ghost use Rattle.controller.specs.Answers.{reply_of_verdict, reply_by};
+ghost use Rattle.controller.specs.Save.{settings_now, saved_image};
 ghost use Rattle.controller.specs.Valid.{Valid};
 
 use crate::Controller;
@@ -14,7 +14,7 @@ impl Controller {
     // What an image of this controller holds.
     fn settings(self) -> Settings
         requires { Valid self }
-        ensures { result ≡ settingsNow self }
+        ensures { result ≡ settings_now self }
     {
         let core = self.core;
         let conditions = core.conditions;
@@ -37,8 +37,8 @@ impl Controller {
     // bytes that is refused, an image of other settings, and a byte behind it that changes.
     pub fn save(self, buffer: &mut [u8]) -> Verdict
         requires { Valid self }
-        ensures { (replyOfVerdict result ≡ replyBy (refusedBy (saveTests buffer.old)))
-            × (buffer.new ≡ savedIn (savedImage self) buffer.old) }
+        ensures { (reply_of_verdict result ≡ reply_by (refused_by (save_tests buffer.old)))
+            × (buffer.new ≡ saved_in (saved_image self) buffer.old) }
     {
         let settings = self.settings();
         settings.save(buffer)

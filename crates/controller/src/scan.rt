@@ -3,9 +3,9 @@
 ghost use Rattle.std.specs.Prelude.{◌≡◌};
 ghost use Rattle.parameters.specs.Legal.{Legal};
 ghost use Rattle.setpoints.specs.ComputationLaws.{SampleRange};
-ghost use Rattle.controller.specs.Answers.{replyOf, responseOf};
-ghost use Rattle.controller.specs.Scan.{context_of, computedIn, indicationsAfter, coreAfter};
-ghost use Rattle.controller.specs.Scan.{statusOf, withOutput, stepped, scan};
+ghost use Rattle.controller.specs.Answers.{reply_of, response_of};
+ghost use Rattle.controller.specs.Scan.{context_of, computed_in, indications_after, core_after};
+ghost use Rattle.controller.specs.Scan.{status_of, with_output, stepped, scan};
 ghost use Rattle.controller.specs.Valid.{Valid};
 
 use crate::{Answer, Controller, Core, ScanResult};
@@ -37,7 +37,7 @@ impl Core {
     // Steps 1, 4 and 5.
     fn compute(self, x: Context) -> Computed
         requires { Legal self.parameters × SampleRange x.input }
-        ensures { result ≡ computedIn self x }
+        ensures { result ≡ computed_in self x }
     {
         let p = self.parameters;
         let userbits = self.userbits;
@@ -49,7 +49,7 @@ impl Core {
 
     fn indications_after(self, x: Context, r: Readings) -> Indications
         requires { Legal self.parameters }
-        ensures { result ≡ indicationsAfter self x r }
+        ensures { result ≡ indications_after self x r }
     {
         let p = self.parameters;
         let input = x.input;
@@ -67,7 +67,7 @@ impl Core {
     // The state that the scan leaves, but for the output. The contract rules out that the reading of before is kept.
     fn after(self, earlier: History, conditions: Conditions, x: Context, r: Computed) -> Core
         requires { Legal self.parameters }
-        ensures { result ≡ coreAfter self earlier conditions x r }
+        ensures { result ≡ core_after self earlier conditions x r }
     {
         let userbits = self.userbits;
         let readings = r.readings;
@@ -116,7 +116,7 @@ impl Controller {
     // another's, and the mode or PV of before the scan.
     fn answer(self) -> Answer
         requires { Valid self }
-        ensures { replyOf result ≡ withOutput (statusOf self.core) self.core.sw self.output }
+        ensures { reply_of result ≡ with_output (status_of self.core) self.core.sw self.output }
     {
         let core = self.core;
         let md = core.md();
@@ -142,7 +142,7 @@ impl Controller {
     // could not take.
     pub fn scan(self, input: Input) -> ScanResult
         requires { Valid self }
-        ensures { (responseOf result ≡ scan self input) × Valid result.controller }
+        ensures { (response_of result ≡ scan self input) × Valid result.controller }
     {
         let core = self.core;
         let last = core.clock;

@@ -1,6 +1,6 @@
 // The table of parameters: ranges and defaults as constants of the controller, and the row that a number chooses.
 ghost use Rattle.std.specs.Prelude.{◌≡◌};
-ghost use Rattle.parameters.specs.Table.{ruleOf};
+ghost use Rattle.parameters.specs.Table.{rule_of};
 
 use crate::Controller;
 use parameters::{H1, H2, H3, HA, HO, HR, HS, L1, L2, L3, LA, LO, LR, LS, Rule};
@@ -73,7 +73,7 @@ impl Controller {
     // the pair, or the refusal. The contract rules out a range, an order or a refusal other than the
     // table's, and a number that is taken for one of another row.
     pub fn rule(number: u64) -> Rule
-        ensures { result ≡ ruleOf number }
+        ensures { result ≡ rule_of number }
     {
         match number {
             1..=2 => Rule::Pair(Self::READING_LEAST, Self::READING_MOST, H1, L1, true),

@@ -1,11 +1,11 @@
 // Writes: who may make one, whether it is accepted, and what it leaves.
 ghost use Rattle.std.specs.Prelude.{◌≡◌};
 ghost use Rattle.std.proofs.Math.Option.{none};
-ghost use Rattle.signals.specs.Refusals.{number_in, refusedBy};
-ghost use Rattle.controller.specs.Answers.{responseOfVerdict};
+ghost use Rattle.signals.specs.Refusals.{number_in, refused_by};
+ghost use Rattle.controller.specs.Answers.{response_of_verdict};
 ghost use Rattle.controller.specs.Valid.{Valid};
-ghost use Rattle.controller.specs.Write.{setpointTests, word_of, stateTests, valueTests, accessNow, writeTests, commonTests};
-ghost use Rattle.controller.specs.Write.{coreWith, mdWritten, dsWritten, parameterWritten, coreWritten, controllerWritten, write};
+ghost use Rattle.controller.specs.Write.{setpoint_tests, word_of, state_tests, value_tests, access_now, write_tests, common_tests};
+ghost use Rattle.controller.specs.Write.{core_with, md_written, ds_written, parameter_written, core_written, controller_written, write};
 
 use crate::{CallResult, Controller, Core};
 use modes::Conditions;
@@ -26,7 +26,7 @@ fn word_of(v: i64) -> u16
 impl Core {
     // Refusal 8.
     fn setpoint_verdict(self) -> Verdict
-        ensures { number_in result ≡ refusedBy (setpointTests self) }
+        ensures { number_in result ≡ refused_by (setpoint_tests self) }
     {
         let s = signals::switches_of(self.sw);
         let mode = self.mode();
@@ -39,7 +39,7 @@ impl Core {
 
     // Refusals 8 to 11, of a value that the table accepts.
     fn state_verdict(self, number: u64, v: i64) -> Verdict
-        ensures { number_in result ≡ refusedBy (stateTests self number v) }
+        ensures { number_in result ≡ refused_by (state_tests self number v) }
     {
         let conditions = self.conditions;
         let word = word_of(v);
@@ -53,7 +53,7 @@ impl Core {
     // Refusals 6 to 11. The contract rules out a refusal for another cause, one that is forgotten, and a higher number
     // where a lower one applies.
     fn value_verdict(self, number: u64, v: i64) -> Verdict
-        ensures { number_in result ≡ refusedBy (valueTests self number v) }
+        ensures { number_in result ≡ refused_by (value_tests self number v) }
     {
         let p = self.parameters;
         let rule = Controller::rule(number);
@@ -68,7 +68,7 @@ impl Core {
 
     // Refusals 4, 19, 20 and 5, by the stored pin byte. The contract rules out another byte.
     fn access(self, writer: Writer, number: u64) -> Verdict
-        ensures { number_in result ≡ refusedBy (accessNow self writer number) }
+        ensures { number_in result ≡ refused_by (access_now self writer number) }
     {
         let conditions = self.conditions;
         let rule = Controller::rule(number);
@@ -77,7 +77,7 @@ impl Core {
 
     // Whether a write is accepted. The contract rules out a refusal of the value where the writer may not write.
     fn write_verdict(self, writer: Writer, number: u64, v: i64) -> Verdict
-        ensures { number_in result ≡ refusedBy (writeTests self writer number v) }
+        ensures { number_in result ≡ refused_by (write_tests self writer number v) }
     {
         let access = self.access(writer, number);
         let value = self.value_verdict(number, v);
@@ -86,7 +86,7 @@ impl Core {
 
     // The same but for these three: no write touches anything else.
     fn with(self, parameters: Parameters, conditions: Conditions, userbits: UserBits) -> Core
-        ensures { result ≡ coreWith self parameters conditions userbits }
+        ensures { result ≡ core_with self parameters conditions userbits }
     {
         let readings = self.readings;
         let indications = self.indications;
@@ -105,7 +105,7 @@ impl Core {
     }
 
     fn md_written(self, word: u16) -> Core
-        ensures { result ≡ mdWritten self word }
+        ensures { result ≡ md_written self word }
     {
         let p = self.parameters;
         let before = self.conditions;
@@ -116,7 +116,7 @@ impl Core {
     }
 
     fn ds_written(self, word: u16) -> Core
-        ensures { result ≡ dsWritten self word }
+        ensures { result ≡ ds_written self word }
     {
         let p = self.parameters;
         let conditions = self.conditions;
@@ -126,7 +126,7 @@ impl Core {
     }
 
     fn parameter_written(self, number: u64, v: i64) -> Core
-        ensures { result ≡ parameterWritten self number v }
+        ensures { result ≡ parameter_written self number v }
     {
         let p = self.parameters;
         let conditions = self.conditions;
@@ -137,7 +137,7 @@ impl Core {
 
     // What an accepted write leaves, but for the output.
     fn written(self, number: u64, v: i64) -> Core
-        ensures { result ≡ coreWritten self number v }
+        ensures { result ≡ core_written self number v }
     {
         let word = word_of(v);
         match number {
@@ -151,8 +151,8 @@ impl Core {
 impl Controller {
     // The controller after an accepted write, by whomever.
     fn written(self, number: u64, v: i64) -> Controller
-        requires { Valid self × (refusedBy (commonTests self.core number v) ≡ none) }
-        ensures { result ≡ controllerWritten self number v }
+        requires { Valid self × (refused_by (common_tests self.core number v) ≡ none) }
+        ensures { result ≡ controller_written self number v }
     {
         let before = self.core;
         let earlier = self.output;
@@ -167,7 +167,7 @@ impl Controller {
     // get, 4, 19, 20 or 5. A host asks it before it offers a field for editing. The contract rules out an answer that
     // another writer or another parameter would get; nothing changes, since no controller is returned.
     pub fn write_access(self, writer: Writer, number: u64) -> Verdict
-        ensures { number_in result ≡ refusedBy (accessNow self.core writer number) }
+        ensures { number_in result ≡ refused_by (access_now self.core writer number) }
     {
         let core = self.core;
         core.access(writer, number)
@@ -180,7 +180,7 @@ impl Controller {
     // controller that the next call could not take.
     pub fn write(self, writer: Writer, number: u64, value: i32) -> CallResult
         requires { Valid self }
-        ensures { (responseOfVerdict result ≡ write self writer number value) × Valid result.controller }
+        ensures { (response_of_verdict result ≡ write self writer number value) × Valid result.controller }
     {
         let core = self.core;
         let v = integers::wide(value);

@@ -1,6 +1,6 @@
 // A buffer that is filled before a call writes into it, so that a byte which changed can be told.
 ghost use Rattle.std.specs.Prelude.{◌≡◌, drop};
-ghost use Rattle.controller_calls.specs.Calls.{isFilled, filled};
+ghost use Rattle.controller_calls.specs.Calls.{is_filled, filled};
 
 // What each byte of the buffer is before a call: none but the call's own bytes may differ from it afterwards.
 const FILL: u8 = 0xA5;
@@ -18,7 +18,7 @@ pub fn fill(buffer: &mut [u8])
 
 // Whether the bytes of the buffer from a position on are as they were filled.
 pub fn is_unchanged(buffer: &[u8], from: usize) -> bool
-    ensures { result ≡ isFilled (drop from buffer.now) }
+    ensures { result ≡ is_filled (drop from buffer.now) }
 {
     let mut i = from;
     while i < buffer.len() {

@@ -3,7 +3,7 @@ ghost use Rattle.std.specs.Prelude.{◌≡◌, leb, length, take};
 ghost use Rattle.integers.specs.Choice.{if◌then◌else◌};
 ghost use Rattle.controller.specs.Restart.{restart};
 ghost use Rattle.controller.specs.Valid.{Valid};
-ghost use Rattle.controller_calls.specs.Calls.{step_of, unchangedWith, checkedReply, replyToSave, savedBuffer};
+ghost use Rattle.controller_calls.specs.Calls.{step_of, unchanged_with, checked_reply, reply_to_save, saved_buffer};
 ghost use Rattle.replies.specs.declared.Reply.TheVariants.{Error};
 
 use crate::Step;
@@ -16,7 +16,7 @@ use signals::Verdict;
 pub fn restart(controller: Controller, count: usize, buffer: &[u8]) -> Step
     requires { Valid controller }
     ensures { result ≡ (if leb count (length buffer.now) then
-        step_of (restart controller (take count buffer.now)) else unchangedWith controller Error) }
+        step_of (restart controller (take count buffer.now)) else unchanged_with controller Error) }
 {
     if count <= buffer.len() {
         let r = controller.restart(&buffer[0..count]);
@@ -35,7 +35,7 @@ pub fn restart(controller: Controller, count: usize, buffer: &[u8]) -> Step
 
 // The reply to a save: where a byte changed that had to stay, `error`.
 fn reply_to_save(verdict: Verdict, buffer: &[u8]) -> Reply
-    ensures { result ≡ checkedReply verdict buffer.now }
+    ensures { result ≡ checked_reply verdict buffer.now }
 {
     match verdict {
         Verdict::Accepted => {
@@ -59,8 +59,8 @@ fn reply_to_save(verdict: Verdict, buffer: &[u8]) -> Reply
 // alone, so it rules out that a byte changes which had to stay; and every byte of the buffer.
 pub fn save(controller: Controller, count: usize, buffer: &mut [u8]) -> Reply
     requires { Valid controller }
-    ensures { (result ≡ replyToSave count buffer.old)
-        × (buffer.new ≡ savedBuffer controller count buffer.old) }
+    ensures { (result ≡ reply_to_save count buffer.old)
+        × (buffer.new ≡ saved_buffer controller count buffer.old) }
 {
     crate::filled::fill(buffer);
     if count <= buffer.len() {

@@ -1,11 +1,11 @@
 // What comes of a call of the controller that a line of the console makes: its next state, and the reply.
 ghost use Rattle.std.specs.Prelude.{◌≡◌, length, replicate};
-ghost use Rattle.controller.specs.Answers.{replyOf, replyOfVerdict, replyOfRead};
+ghost use Rattle.controller.specs.Answers.{reply_of, reply_of_verdict, reply_of_read};
 ghost use Rattle.controller.specs.Read.{read};
 ghost use Rattle.controller.specs.Scan.{scan};
 ghost use Rattle.controller.specs.Valid.{Valid};
 ghost use Rattle.controller.specs.Write.{write};
-ghost use Rattle.controller_calls.specs.Calls.{replyTo, step_of, unchangedWith, accessReply, performed, bufferAfter};
+ghost use Rattle.controller_calls.specs.Calls.{reply_to, step_of, unchanged_with, access_reply, performed, buffer_after};
 
 use commands::Call;
 use controller::{Answer, Controller, ReadAnswer};
@@ -33,7 +33,7 @@ pub struct Step {
 
 // The contract rules out values that are exchanged, and another number of a refusal.
 fn reply_of(answer: Answer) -> Reply
-    ensures { result ≡ replyTo (replyOf answer) }
+    ensures { result ≡ reply_to (reply_of answer) }
 {
     match answer {
         Answer::Accepted(values) => Reply::Answer(values),
@@ -43,7 +43,7 @@ fn reply_of(answer: Answer) -> Reply
 
 // The contract rules out an acceptance that is answered as a refusal, and another number.
 fn reply_to_verdict(verdict: Verdict) -> Reply
-    ensures { result ≡ replyTo (replyOfVerdict verdict) }
+    ensures { result ≡ reply_to (reply_of_verdict verdict) }
 {
     match verdict {
         Verdict::Accepted => Reply::Accepted,
@@ -53,7 +53,7 @@ fn reply_to_verdict(verdict: Verdict) -> Reply
 
 // The contract rules out another value, and another number of a refusal.
 fn reply_to_read(answer: ReadAnswer) -> Reply
-    ensures { result ≡ replyTo (replyOfRead answer) }
+    ensures { result ≡ reply_to (reply_of_read answer) }
 {
     match answer {
         ReadAnswer::Value(v) => Reply::Value(v),
@@ -91,7 +91,7 @@ fn write(controller: Controller, writer: Writer, number: u64, value: i32) -> Ste
 
 // The contract rules out what another writer or another parameter would be answered, and a change of the controller.
 fn access(controller: Controller, writer: Writer, number: u64) -> Step
-    ensures { result ≡ unchangedWith controller (replyTo (accessReply controller writer number)) }
+    ensures { result ≡ unchanged_with controller (reply_to (access_reply controller writer number)) }
 {
     let verdict = controller.write_access(writer, number);
     Step {
@@ -107,7 +107,7 @@ fn access(controller: Controller, writer: Writer, number: u64) -> Step
 pub fn perform(controller: Controller, call: Call, buffer: &mut [u8]) -> Step
     requires { Valid controller }
     ensures { (result ≡ performed controller call buffer.old)
-        × (buffer.new ≡ bufferAfter controller call buffer.old)
+        × (buffer.new ≡ buffer_after controller call buffer.old)
         × Valid result.controller }
 {
     match call {

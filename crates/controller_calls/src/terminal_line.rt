@@ -1,8 +1,8 @@
 // What comes of a line of the hand-held terminal.
 ghost use Rattle.std.specs.Prelude.{◌≡◌, length};
 ghost use Rattle.controller.specs.Valid.{Valid};
-ghost use Rattle.terminal.specs.Terminal.{replyOfLine};
-ghost use Rattle.controller_calls.specs.Calls.{terminalFits, checkedTerminal, terminalStep, terminalBuffer};
+ghost use Rattle.terminal.specs.Terminal.{reply_of_line};
+ghost use Rattle.controller_calls.specs.Calls.{terminal_fits, checked_terminal, terminal_step, terminal_buffer};
 
 use crate::Step;
 use controller::Controller;
@@ -12,14 +12,14 @@ use terminal::LineAnswer;
 
 // Whether a buffer has the line's bytes, at most 300, and those for the reply.
 fn fits(count: usize, size: usize, buffer: &[u8]) -> bool
-    ensures { result ≡ terminalFits count size (length buffer.now) }
+    ensures { result ≡ terminal_fits count size (length buffer.now) }
 {
     (count <= 300) & (count <= buffer.len()) & (size <= buffer.len())
 }
 
 // The reply to the terminal's answer: where a byte changed that had to stay, `error`.
 fn reply_to_answer(answer: LineAnswer, buffer: &[u8]) -> Reply
-    ensures { result ≡ checkedTerminal (replyOfLine answer) buffer.now }
+    ensures { result ≡ checked_terminal (reply_of_line answer) buffer.now }
 {
     match answer {
         LineAnswer::Reply(count) => {
@@ -56,8 +56,8 @@ pub fn perform(
     buffer: &mut [u8],
 ) -> Step
     requires { Valid controller }
-    ensures { (result ≡ terminalStep controller writer count size buffer.old)
-        × (buffer.new ≡ terminalBuffer controller writer count size buffer.old) }
+    ensures { (result ≡ terminal_step controller writer count size buffer.old)
+        × (buffer.new ≡ terminal_buffer controller writer count size buffer.old) }
 {
     if fits(count, size, buffer) {
         let mut line = line_buffer();

@@ -11,22 +11,22 @@ use Rattle.drum.specs.declared.Offer.TheVariants.{Sample, Refused}
 
 -- the greatest whole number not above a float that isn't below zero. A finite float is m × 2 ^ e, and 2 ^ e is the
 -- fraction up e / down e
-unfoldable pub wholePart : Float → ℕ
-wholePart nan = 0
-wholePart (inf negative) = 0
-wholePart (fin negative m e) = m * up e / down e
+unfoldable pub whole_part : Float → ℕ
+whole_part nan = 0
+whole_part (inf negative) = 0
+whole_part (fin negative m e) = m * up e / down e
 
 -- 0 and 10000, which is 625 × 2 ^ 4
 abbrev pub zero : Float
 zero = fin false 0 (pos 0)
 
-abbrev pub tenThousand : Float
-tenThousand = fin false 625 (pos 4)
+abbrev pub ten_thousand : Float
+ten_thousand = fin false 625 (pos 4)
 
 -- "The sample it offers channel 1 is 0 below 0, 10000 above 10000, otherwise the greatest whole number not above T."
-unfoldable pub sampleOf : Float → ℕ
-sampleOf t = if lt t zero then 0 else if lt tenThousand t then 10000 else wholePart t
+unfoldable pub sample_of : Float → ℕ
+sample_of t = if lt t zero then 0 else if lt ten_thousand t then 10000 else whole_part t
 
 -- "21 when T (for an offer too), .. isn't finite"
-unfoldable pub offerOf : Drum → Offer
-offerOf d = if is_finite d.temperature then Sample (sampleOf d.temperature) else Refused NotFinite
+unfoldable pub offer_of : Drum → Offer
+offer_of d = if is_finite d.temperature then Sample (sample_of d.temperature) else Refused NotFinite

@@ -30,20 +30,20 @@ float u = of_int binary64 (pos u)
 
 -- ---- "One step with output u units (0..65,535), made a float exactly, gives for the lag T + rate × (gain × u - T),
 -- for the integrator T + rate × u, operations in just that order, each rounded once. The result has those bits."
-unfoldable pub temperatureAfter : Kind → Float → ℕ → Float
-temperatureAfter (Lag gain rate) t u = t ⊕ rate ⊗ (gain ⊗ float u ⊖ t)
-temperatureAfter (Integrator rate) t u = t ⊕ rate ⊗ float u
+unfoldable pub temperature_after : Kind → Float → ℕ → Float
+temperature_after (Lag gain rate) t u = t ⊕ rate ⊗ (gain ⊗ float u ⊖ t)
+temperature_after (Integrator rate) t u = t ⊕ rate ⊗ float u
 
 -- ---- "21 when T (for an offer too), the gain, the rate or the new T isn't finite; the drum then stays as it was."
 
 -- the gain and the rate; an integrator has no gain
-unfoldable pub constantsFinite : Kind → Bool
-constantsFinite (Lag gain rate) = is_finite gain && is_finite rate
-constantsFinite (Integrator rate) = is_finite rate
+unfoldable pub constants_finite : Kind → Bool
+constants_finite (Lag gain rate) = is_finite gain && is_finite rate
+constants_finite (Integrator rate) = is_finite rate
 
 unfoldable pub step_of : Drum → ℕ → StepResult
 step_of d u =
-    let next = temperatureAfter d.kind d.temperature u in
-    if is_finite d.temperature && constantsFinite d.kind && is_finite next
+    let next = temperature_after d.kind d.temperature u in
+    if is_finite d.temperature && constants_finite d.kind && is_finite next
     then record { drum = record { temperature = next; kind = d.kind }; verdict = Accepted }
     else record { drum = d; verdict = Refused NotFinite }

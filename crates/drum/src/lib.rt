@@ -2,8 +2,8 @@
 // controller's. `Drum::offer` and `Drum::step` ask nothing: any float may stand in any place.
 ghost use Rattle.std.specs.Prelude.{◌≡◌, true};
 ghost use Rattle.drum.specs.Finite.{is_finite};
-ghost use Rattle.drum.specs.Offers.{sampleOf, offerOf};
-ghost use Rattle.drum.specs.Steps.{constantsFinite, temperatureAfter, step_of};
+ghost use Rattle.drum.specs.Offers.{sample_of, offer_of};
+ghost use Rattle.drum.specs.Steps.{constants_finite, temperature_after, step_of};
 
 use signals::{Refusal, Verdict};
 
@@ -35,7 +35,7 @@ pub struct StepResult {
     pub verdict: Verdict,
 }
 
-// The contract rules out that an infinity or a not-a-number passes, and that a finite number is refused.
+// The contract rules out that an infinity or a not_a_number_lem passes, and that a finite number is refused.
 fn is_finite(x: f64) -> bool
     ensures { result ≡ is_finite x }
 {
@@ -46,7 +46,7 @@ fn is_finite(x: f64) -> bool
 // Of a finite temperature. The contract rules out a sample that is rounded, and one that isn't limited to 0..10000.
 fn sample_of(temperature: f64) -> u16
     requires { is_finite temperature ≡ true }
-    ensures { result ≡ sampleOf temperature }
+    ensures { result ≡ sample_of temperature }
 {
     if temperature < 0.0 {
         return 0;
@@ -60,7 +60,7 @@ fn sample_of(temperature: f64) -> u16
 impl Kind {
     // The contract rules out that the gain or the rate isn't looked at.
     fn constants_finite(self) -> bool
-        ensures { result ≡ constantsFinite self }
+        ensures { result ≡ constants_finite self }
     {
         match self {
             Kind::Lag { gain, rate } => {
@@ -76,7 +76,7 @@ impl Kind {
 
     // The contract rules out another order of the operations, and one that isn't rounded by itself.
     fn temperature_after(self, temperature: f64, output: u16) -> f64
-        ensures { result ≡ temperatureAfter self temperature output }
+        ensures { result ≡ temperature_after self temperature output }
     {
         let u = output as f64;
         match self {
@@ -89,7 +89,7 @@ impl Kind {
 impl Drum {
     // What the drum offers channel 1, or 21. The contract rules out a refusal by the gain or the rate.
     pub fn offer(self) -> Offer
-        ensures { result ≡ offerOf self }
+        ensures { result ≡ offer_of self }
     {
         let temperature = self.temperature;
         if is_finite(temperature) {

@@ -13,8 +13,8 @@ use Rattle.drum_run.specs.declared.RunResult.{RunResult}
 use Rattle.drum_run.specs.declared.TurnResult.{TurnResult}
 use Rattle.guarantee.proofs.Guarantee.{guarantee}
 use Rattle.drum_guarantee.specs.Claim.{RunIsList, RunsAreLists, AlwaysRuns}
-use Rattle.drum_guarantee.specs.Endings.{Ending, all_done, at-clock, at-offer, at-scan, at-step, WhyStopped}
-use Rattle.drum_guarantee.proofs.Chains.{linked-turns}
+use Rattle.drum_guarantee.specs.Endings.{Ending, all_done, at_clock, at_offer, at_scan, at_step, WhyStopped}
+use Rattle.drum_guarantee.proofs.Chains.{linked_turns}
 use Rattle.drum_guarantee.proofs.Lists.{run_ends}
 use Rattle.drum_guarantee.proofs.Turns as turns
 use Rattle.drum_guarantee.proofs.Turns.{Turned, turned}
@@ -33,7 +33,7 @@ module _ {x : OtherInputs} {first : ClockReading} {c : Controller} {d : Drum} {a
         scan = λ l m. absurd (let n : ⊥ = omega (arith, l) in n);
         no_other = omega arith;
       }
-  why (at-clock h a) =
+  why (at_clock h a) =
       record {
         few = omega arith;
         end = λ e. refl;
@@ -43,7 +43,7 @@ module _ {x : OtherInputs} {first : ClockReading} {c : Controller} {d : Drum} {a
         scan = λ l m. absurd (let n : ⊥ = omega (arith, l) in n);
         no_other = omega arith;
       }
-  why (at-offer h a) =
+  why (at_offer h a) =
       record {
         few = omega arith;
         end = λ e. absurd (let n : ⊥ = omega (arith, h, e) in n);
@@ -53,7 +53,7 @@ module _ {x : OtherInputs} {first : ClockReading} {c : Controller} {d : Drum} {a
         scan = λ l m. absurd (let n : ⊥ = omega (arith, m) in n);
         no_other = omega arith;
       }
-  why (at-scan h a) =
+  why (at_scan h a) =
       record {
         few = omega arith;
         end = λ e. absurd (let n : ⊥ = omega (arith, h, e) in n);
@@ -63,12 +63,12 @@ module _ {x : OtherInputs} {first : ClockReading} {c : Controller} {d : Drum} {a
         scan = λ l m. a;
         no_other = omega (arith, a.most);
       }
-  why (at-step h a) =
+  why (at_step h a) =
       record {
         few = omega arith;
         end = λ e. absurd (let n : ⊥ = omega (arith, h, e) in n);
         clock = λ z l. absurd (let n : ⊥ = omega (arith, z) in n);
-        offer = λ z f. absurd (f a.is-finite);
+        offer = λ z f. absurd (f a.is_finite_lem);
         step = λ z f. a;
         scan = λ l m. absurd (let n : ⊥ = omega (arith, m) in n);
         no_other = omega arith;
@@ -76,40 +76,40 @@ module _ {x : OtherInputs} {first : ClockReading} {c : Controller} {d : Drum} {a
 
 -- ---- a run is a list
 
-pub runs-are-lists : RunsAreLists
-runs-are-lists word calls rs c l d x n r e =
+pub runs_are_lists : RunsAreLists
+runs_are_lists word calls rs c l d x n r e =
     let ended = run_ends d x l n in
-    let linked = linked-turns l ended.turns in
+    let linked = linked_turns l ended.turns in
     subst (λ (k : RunResult). RunIsList word calls rs c d x n k) (sym e.0) (record {
       list = ended.list;
       responses = ended.responses;
       turns = ended.turns;
       linked = linked;
-      demand-3 = guarantee word ended.list ended.responses (run_of c d x n).controller linked;
+      demand_3 = guarantee word ended.list ended.responses (run_of c d x n).controller linked;
       ending = ended.ending;
-      why-stopped = why ended.ending;
+      why_stopped = why ended.ending;
     })
 
 -- ---- every run has a result
 
 module _ (x : OtherInputs) where
-  turn-valid : (run : RunResult) (ms : ℕ) (t : TurnResult) → Valid run.controller → Turned x run ms t → Valid t.run.controller
+  turn_valid : (run : RunResult) (ms : ℕ) (t : TurnResult) → Valid run.controller → Turned x run ms t → Valid t.run.controller
   unfolding stopped done
-  turn-valid run ms _ valid (turns.at-clock a) = valid
-  turn-valid run ms _ valid (turns.at-offer a) = valid
-  turn-valid run ms _ valid (turns.at-scan a) = valid
-  turn-valid run ms _ valid (turns.at-step a) = valid
-  turn-valid run ms _ valid (turns.goes t) = t.scanned.1
+  turn_valid run ms _ valid (turns.at_clock a) = valid
+  turn_valid run ms _ valid (turns.at_offer a) = valid
+  turn_valid run ms _ valid (turns.at_scan a) = valid
+  turn_valid run ms _ valid (turns.at_step a) = valid
+  turn_valid run ms _ valid (turns.goes t) = t.scanned.1
 
-  run-valid : (n : ℕ) (run : RunResult) → Valid run.controller → Valid (run_from run x n).controller
+  run_valid : (n : ℕ) (run : RunResult) → Valid run.controller → Valid (run_from run x n).controller
   unfolding run_from
-  run-valid zero run valid = valid
-  run-valid (suc n) run valid =
-      let next = turn-valid run _ (turn_of run x) valid (turned x run valid) in
+  run_valid zero run valid = valid
+  run_valid (suc n) run valid =
+      let next = turn_valid run _ (turn_of run x) valid (turned x run valid) in
       by_cases (λ (r : RunResult). Valid r.controller) (turn_of run x).stops (turn_of run x).run (run_from (turn_of run x).run x n)
-      (λ stops. next) (λ goes. run-valid n (turn_of run x).run next)
+      (λ stops. next) (λ goes. run_valid n (turn_of run x).run next)
 
-pub always-runs : AlwaysRuns
+pub always_runs : AlwaysRuns
 unfolding run_of begun
-always-runs c valid d x n =
-    record { ready = valid; result = run_of c d x n; described = (refl, run-valid x n (begun c d) valid) }
+always_runs c valid d x n =
+    record { ready = valid; result = run_of c d x n; described = (refl, run_valid x n (begun c d) valid) }

@@ -12,18 +12,18 @@ use Rattle.answers.specs.declared.ScanValues.{ScanValues}
 use Rattle.controller.specs.Answers.{Reply, words, reading, acceptance, number}
 use Rattle.controller.specs.Scan.{scan}
 use Rattle.controller.specs.declared.Controller.{Controller}
-use Rattle.drum.specs.Offers.{offerOf}
+use Rattle.drum.specs.Offers.{offer_of}
 use Rattle.drum.specs.Steps.{step_of}
 use Rattle.drum.specs.declared.Drum.{Drum}
 use Rattle.drum.specs.declared.Offer.{Offer}
 use Rattle.drum.specs.declared.Offer.TheVariants as offer
 use Rattle.drum.specs.declared.Offer.TheVariants.{Sample}
-use Rattle.drum_run.specs.Runs.{nextReading, input_at, begun, stopped, done, byVerdict, afterStep, byReply, afterScan, byOffer, afterOffer}
-use Rattle.drum_run.specs.Runs.{atReading, turn_of, run_from, run_of}
+use Rattle.drum_run.specs.Runs.{next_reading, input_at, begun, stopped, done, by_verdict, after_step, by_reply, after_scan, by_offer, after_offer}
+use Rattle.drum_run.specs.Runs.{at_reading, turn_of, run_from, run_of}
 use Rattle.drum_run.specs.declared.OtherInputs.{OtherInputs}
 use Rattle.drum_run.specs.declared.RunResult.{RunResult}
 use Rattle.drum_run.specs.declared.TurnResult.{TurnResult}
-use Rattle.drum_run.proofs.Laws.{turn-case, turn-done, turn-not-done}
+use Rattle.drum_run.proofs.Laws.{turn_case, turn_done, turn_not_done}
 use Rattle.drum_guarantee.specs.Claim.{later, Joined, RunsJoin}
 
 -- ---- the turns of a run are done one after another
@@ -39,11 +39,11 @@ module _ (x : OtherInputs) (b : ℕ) where
       (t.run.number ≡ 0 → (run_from t.run x a).turns ≡ t.run.turns + a → Splits t.run a) → Splits run (suc a)
   unfolding run_from
   by_turn a run t true is stops all further =
-      let same = turn-not-done run t (rw is (turn-case run x)) stops in
+      let same = turn_not_done run t (rw is (turn_case run x)) stops in
       let count : t.run.turns ≡ run.turns + suc a = rw (← is, stops) at all in
       absurd (let z : ⊥ = omega arith in z)
   by_turn a run t false is stops all further =
-      let next = turn-done run t (rw is (turn-case run x)) stops in
+      let next = turn_done run t (rw is (turn_case run x)) stops in
       let count : (run_from t.run x a).turns ≡ run.turns + suc a = rw (← is, stops) at all in
       let more : suc a + b ≡ suc (a + b) = omega arith in
       rw (more, ← is, stops) (further next.1 (omega arith))
@@ -67,55 +67,55 @@ module _ (one : RunResult) where
         last = later one.last two.last;
       }
 
-  abbrev turn-together : TurnResult → TurnResult
-  turn-together t = record { run = together t.run; stops = t.stops }
+  abbrev turn_together : TurnResult → TurnResult
+  turn_together t = record { run = together t.run; stops = t.stops }
 
-  verdict-alike : (r : RunResult) (next : Controller) (v : ScanValues) (d : Drum) (w : Verdict) →
-      byVerdict (together r) next v d w ≡ turn-together (byVerdict r next v d w)
+  verdict_alike : (r : RunResult) (next : Controller) (v : ScanValues) (d : Drum) (w : Verdict) →
+      by_verdict (together r) next v d w ≡ turn_together (by_verdict r next v d w)
   unfolding stopped done
-  verdict-alike r next v d verdict.Accepted =
+  verdict_alike r next v d verdict.Accepted =
       let count : one.turns + r.turns + 1 ≡ one.turns + (r.turns + 1) = omega arith in rw count refl
-  verdict-alike r next v d (verdict.Refused refusal) = refl
+  verdict_alike r next v d (verdict.Refused refusal) = refl
 
-  reply-alike : (r : RunResult) (next : Controller) (a : Reply) → byReply (together r) next a ≡ turn-together (byReply r next a)
-  unfolding afterStep stopped
-  reply-alike r next (words md ds op electrical mode pv) =
+  reply_alike : (r : RunResult) (next : Controller) (a : Reply) → by_reply (together r) next a ≡ turn_together (by_reply r next a)
+  unfolding after_step stopped
+  reply_alike r next (words md ds op electrical mode pv) =
       let v : ScanValues = record { md = md; ds = ds; op = op; electrical = electrical; mode = mode; pv = pv } in
-      let s = step_of r.drum op in verdict-alike r next v s.drum s.verdict
-  reply-alike r next (number n) = refl
-  reply-alike r next (reading v) = refl
-  reply-alike r next acceptance = refl
+      let s = step_of r.drum op in verdict_alike r next v s.drum s.verdict
+  reply_alike r next (number n) = refl
+  reply_alike r next (reading v) = refl
+  reply_alike r next acceptance = refl
 
-  offer-alike : (r : RunResult) (x : OtherInputs) (ms : ℕ) (o : Offer) →
-      byOffer (together r) x ms o ≡ turn-together (byOffer r x ms o)
-  unfolding afterScan stopped
-  offer-alike r x ms (Sample s) = let a = scan r.controller (input_at x s ms) in reply-alike r a.next a.answer
-  offer-alike r x ms (offer.Refused refusal) = refl
+  offer_alike : (r : RunResult) (x : OtherInputs) (ms : ℕ) (o : Offer) →
+      by_offer (together r) x ms o ≡ turn_together (by_offer r x ms o)
+  unfolding after_scan stopped
+  offer_alike r x ms (Sample s) = let a = scan r.controller (input_at x s ms) in reply_alike r a.next a.answer
+  offer_alike r x ms (offer.Refused refusal) = refl
 
-  reading-alike : (r : RunResult) (x : OtherInputs) (l : ClockReading) → atReading (together r) x l ≡ turn-together (atReading r x l)
-  unfolding afterOffer stopped
-  reading-alike r x None = refl
-  reading-alike r x (At ms) = offer-alike r x ms (offerOf r.drum)
+  reading_alike : (r : RunResult) (x : OtherInputs) (l : ClockReading) → at_reading (together r) x l ≡ turn_together (at_reading r x l)
+  unfolding after_offer stopped
+  reading_alike r x None = refl
+  reading_alike r x (At ms) = offer_alike r x ms (offer_of r.drum)
 
-  turn-alike : (r : RunResult) (x : OtherInputs) → turn_of (together r) x ≡ turn-together (turn_of r x)
+  turn_alike : (r : RunResult) (x : OtherInputs) → turn_of (together r) x ≡ turn_together (turn_of r x)
   unfolding turn_of
-  turn-alike r x = reading-alike r x (nextReading r.controller.core.clock)
+  turn_alike r x = reading_alike r x (next_reading r.controller.core.clock)
 
-  stop-alike : (x : OtherInputs) (n : ℕ) (t : TurnResult) (s : Bool) → t.stops ≡ s →
+  stop_alike : (x : OtherInputs) (n : ℕ) (t : TurnResult) (s : Bool) → t.stops ≡ s →
       run_from (together t.run) x n ≡ together (run_from t.run x n) →
       (if t.stops then together t.run else run_from (together t.run) x n)
       ≡ together (if t.stops then t.run else run_from t.run x n)
-  stop-alike x n t true is further = rw is refl
-  stop-alike x n t false is further = rw is further
+  stop_alike x n t true is further = rw is refl
+  stop_alike x n t false is further = rw is further
 
-  run-alike : (n : ℕ) (r : RunResult) (x : OtherInputs) → run_from (together r) x n ≡ together (run_from r x n)
+  run_alike : (n : ℕ) (r : RunResult) (x : OtherInputs) → run_from (together r) x n ≡ together (run_from r x n)
   unfolding run_from
-  run-alike zero r x = refl
-  run-alike (suc n) r x = rw (turn-alike r x) (stop-alike x n (turn_of r x) _ refl (run-alike n (turn_of r x).run x))
+  run_alike zero r x = refl
+  run_alike (suc n) r x = rw (turn_alike r x) (stop_alike x n (turn_of r x) _ refl (run_alike n (turn_of r x).run x))
 
-  from-its-end : one.number ≡ 0 → together (begun one.controller one.drum) ≡ one
+  from_its_end : one.number ≡ 0 → together (begun one.controller one.drum) ≡ one
   unfolding begun
-  from-its-end n = let count : one.turns + 0 ≡ one.turns = omega arith in rw (count, ← n) refl
+  from_its_end n = let count : one.turns + 0 ≡ one.turns = omega arith in rw (count, ← n) refl
 
 joined : (whole one two : RunResult) → whole ≡ together one two → Joined whole one two
 joined whole one two is =
@@ -127,13 +127,13 @@ joined whole one two is =
       last = ap (λ (r : RunResult). r.last) is;
     }
 
-pub runs-join : RunsJoin
+pub runs_join : RunsJoin
 unfolding run_of begun
-runs-join c d x a b whole one two e f all g =
+runs_join c d x a b whole one two e f all g =
     let start = begun c d in
     let done : (run_from start x a).turns ≡ start.turns + a = rw (← f.0) (omega arith) in
     let parts = split x b a start refl done in
     let end : run_from one x b ≡ together one (run_from (begun one.controller one.drum) x b) =
-    ap (λ (r : RunResult). run_from r x b) (sym (from-its-end one (rw f.0 parts.1)))
-    ∙ run-alike one b (begun one.controller one.drum) x in
+    ap (λ (r : RunResult). run_from r x b) (sym (from_its_end one (rw f.0 parts.1)))
+    ∙ run_alike one b (begun one.controller one.drum) x in
     joined whole one two (e.0 ∙ parts.0 ∙ ap (λ (r : RunResult). run_from r x b) (sym f.0) ∙ end ∙ ap (together one) (sym g.0))

@@ -20,26 +20,26 @@ use Rattle.controller.specs.declared.Answer.{Answer}
 use Rattle.controller.specs.declared.Answer.TheVariants as answer
 use Rattle.controller.specs.declared.Controller.{Controller}
 use Rattle.controller.specs.declared.ScanResult.{ScanResult}
-use Rattle.drum.specs.Offers.{offerOf}
+use Rattle.drum.specs.Offers.{offer_of}
 use Rattle.drum.specs.Steps.{step_of}
 use Rattle.drum.specs.declared.Drum.{Drum}
 use Rattle.drum.specs.declared.Offer.{Offer}
 use Rattle.drum.specs.declared.Offer.TheVariants as offer
 use Rattle.drum.specs.declared.Offer.TheVariants.{Sample}
 use Rattle.drum.specs.declared.StepResult.{StepResult}
-use Rattle.drum_run.specs.Runs.{nextReading, stopped, done, byVerdict, afterStep, afterScan, byOffer, afterOffer, atReading, turn_of}
+use Rattle.drum_run.specs.Runs.{next_reading, stopped, done, by_verdict, after_step, after_scan, by_offer, after_offer, at_reading, turn_of}
 use Rattle.drum_run.specs.declared.OtherInputs.{OtherInputs}
 use Rattle.drum_run.specs.declared.RunResult.{RunResult}
 use Rattle.drum_run.specs.declared.TurnResult.{TurnResult}
-use Rattle.drum_run.proofs.Laws.{refused-scan, accepted-scan}
+use Rattle.drum_run.proofs.Laws.{refused_scan_lem, accepted_scan}
 use Rattle.guarantee.specs.Linked.{ScanEnsures}
-use Rattle.guarantee.proofs.Existence.{scan-exists}
-use Rattle.promises.proofs.Refusals.{refused-stays}
+use Rattle.guarantee.proofs.Existence.{scan_exists}
+use Rattle.promises.proofs.Refusals.{refused_stays}
 use Rattle.drum_guarantee.specs.Endings.{AtClock, AtOffer, AtStep}
-use Rattle.drum_guarantee.specs.Drums.{OfferEnsures, Offered, not-a-number, infinite, not-above-zero, above, within, finite}
+use Rattle.drum_guarantee.specs.Drums.{OfferEnsures, Offered, not_a_number_lem, infinite, not_above_zero, above, within, finite}
 use Rattle.drum_guarantee.specs.Drums.{StepEnsures, StepEnds, steps, refuses}
-use Rattle.drum_guarantee.specs.Turns.{reading_of, input_of, accepts, refusedScan, Turn}
-use Rattle.drum_guarantee.proofs.Drums.{offers-right, steps-end}
+use Rattle.drum_guarantee.specs.Turns.{reading_of, input_of, accepts, refused_scan, Turn}
+use Rattle.drum_guarantee.proofs.Drums.{offers_right, steps_end}
 
 -- ---- the reading of the next turn
 
@@ -47,10 +47,10 @@ data Next (l : ClockReading) : ClockReading → Type 0 where
   passed : 2 ^ 64 ≤ reading_of l 0 → Next l None
   held : reading_of l 0 < 2 ^ 64 → Next l (At (reading_of l 0))
 
-next-is : (l : ClockReading) → Next l (nextReading l)
-unfolding nextReading
-next-is None = held (omega arith)
-next-is (At m) = go (ltb (m + 36) (2 ^ 64)) refl
+next_is : (l : ClockReading) → Next l (next_reading l)
+unfolding next_reading
+next_is None = held (omega arith)
+next_is (At m) = go (ltb (m + 36) (2 ^ 64)) refl
   where
     go : (t : Bool) → ltb (m + 36) (2 ^ 64) ≡ t → Next (At m) (if t then At (m + 36) else None)
     go true e = held (ltb-true (m + 36) (2 ^ 64) e)
@@ -58,14 +58,14 @@ next-is (At m) = go (ltb (m + 36) (2 ^ 64)) refl
 
 -- ---- an offer: a sample comes of a finite temperature, a refusal of another
 
-sample-finite : {t : Float} {s : ℕ} → Offered t (Sample s) → finite t
-sample-finite not-above-zero = tt
-sample-finite (above h) = tt
-sample-finite (within h g) = tt
+sample_finite : {t : Float} {s : ℕ} → Offered t (Sample s) → finite t
+sample_finite not_above_zero = tt
+sample_finite (above h) = tt
+sample_finite (within h g) = tt
 
-refused-offer : {t : Float} {refusal : Refusal} → Offered t (offer.Refused refusal) → (refusal ≡ NotFinite) × (finite t → ⊥)
-refused-offer not-a-number = (refl, λ f. f)
-refused-offer infinite = (refl, λ f. f)
+refused_offer : {t : Float} {refusal : Refusal} → Offered t (offer.Refused refusal) → (refusal ≡ NotFinite) × (finite t → ⊥)
+refused_offer not_a_number_lem = (refl, λ f. f)
+refused_offer infinite = (refl, λ f. f)
 
 -- ---- one turn
 
@@ -74,24 +74,24 @@ pub record ScanRefused (x : OtherInputs) (milliseconds : ℕ) (c : Controller) (
   pub within : milliseconds < 2 ^ 64
   pub sample : ℕ
   pub offered : OfferEnsures d (Sample sample)
-  pub refused : ScanEnsures c (input_of x sample milliseconds) (refusedScan c refusal)
+  pub refused : ScanEnsures c (input_of x sample milliseconds) (refused_scan c refusal)
 
 pub data Turned (x : OtherInputs) (run : RunResult) (ms : ℕ) : TurnResult → Type 0 where
-  at-clock : AtClock ms → Turned x run ms (stopped run 0)
-  at-offer : AtOffer ms run.drum → Turned x run ms (stopped run 21)
-  at-scan : {refusal : Refusal} → ScanRefused x ms run.controller run.drum refusal → Turned x run ms (stopped run (number_of refusal))
-  at-step : AtStep x ms run.controller run.drum → Turned x run ms (stopped run 21)
+  at_clock : AtClock ms → Turned x run ms (stopped run 0)
+  at_offer : AtOffer ms run.drum → Turned x run ms (stopped run 21)
+  at_scan : {refusal : Refusal} → ScanRefused x ms run.controller run.drum refusal → Turned x run ms (stopped run (number_of refusal))
+  at_step : AtStep x ms run.controller run.drum → Turned x run ms (stopped run 21)
   goes : {v : ScanValues} {next : Controller} {after : Drum} → Turn x ms run.controller run.drum v next after →
       Turned x run ms (done run next after v)
 
 module _ (x : OtherInputs) (run : RunResult) (valid : Valid run.controller) (ms : ℕ) where
-  by-verdict : (few : ms < 2 ^ 64) (s : ℕ) (next : Controller) (v : ScanValues) (r : StepResult) → OfferEnsures run.drum (Sample s) →
+  by_verdict_lem : (few : ms < 2 ^ 64) (s : ℕ) (next : Controller) (v : ScanValues) (r : StepResult) → OfferEnsures run.drum (Sample s) →
       ScanEnsures run.controller (input_of x s ms) (accepts next v) → StepEnds run.drum v.op r → StepEnsures run.drum v.op r →
-      Turned x run ms (byVerdict run next v r.drum r.verdict)
-  by-verdict few s next v _ o e (steps f g n h) q =
+      Turned x run ms (by_verdict run next v r.drum r.verdict)
+  by_verdict_lem few s next v _ o e (steps f g n h) q =
       goes (record { within = few; sample = s; offered = o; scanned = e; stepped = q })
-  by-verdict few s next v _ o e (refuses cause) q =
-      at-step (record {
+  by_verdict_lem few s next v _ o e (refuses cause) q =
+      at_step (record {
         within = few;
         sample = s;
         offered = o;
@@ -99,39 +99,39 @@ module _ (x : OtherInputs) (run : RunResult) (valid : Valid run.controller) (ms 
         values = v;
         scanned = e;
         refused = q;
-        is-finite = sample-finite (offers-right run.drum (Sample s) o);
+        is_finite_lem = sample_finite (offers_right run.drum (Sample s) o);
       })
 
   by_answer : (few : ms < 2 ^ 64) (s : ℕ) (r : ScanResult) (a : Answer) → OfferEnsures run.drum (Sample s) →
       ScanEnsures run.controller (input_of x s ms) r → r.answer ≡ a →
-      Turned x run ms (afterScan run (scan run.controller (input_of x s ms)))
-  unfolding afterStep
+      Turned x run ms (after_scan run (scan run.controller (input_of x s ms)))
+  unfolding after_step
   by_answer few s r (answer.Accepted v) o e is =
       let result = step_of run.drum v.op in
       let accepted : ScanEnsures run.controller (input_of x s ms) (accepts r.controller v) = (rw is at e.0, e.1) in
-      subst (λ (t : TurnResult). Turned x run ms t) (accepted-scan run r (scan run.controller (input_of x s ms)) v e.0 is)
-      (by-verdict few s r.controller v result o accepted (steps-end run.drum v.op result refl) refl)
+      subst (λ (t : TurnResult). Turned x run ms t) (accepted_scan run r (scan run.controller (input_of x s ms)) v e.0 is)
+      (by_verdict_lem few s r.controller v result o accepted (steps_end run.drum v.op result refl) refl)
   by_answer few s r (answer.Refused refusal) o e is =
       let stays : r.controller ≡ run.controller =
-      refused-stays.2 run.controller (input_of x s ms) r (number_of refusal) e (rw is refl) in
-      subst (λ (t : TurnResult). Turned x run ms t) (refused-scan run r (scan run.controller (input_of x s ms)) refusal e.0 is)
-      (at-scan {refusal = refusal} (record { within = few; sample = s; offered = o; refused = (rw (is, stays) at e.0, valid) }))
+      refused_stays.2 run.controller (input_of x s ms) r (number_of refusal) e (rw is refl) in
+      subst (λ (t : TurnResult). Turned x run ms t) (refused_scan_lem run r (scan run.controller (input_of x s ms)) refusal e.0 is)
+      (at_scan {refusal = refusal} (record { within = few; sample = s; offered = o; refused = (rw (is, stays) at e.0, valid) }))
 
-  by-offer : (few : ms < 2 ^ 64) (o : Offer) → OfferEnsures run.drum o → Turned x run ms (byOffer run x ms o)
-  by-offer few (Sample s) e =
-      let r = scan-exists run.controller (input_of x s ms) valid in
+  by_offer_lem : (few : ms < 2 ^ 64) (o : Offer) → OfferEnsures run.drum o → Turned x run ms (by_offer run x ms o)
+  by_offer_lem few (Sample s) e =
+      let r = scan_exists run.controller (input_of x s ms) valid in
       by_answer few s r.result r.result.answer e r.described refl
-  by-offer few (offer.Refused refusal) e =
-      let cause = refused-offer (offers-right run.drum (offer.Refused refusal) e) in
-      rw cause.0 (at-offer (record { within = few; refused = rw cause.0 at e; not_finite = cause.1 }))
+  by_offer_lem few (offer.Refused refusal) e =
+      let cause = refused_offer (offers_right run.drum (offer.Refused refusal) e) in
+      rw cause.0 (at_offer (record { within = few; refused = rw cause.0 at e; not_finite = cause.1 }))
 
 at_next : (x : OtherInputs) (run : RunResult) → Valid run.controller → (r : ClockReading) → Next run.controller.core.clock r →
-    Turned x run (reading_of run.controller.core.clock 0) (atReading run x r)
-unfolding afterOffer
-at_next x run valid _ (passed h) = at-clock (record { passed = h })
-at_next x run valid _ (held h) = by-offer x run valid (reading_of run.controller.core.clock 0) h (offerOf run.drum) refl
+    Turned x run (reading_of run.controller.core.clock 0) (at_reading run x r)
+unfolding after_offer
+at_next x run valid _ (passed h) = at_clock (record { passed = h })
+at_next x run valid _ (held h) = by_offer_lem x run valid (reading_of run.controller.core.clock 0) h (offer_of run.drum) refl
 
 pub turned : (x : OtherInputs) (run : RunResult) → Valid run.controller →
     Turned x run (reading_of run.controller.core.clock 0) (turn_of run x)
 unfolding turn_of
-turned x run valid = at_next x run valid _ (next-is run.controller.core.clock)
+turned x run valid = at_next x run valid _ (next_is run.controller.core.clock)

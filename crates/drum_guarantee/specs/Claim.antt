@@ -10,8 +10,8 @@ use Rattle.drum.specs.declared.Drum.{Drum}
 use Rattle.drum_run.specs.declared.OtherInputs.{OtherInputs}
 use Rattle.drum_run.specs.declared.RunResult.{RunResult}
 use Rattle.drum_run.proofs.run.Reads as run-reads
-use Rattle.guarantee.specs.Clock.{tooSoon, afterGap}
-use Rattle.guarantee.specs.Count.{lastReading}
+use Rattle.guarantee.specs.Clock.{too_soon, after_gap}
+use Rattle.guarantee.specs.Count.{last_reading}
 use Rattle.guarantee.specs.Demand.{Demand3}
 use Rattle.guarantee.specs.Exact.{Calls}
 use Rattle.guarantee.specs.Linked.{Linked}
@@ -26,11 +26,11 @@ pub record RunIsList (word : ℕ) (calls : Calls) (rs : List Response) (c : Cont
     Type 0 where
   pub list : Calls
   pub responses : List Response
-  pub turns : Turns x (lastReading word calls) calls rs c d r.turns list responses r.controller r.drum r.last
+  pub turns : Turns x (last_reading word calls) calls rs c d r.turns list responses r.controller r.drum r.last
   pub linked : Linked word list responses r.controller
-  pub demand-3 : Demand3 word list responses r.controller
-  pub ending : Ending x (lastReading word calls) r.controller r.drum n r.turns r.number
-  pub why-stopped : WhyStopped x (lastReading word calls) r.controller r.drum n r.turns r.number
+  pub demand_3 : Demand3 word list responses r.controller
+  pub ending : Ending x (last_reading word calls) r.controller r.drum n r.turns r.number
+  pub why_stopped : WhyStopped x (last_reading word calls) r.controller r.drum n r.turns r.number
 
 abbrev pub RunsAreLists : Type 0
 RunsAreLists =
@@ -45,9 +45,9 @@ abbrev pub ScansInTime : Type 0
 ScansInTime =
     (word : ℕ) (calls : Calls) (rs : List Response) (c : Controller) → Linked word calls rs c →
     (d : Drum) (x : OtherInputs) (n : ℕ) (xs : Calls) (ss : List Response) (b : Controller) (e : Drum) (a : LastAnswer) →
-    Turns x (lastReading word calls) calls rs c d n xs ss b e a →
-    (tooSoon (lastReading word xs) (reading_of (lastReading word calls) n) ≡ false)
-    × (afterGap (lastReading word xs) (reading_of (lastReading word calls) n) ≡ false)
+    Turns x (last_reading word calls) calls rs c d n xs ss b e a →
+    (too_soon (last_reading word xs) (reading_of (last_reading word calls) n) ≡ false)
+    × (after_gap (last_reading word xs) (reading_of (last_reading word calls) n) ≡ false)
 
 -- ---- a run of a + b turns
 

@@ -27,15 +27,15 @@ StepEnsures d u r = step-reads.Post tt (d, (u, tt)) r (d, (u, tt))
 -- s is "the greatest whole number not above" m × 2 ^ e: it isn't above, and the next one is. 2 ^ e is the fraction up e
 -- / down e
 pub record GreatestWhole (m : ℕ) (e : ℤ) (s : ℕ) : Type 0 where
-  pub not-above : s * down e ≤ m * up e
-  pub next-above : m * up e < (s + 1) * down e
+  pub not_above : s * down e ≤ m * up e
+  pub next_above : m * up e < (s + 1) * down e
 
 -- "The sample it offers channel 1 is 0 below 0, 10000 above 10000, otherwise the greatest whole number not above T.";
 -- "21 when T (for an offer too) .. isn't finite". A float with the sign set is below 0 or -0.0, which is 0
 pub data Offered : Float → Offer → Type 0 where
-  not-a-number : Offered nan (offer.Refused NotFinite)
+  not_a_number_lem : Offered nan (offer.Refused NotFinite)
   infinite : {negative : Bool} → Offered (inf negative) (offer.Refused NotFinite)
-  not-above-zero : {m : ℕ} {e : ℤ} → Offered (fin true m e) (Sample 0)
+  not_above_zero : {m : ℕ} {e : ℤ} → Offered (fin true m e) (Sample 0)
   above : {m : ℕ} {e : ℤ} → 10000 * down e < m * up e → Offered (fin false m e) (Sample 10000)
   within : {m s : ℕ} {e : ℤ} → m * up e ≤ 10000 * down e → GreatestWhole m e s → Offered (fin false m e) (Sample s)
 
@@ -44,7 +44,7 @@ OffersRight = (d : Drum) (o : Offer) → OfferEnsures d o → Offered d.temperat
 
 -- ---- steps
 
--- neither an infinity nor a not-a-number
+-- neither an infinity nor a not_a_number_lem
 abbrev pub finite : Float → Type 0
 finite nan = ⊥
 finite (inf negative) = ⊥

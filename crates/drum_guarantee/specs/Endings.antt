@@ -7,7 +7,7 @@ use Rattle.signals.specs.declared.Refusal.TheVariants.{NotFinite}
 use Rattle.signals.specs.declared.Verdict.TheVariants as verdict
 use Rattle.signals.specs.declared.clock.ClockReading.{ClockReading}
 use Rattle.answers.specs.declared.ScanValues.{ScanValues}
-use Rattle.controller.specs.Answers.{number, replyOf}
+use Rattle.controller.specs.Answers.{number, reply_of}
 use Rattle.controller.specs.declared.Answer.TheVariants as answer
 use Rattle.controller.specs.declared.Controller.{Controller}
 use Rattle.drum.specs.declared.Drum.{Drum}
@@ -16,7 +16,7 @@ use Rattle.drum.specs.declared.Offer.TheVariants.{Sample}
 use Rattle.drum_run.specs.declared.OtherInputs.{OtherInputs}
 use Rattle.guarantee.specs.Linked.{ScanEnsures}
 use Rattle.drum_guarantee.specs.Drums.{OfferEnsures, StepEnsures, finite}
-use Rattle.drum_guarantee.specs.Turns.{reading_of, input_of, accepts, refusedScan}
+use Rattle.drum_guarantee.specs.Turns.{reading_of, input_of, accepts, refused_scan}
 
 -- the clock would pass 64 bits
 pub record AtClock (milliseconds : ℕ) : Type 0 where
@@ -34,9 +34,9 @@ pub record AtScan (x : OtherInputs) (milliseconds : ℕ) (c : Controller) (d : D
   pub sample : ℕ
   pub offered : OfferEnsures d (Sample sample)
   pub refusal : Refusal
-  pub refused : ScanEnsures c (input_of x sample milliseconds) (refusedScan c refusal)
-  pub is_number : replyOf (answer.Refused refusal) ≡ number n
-  pub first-turn : done ≡ 0
+  pub refused : ScanEnsures c (input_of x sample milliseconds) (refused_scan c refusal)
+  pub is_number : reply_of (answer.Refused refusal) ≡ number n
+  pub first_turn : done ≡ 0
   pub least : 1 ≤ n
   pub most : n ≤ 3
 
@@ -50,15 +50,15 @@ pub record AtStep (x : OtherInputs) (milliseconds : ℕ) (c : Controller) (d : D
   pub values : ScanValues
   pub scanned : ScanEnsures c (input_of x sample milliseconds) (accepts next values)
   pub refused : StepEnsures d values.op (record { drum = d; verdict = verdict.Refused NotFinite })
-  pub is-finite : finite d.temperature
+  pub is_finite_lem : finite d.temperature
 
 -- why a run of so many turns that were asked stopped after those done, with this number
 pub data Ending (x : OtherInputs) (first : ClockReading) (c : Controller) (d : Drum) (asked done : ℕ) : ℕ → Type 0 where
   all_done : done ≡ asked → Ending x first c d asked done 0
-  at-clock : done < asked → AtClock (reading_of first done) → Ending x first c d asked done 0
-  at-offer : done < asked → AtOffer (reading_of first done) d → Ending x first c d asked done 21
-  at-scan : {n : ℕ} → done < asked → AtScan x (reading_of first done) c d done n → Ending x first c d asked done n
-  at-step : done < asked → AtStep x (reading_of first done) c d → Ending x first c d asked done 21
+  at_clock : done < asked → AtClock (reading_of first done) → Ending x first c d asked done 0
+  at_offer : done < asked → AtOffer (reading_of first done) d → Ending x first c d asked done 21
+  at_scan : {n : ℕ} → done < asked → AtScan x (reading_of first done) c d done n → Ending x first c d asked done n
+  at_step : done < asked → AtStep x (reading_of first done) c d → Ending x first c d asked done 21
 
 -- "0 at the clock or the end": the number, the turns done and the temperature tell which it was. No other number comes,
 -- so no scan of a run is refused with 16

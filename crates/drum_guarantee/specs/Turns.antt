@@ -9,7 +9,7 @@ use Rattle.signals.specs.declared.clock.ClockReading.TheVariants.{None, At}
 use Rattle.answers.specs.declared.LastAnswer.{LastAnswer}
 use Rattle.answers.specs.declared.LastAnswer.TheVariants as last
 use Rattle.answers.specs.declared.ScanValues.{ScanValues}
-use Rattle.controller.specs.Answers.{Response, responseOf}
+use Rattle.controller.specs.Answers.{Response, response_of}
 use Rattle.controller.specs.declared.Answer.TheVariants as answer
 use Rattle.controller.specs.declared.Controller.{Controller}
 use Rattle.controller.specs.declared.ScanResult.{ScanResult}
@@ -50,8 +50,8 @@ abbrev pub accepts : Controller → ScanValues → ScanResult
 accepts next v = record { controller = next; answer = answer.Accepted v }
 
 -- and a refused one's, which leaves the controller
-abbrev pub refusedScan : Controller → Refusal → ScanResult
-refusedScan c refusal = record { controller = c; answer = answer.Refused refusal }
+abbrev pub refused_scan : Controller → Refusal → ScanResult
+refused_scan c refusal = record { controller = c; answer = answer.Refused refusal }
 
 -- A turn at this reading, which 64 bits hold: the drum offers a sample, a scan of it is accepted, "and then [the drum]
 -- steps with the OP of that scan".
@@ -68,8 +68,8 @@ pub record Turn (x : OtherInputs) (milliseconds : ℕ) (c : Controller) (d : Dru
 -- controller, the drum and the last answer.
 pub data Turns (x : OtherInputs) (first : ClockReading) (calls : Calls) (rs : List Response) (c : Controller) (d : Drum) :
     ℕ → Calls → List Response → Controller → Drum → LastAnswer → Type 0 where
-  no-turn : Turns x first calls rs c d 0 calls rs c d last.None
+  no_turn : Turns x first calls rs c d 0 calls rs c d last.None
   turn : {n : ℕ} {xs : Calls} {ss : List Response} {b next : Controller} {e after : Drum} {a : LastAnswer} {v : ScanValues} →
       Turns x first calls rs c d n xs ss b e a → (t : Turn x (reading_of first n) b e v next after) →
-      Turns x first calls rs c d (n + 1) (xs then scan (input_of x t.sample (reading_of first n))) (responseOf (accepts next v) ∷ ss)
+      Turns x first calls rs c d (n + 1) (xs then scan (input_of x t.sample (reading_of first n))) (response_of (accepts next v) ∷ ss)
       next after (last.Answer v)

@@ -4,11 +4,11 @@ use Rattle.std.specs.Float.{binary64}
 use Rattle.std.specs.Float.Ieee.{of_bits}
 use Rattle.integers.specs.Choice.{if◌then◌else◌}
 use Rattle.text.specs.Arguments.{part}
-use Rattle.text.specs.Words.{word_at, afterWords, sameBytes}
+use Rattle.text.specs.Words.{word_at, after_words, same_bytes}
 use Rattle.formatting.specs.Ascii.{ascii}
 use Rattle.drum.specs.declared.Kind.{Kind}
 use Rattle.drum.specs.declared.Kind.TheVariants.{Lag, Integrator}
-use Rattle.drum_lines.specs.Bits.{bits_at, onlyBits}
+use Rattle.drum_lines.specs.Bits.{bits_at, only_bits}
 use Rattle.drum_lines.specs.declared.bits.ParsedBits.{ParsedBits}
 use Rattle.drum_lines.specs.declared.ParsedDrum.{ParsedDrum}
 use Rattle.drum_lines.specs.declared.ParsedDrum.TheVariants.{Drum, Malformed}
@@ -22,27 +22,27 @@ abbrev pub held : ℕ → Kind → ParsedDrum
 held bits kind = Drum (record { drum = record { temperature = float_of bits; kind = kind }; bits = bits })
 
 -- lag TBITS GAINBITS RATEBITS
-unfoldable pub lagOf : ParsedBits → ParsedBits → ParsedBits → ParsedDrum
-lagOf temperature gain rate =
+unfoldable pub lag_of : ParsedBits → ParsedBits → ParsedBits → ParsedDrum
+lag_of temperature gain rate =
     if temperature.ok && gain.ok && rate.ok
     then held temperature.bits (Lag (float_of gain.bits) (float_of rate.bits))
     else Malformed
 
-unfoldable pub lagFrom : List ℕ → ℕ → ParsedDrum
-lagFrom line start = lagOf (bits_at line start) (bits_at line (afterWords 1 line start)) (onlyBits line (afterWords 2 line start))
+unfoldable pub lag_from : List ℕ → ℕ → ParsedDrum
+lag_from line start = lag_of (bits_at line start) (bits_at line (after_words 1 line start)) (only_bits line (after_words 2 line start))
 
 -- integrator TBITS RATEBITS
-unfoldable pub integratorOf : ParsedBits → ParsedBits → ParsedDrum
-integratorOf temperature rate =
+unfoldable pub integrator_of : ParsedBits → ParsedBits → ParsedDrum
+integrator_of temperature rate =
     if temperature.ok && rate.ok then held temperature.bits (Integrator (float_of rate.bits)) else Malformed
 
-unfoldable pub integratorFrom : List ℕ → ℕ → ParsedDrum
-integratorFrom line start = integratorOf (bits_at line start) (onlyBits line (afterWords 1 line start))
+unfoldable pub integrator_from : List ℕ → ℕ → ParsedDrum
+integrator_from line start = integrator_of (bits_at line start) (only_bits line (after_words 1 line start))
 
 -- by the word of the kind; with another word it is no drum
-unfoldable pub drumFrom : List ℕ → ℕ → ParsedDrum
-drumFrom line start =
+unfoldable pub drum_from : List ℕ → ℕ → ParsedDrum
+drum_from line start =
     let w = word_at line start in
     let kind = part line w.from w.to in
-    if sameBytes kind (ascii "lag") then lagFrom line w.to else
-    if sameBytes kind (ascii "integrator") then integratorFrom line w.to else Malformed
+    if same_bytes kind (ascii "lag") then lag_from line w.to else
+    if same_bytes kind (ascii "integrator") then integrator_from line w.to else Malformed

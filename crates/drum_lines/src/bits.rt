@@ -3,7 +3,7 @@ ghost use Rattle.std.specs.Prelude.{◌≡◌, true, ◌≤◌, length};
 ghost use Rattle.std.specs.Float.{binary64};
 ghost use Rattle.std.specs.Float.Ieee.{of_bits, to_bits};
 ghost use Rattle.drum.specs.Finite.{is_finite};
-ghost use Rattle.drum_lines.specs.Bits.{joined, bitsBy, bits_of};
+ghost use Rattle.drum_lines.specs.Bits.{joined, bits_by, bits_of};
 
 use text::hexadecimal::Count;
 
@@ -14,7 +14,7 @@ pub struct ParsedBits {
     pub bits: u64,
 }
 
-// The bits of a not-a-number, but for its sign, lie above those of the infinity.
+// The bits of a not_a_number_lem, but for its sign, lie above those of the infinity.
 const INFINITY: u64 = 0x7FF0_0000_0000_0000;
 
 // The sign's bit: what is left without it lies below.
@@ -44,7 +44,7 @@ fn joined(bytes: &[u8]) -> u64
 // The contract rules out a count of bytes other than eight.
 fn of_count(count: Count, bytes: &[u8]) -> ParsedBits
     requires { length bytes.now ≤ 8 }
-    ensures { result ≡ bitsBy count bytes.now }
+    ensures { result ≡ bits_by count bytes.now }
 {
     match count {
         Count::Bytes(n) => {
@@ -69,7 +69,7 @@ pub fn of_word(word: &[u8]) -> ParsedBits
     of_count(count, &bytes)
 }
 
-// The float with these bits. All bits of a not-a-number are one to the logic, so a not-a-number is made by a division.
+// The float with these bits. All bits of a not_a_number_lem are one to the logic, so a not_a_number_lem is made by a division.
 // The contract rules out another float, in its last bit too.
 pub fn float_of(bits: u64) -> f64
     ensures { result ≡ of_bits binary64 bits }
@@ -80,7 +80,7 @@ pub fn float_of(bits: u64) -> f64
     f64::from_bits(bits)
 }
 
-// The bits of a finite float. The contract rules out other bits; of a not-a-number none are known.
+// The bits of a finite float. The contract rules out other bits; of a not_a_number_lem none are known.
 pub fn bits_of(x: f64) -> u64
     requires { is_finite x ≡ true }
     ensures { result ≡ to_bits binary64 x }

@@ -1,7 +1,7 @@
 // A drum as lines of the console have it: its floats by their bits, sixteen hexadecimal digits each.
 ghost use Rattle.std.specs.Prelude.{◌≡◌, ◌≤◌, length};
-ghost use Rattle.drum_lines.specs.Bits.{bits_at, onlyBits};
-ghost use Rattle.drum_lines.specs.Drums.{lagOf, lagFrom, integratorOf, integratorFrom, drumFrom};
+ghost use Rattle.drum_lines.specs.Bits.{bits_at, only_bits};
+ghost use Rattle.drum_lines.specs.Drums.{lag_of, lag_from, integrator_of, integrator_from, drum_from};
 
 use bits::ParsedBits;
 use drum::{Drum, Kind};
@@ -9,7 +9,7 @@ use drum::{Drum, Kind};
 pub mod bits;
 pub mod print;
 
-// A drum, and the bits of its temperature as they are shown: of a not-a-number the drum itself doesn't know which it
+// A drum, and the bits of its temperature as they are shown: of a not_a_number_lem the drum itself doesn't know which it
 // was.
 #[derive(Drop)]
 pub struct HeldDrum {
@@ -37,7 +37,7 @@ fn bits_at(line: &[u8], start: usize) -> ParsedBits
 // The bits of the only word behind a place. The contract rules out those of the first of two words.
 fn only_bits(line: &[u8], start: usize) -> ParsedBits
     requires { start ≤ length line.now }
-    ensures { result ≡ onlyBits line.now start }
+    ensures { result ≡ only_bits line.now start }
 {
     let w = text::only_word(line, start);
     let from = w.from;
@@ -48,7 +48,7 @@ fn only_bits(line: &[u8], start: usize) -> ParsedBits
 // The contract rules out gain and rate exchanged, other bits than the temperature's, and a malformed number that is
 // taken.
 fn lag_of(temperature: ParsedBits, gain: ParsedBits, rate: ParsedBits) -> ParsedDrum
-    ensures { result ≡ lagOf temperature gain rate }
+    ensures { result ≡ lag_of temperature gain rate }
 {
     if temperature.ok & gain.ok & rate.ok {
         return ParsedDrum::Drum(HeldDrum {
@@ -68,7 +68,7 @@ fn lag_of(temperature: ParsedBits, gain: ParsedBits, rate: ParsedBits) -> Parsed
 // TBITS GAINBITS RATEBITS. The contract rules out a word behind them, and another order.
 fn lag(line: &[u8], start: usize) -> ParsedDrum
     requires { start ≤ length line.now }
-    ensures { result ≡ lagFrom line.now start }
+    ensures { result ≡ lag_from line.now start }
 {
     let temperature = bits_at(line, start);
     let second = text::after_words(line, start, 1);
@@ -80,7 +80,7 @@ fn lag(line: &[u8], start: usize) -> ParsedDrum
 
 // The contract rules out other bits than the temperature's, and a malformed number that is taken.
 fn integrator_of(temperature: ParsedBits, rate: ParsedBits) -> ParsedDrum
-    ensures { result ≡ integratorOf temperature rate }
+    ensures { result ≡ integrator_of temperature rate }
 {
     if temperature.ok & rate.ok {
         return ParsedDrum::Drum(HeldDrum {
@@ -99,7 +99,7 @@ fn integrator_of(temperature: ParsedBits, rate: ParsedBits) -> ParsedDrum
 // TBITS RATEBITS. The contract rules out a word behind them, and the two exchanged.
 fn integrator(line: &[u8], start: usize) -> ParsedDrum
     requires { start ≤ length line.now }
-    ensures { result ≡ integratorFrom line.now start }
+    ensures { result ≡ integrator_from line.now start }
 {
     let temperature = bits_at(line, start);
     let second = text::after_words(line, start, 1);
@@ -111,7 +111,7 @@ fn integrator(line: &[u8], start: usize) -> ParsedDrum
 // the line has, and a drum of a line that is none.
 pub fn parse(line: &[u8], start: usize) -> ParsedDrum
     requires { start ≤ length line.now }
-    ensures { result ≡ drumFrom line.now start }
+    ensures { result ≡ drum_from line.now start }
 {
     let w = text::word(line, start);
     let from = w.from;

@@ -13,7 +13,7 @@ use Rattle.answers.specs.declared.ScanValues.{ScanValues}
 use Rattle.controller.specs.Answers.{Reply, words, reading, acceptance, number, Response}
 use Rattle.controller.specs.Scan.{scan}
 use Rattle.controller.specs.declared.Controller.{Controller}
-use Rattle.drum.specs.Offers.{offerOf}
+use Rattle.drum.specs.Offers.{offer_of}
 use Rattle.drum.specs.Steps.{step_of}
 use Rattle.drum.specs.declared.Drum.{Drum}
 use Rattle.drum.specs.declared.Offer.{Offer}
@@ -24,9 +24,9 @@ use Rattle.drum_run.specs.declared.RunResult.{RunResult}
 use Rattle.drum_run.specs.declared.TurnResult.{TurnResult}
 
 -- "36 ms after the last accepted reading (at 0 if there is none)"; none "where the clock would pass 64 bits"
-unfoldable pub nextReading : ClockReading → ClockReading
-nextReading None = At 0
-nextReading (At milliseconds) = if ltb (milliseconds + 36) (2 ^ 64) then At (milliseconds + 36) else None
+unfoldable pub next_reading : ClockReading → ClockReading
+next_reading None = At 0
+next_reading (At milliseconds) = if ltb (milliseconds + 36) (2 ^ 64) then At (milliseconds + 36) else None
 
 -- "with the other inputs the same throughout"
 abbrev pub input_at : OtherInputs → ℕ → ℕ → Input
@@ -65,38 +65,38 @@ done run next drum v =
     }
 
 -- "and then steps with the OP of that scan"
-abbrev pub byVerdict : RunResult → Controller → ScanValues → Drum → Verdict → TurnResult
-byVerdict run next v drum Accepted = done run next drum v
-byVerdict run next v drum (verdict.Refused refusal) = stopped run (number_of refusal)
+abbrev pub by_verdict : RunResult → Controller → ScanValues → Drum → Verdict → TurnResult
+by_verdict run next v drum Accepted = done run next drum v
+by_verdict run next v drum (verdict.Refused refusal) = stopped run (number_of refusal)
 
-unfoldable pub afterStep : RunResult → Controller → ScanValues → TurnResult
-afterStep run next v = let s = step_of run.drum v.op in byVerdict run next v s.drum s.verdict
+unfoldable pub after_step : RunResult → Controller → ScanValues → TurnResult
+after_step run next v = let s = step_of run.drum v.op in by_verdict run next v s.drum s.verdict
 
 -- "the drum offers its sample to a scan": what comes of it by the scan's reply, which is words or a number
-abbrev pub byReply : RunResult → Controller → Reply → TurnResult
-byReply run next (words md ds op electrical mode pv) =
-    afterStep run next (record { md = md; ds = ds; op = op; electrical = electrical; mode = mode; pv = pv })
-byReply run next (number n) = stopped run n
-byReply run next (reading v) = stopped run 0
-byReply run next acceptance = stopped run 0
+abbrev pub by_reply : RunResult → Controller → Reply → TurnResult
+by_reply run next (words md ds op electrical mode pv) =
+    after_step run next (record { md = md; ds = ds; op = op; electrical = electrical; mode = mode; pv = pv })
+by_reply run next (number n) = stopped run n
+by_reply run next (reading v) = stopped run 0
+by_reply run next acceptance = stopped run 0
 
-unfoldable pub afterScan : RunResult → Response → TurnResult
-afterScan run r = byReply run r.next r.answer
+unfoldable pub after_scan : RunResult → Response → TurnResult
+after_scan run r = by_reply run r.next r.answer
 
-abbrev pub byOffer : RunResult → OtherInputs → ℕ → Offer → TurnResult
-byOffer run x milliseconds (Sample sample) = afterScan run (scan run.controller (input_at x sample milliseconds))
-byOffer run x milliseconds (offer.Refused refusal) = stopped run (number_of refusal)
+abbrev pub by_offer : RunResult → OtherInputs → ℕ → Offer → TurnResult
+by_offer run x milliseconds (Sample sample) = after_scan run (scan run.controller (input_at x sample milliseconds))
+by_offer run x milliseconds (offer.Refused refusal) = stopped run (number_of refusal)
 
-unfoldable pub afterOffer : RunResult → OtherInputs → ℕ → TurnResult
-afterOffer run x milliseconds = byOffer run x milliseconds (offerOf run.drum)
+unfoldable pub after_offer : RunResult → OtherInputs → ℕ → TurnResult
+after_offer run x milliseconds = by_offer run x milliseconds (offer_of run.drum)
 
 -- "or, tested first in each turn, where the clock would pass 64 bits"
-abbrev pub atReading : RunResult → OtherInputs → ClockReading → TurnResult
-atReading run x None = stopped run 0
-atReading run x (At milliseconds) = afterOffer run x milliseconds
+abbrev pub at_reading : RunResult → OtherInputs → ClockReading → TurnResult
+at_reading run x None = stopped run 0
+at_reading run x (At milliseconds) = after_offer run x milliseconds
 
 unfoldable pub turn_of : RunResult → OtherInputs → TurnResult
-turn_of run x = atReading run x (nextReading run.controller.core.clock)
+turn_of run x = at_reading run x (next_reading run.controller.core.clock)
 
 -- ---- the run
 

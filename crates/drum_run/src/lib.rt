@@ -2,7 +2,7 @@
 ghost use Rattle.std.specs.Prelude.{◌≡◌, ◌<◌};
 ghost use Rattle.controller.specs.Scan.{scan};
 ghost use Rattle.controller.specs.Valid.{Valid};
-ghost use Rattle.drum_run.specs.Runs.{nextReading, input_at, begun, stopped, afterStep, afterScan, afterOffer, turn_of, run_of};
+ghost use Rattle.drum_run.specs.Runs.{next_reading, input_at, begun, stopped, after_step, after_scan, after_offer, turn_of, run_of};
 
 use answers::{LastAnswer, ScanValues};
 use controller::{Answer, Controller};
@@ -45,7 +45,7 @@ const INTERVAL: u64 = 36;
 // The reading of the next turn, or none where the clock would pass 64 bits. The contract rules out a reading that
 // turns over, and a first one that isn't 0.
 fn next_reading(last: ClockReading) -> ClockReading
-    ensures { result ≡ nextReading last }
+    ensures { result ≡ next_reading last }
 {
     match last {
         ClockReading::None => ClockReading::At(0),
@@ -110,7 +110,7 @@ fn stop(run: RunResult, number: u8) -> TurnResult
 // refused step that keeps the scan.
 fn step_drum(run: RunResult, next: Controller, values: ScanValues) -> TurnResult
     requires { run.turns < 65535 }
-    ensures { result ≡ afterStep run next values }
+    ensures { result ≡ after_step run next values }
 {
     let drum = run.drum;
     let stepped = drum.step(values.op);
@@ -136,7 +136,7 @@ fn step_drum(run: RunResult, next: Controller, values: ScanValues) -> TurnResult
 // drum steps.
 fn scan(run: RunResult, input: Input) -> TurnResult
     requires { Valid run.controller × (run.turns < 65535) }
-    ensures { (result ≡ afterScan run (scan run.controller input)) × Valid result.run.controller }
+    ensures { (result ≡ after_scan run (scan run.controller input)) × Valid result.run.controller }
 {
     let controller = run.controller;
     let scanned = controller.scan(input);
@@ -151,7 +151,7 @@ fn scan(run: RunResult, input: Input) -> TurnResult
 // A turn from its offer on, at this reading. The contract rules out a scan of another sample.
 fn offer(run: RunResult, inputs: OtherInputs, milliseconds: u64) -> TurnResult
     requires { Valid run.controller × (run.turns < 65535) }
-    ensures { (result ≡ afterOffer run inputs milliseconds) × Valid result.run.controller }
+    ensures { (result ≡ after_offer run inputs milliseconds) × Valid result.run.controller }
 {
     let drum = run.drum;
     let offered = drum.offer();

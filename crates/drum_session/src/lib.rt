@@ -3,7 +3,7 @@ ghost use Rattle.std.specs.Prelude.{◌≡◌};
 ghost use Rattle.controller.specs.Valid.{Valid};
 ghost use Rattle.drum_run.specs.Runs.{run_of};
 ghost use Rattle.drum_session.specs.DrumSessionLaws.{FiniteAfter};
-ghost use Rattle.drum_session.specs.DrumSessions.{stepped, offered, stepIn, offerIn, bitsAfter, runHeld, leaving, runIn, performed};
+ghost use Rattle.drum_session.specs.DrumSessions.{stepped, offered, step_in, offer_in, bits_after, run_held, leaving, run_in, performed};
 
 use answers::LastAnswer;
 use commands::DrumCall;
@@ -38,7 +38,7 @@ pub struct DrumResult {
 }
 
 // One step of the drum. The contract rules out bits of another temperature, and a refused step that changes anything,
-// the bits of a not-a-number too.
+// the bits of a not_a_number_lem too.
 fn step_held(held: HeldDrum, output: u16) -> DrumStep
     ensures { result ≡ stepped held output }
 {
@@ -81,7 +81,7 @@ fn offer_held(held: HeldDrum) -> DrumStep
 
 // The contract rules out that a step is made where there is no drum.
 fn step(session: DrumSession, output: u16) -> DrumStep
-    ensures { result ≡ stepIn session output }
+    ensures { result ≡ step_in session output }
 {
     match session {
         DrumSession::Held(held) => step_held(held, output),
@@ -94,7 +94,7 @@ fn step(session: DrumSession, output: u16) -> DrumStep
 
 // The contract rules out an offer where there is no drum.
 fn offer(session: DrumSession) -> DrumStep
-    ensures { result ≡ offerIn session }
+    ensures { result ≡ offer_in session }
 {
     match session {
         DrumSession::Held(held) => offer_held(held),
@@ -105,10 +105,10 @@ fn offer(session: DrumSession) -> DrumStep
     }
 }
 
-// The bits to show after a run. The contract rules out that a run with no turn done loses the bits of a not-a-number.
+// The bits to show after a run. The contract rules out that a run with no turn done loses the bits of a not_a_number_lem.
 fn bits_after(held: HeldDrum, run: RunResult) -> u64
     requires { FiniteAfter run }
-    ensures { result ≡ bitsAfter held run }
+    ensures { result ≡ bits_after held run }
 {
     if run.turns == 0 {
         return held.bits;
@@ -120,7 +120,7 @@ fn bits_after(held: HeldDrum, run: RunResult) -> u64
 // A run with the drum that is held. The contract rules out another controller, drum or answer than the run leaves.
 fn run_held(controller: Controller, held: HeldDrum, inputs: OtherInputs, turns: u16) -> DrumResult
     requires { Valid controller }
-    ensures { (result ≡ runHeld held (run_of controller held.drum inputs turns)) × Valid result.controller }
+    ensures { (result ≡ run_held held (run_of controller held.drum inputs turns)) × Valid result.controller }
 {
     let drum = held.drum;
     let run = drum_run::run(controller, drum, inputs, turns);
@@ -153,7 +153,7 @@ fn leaving(controller: Controller, step: DrumStep) -> DrumResult
 // The contract rules out a run where there is no drum.
 fn run(controller: Controller, session: DrumSession, inputs: OtherInputs, turns: u16) -> DrumResult
     requires { Valid controller }
-    ensures { (result ≡ runIn controller session inputs turns) × Valid result.controller }
+    ensures { (result ≡ run_in controller session inputs turns) × Valid result.controller }
 {
     match session {
         DrumSession::Held(held) => run_held(controller, held, inputs, turns),

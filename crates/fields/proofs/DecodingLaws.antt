@@ -1,23 +1,23 @@
 -- The fields looked at so far, their values, and their sum.
 use Rattle.std.proofs.Common.{◌≡◌, ℕ, zero, suc, ◌+◌, ◌-◌, ◌%◌, ◌<◌, ◌≤◌, true, false, eqb, List, [], ◌∷◌, ◌++◌, length, get_or, take, drop, set, refl, ap, ◌∙◌, append-nil, le_of_suc-le-suc, not-suc-le-zero, add-one, arith, length-drop, length-set, take_all, drop-drop, take-suc-set, eq-eqb}
 use lib.Seq.{append_snoc}
-use Rattle.fields.specs.FieldLaws.{start_of, next_start, start-most}
+use Rattle.fields.specs.FieldLaws.{start_of, next_start, start_most}
 use Rattle.fields.specs.Fields.{tag_of, length_of, sum, sum_of}
-use Rattle.fields.specs.Decoding.{hasHeader, valueIn, wellFormedFrom, valuesFrom}
-use Rattle.fields.specs.RoundTrip.{well-formed-more, values-more}
+use Rattle.fields.specs.Decoding.{has_header, value_in, well_formed_from, values_from}
+use Rattle.fields.specs.RoundTrip.{well_formed_more, values_more}
 
-pub header-last : (t n : ℕ) (b : List ℕ) → get_or b 0 0 ≡ t → get_or b 1 0 ≡ 0 → eqb (get_or b 2 0) n ≡ hasHeader t n b
-unfolding hasHeader
-header-last t n b e0 e1 = simp (eq-eqb _ _ e0, eq-eqb _ _ e1)
+pub header_last : (t n : ℕ) (b : List ℕ) → get_or b 0 0 ≡ t → get_or b 1 0 ≡ 0 → eqb (get_or b 2 0) n ≡ has_header t n b
+unfolding has_header
+header_last t n b e0 e1 = simp (eq-eqb _ _ e0, eq-eqb _ _ e1)
 
-well-formed-not : (place many : ℕ) (b : List ℕ) → hasHeader (tag_of place) (length_of place) b ≡ false →
-    wellFormedFrom place (suc many) b ≡ false
-unfolding wellFormedFrom
-well-formed-not place many b h = rw h
+well_formed_not : (place many : ℕ) (b : List ℕ) → has_header (tag_of place) (length_of place) b ≡ false →
+    well_formed_from place (suc many) b ≡ false
+unfolding well_formed_from
+well_formed_not place many b h = rw h
 
 -- the part that is passed on is all that lies behind
-part-is : (b : List ℕ) (start : ℕ) → take (length b - start) (drop start b) ≡ drop start b
-part-is b start = take_all (length b - start) (drop start b) (omega (arith, length-drop start b))
+part_is : (b : List ℕ) (start : ℕ) → take (length b - start) (drop start b) ≡ drop start b
+part_is b start = take_all (length b - start) (drop start b) (omega (arith, length-drop start b))
 
 -- where the field at `place` begins
 pub record Begun (start place : ℕ) : Type 0 where
@@ -25,43 +25,43 @@ pub record Begun (start place : ℕ) : Type 0 where
   pub begins : start ≡ start_of place
   pub within : start ≤ 137
 
-pub begun-next : (start place n : ℕ) → Begun start place → place < 28 → n ≡ length_of place → Begun (start + 3 + n) (place + 1)
-begun-next start place n g h en =
-    record { few = omega arith; begins = omega (arith, next_start place h); within = omega (arith, next_start place h, start-most place h) }
+pub begun_next : (start place n : ℕ) → Begun start place → place < 28 → n ≡ length_of place → Begun (start + 3 + n) (place + 1)
+begun_next start place n g h en =
+    record { few = omega arith; begins = omega (arith, next_start place h); within = omega (arith, next_start place h, start_most place h) }
 
 -- ---- every tag and length right
 
 pub record WellFormed (b : List ℕ) (start place : ℕ) : Type 0 where
   pub begun : Begun start place
-  pub formed : wellFormedFrom 0 28 b ≡ wellFormedFrom place (28 - place) (drop start b)
+  pub formed : well_formed_from 0 28 b ≡ well_formed_from place (28 - place) (drop start b)
 
-pub well-formed-next : (b : List ℕ) (start place t n : ℕ) → WellFormed b start place → place < 28 → t ≡ tag_of place → n ≡ length_of place →
-    hasHeader t n (take (length b - start) (drop start b)) ≡ true → WellFormed b (start + 3 + n) (place + 1)
-well-formed-next b start place t n g h et en hh =
-    let p : take (length b - start) (drop start b) ≡ drop start b = part-is b start in
+pub well_formed_next : (b : List ℕ) (start place t n : ℕ) → WellFormed b start place → place < 28 → t ≡ tag_of place → n ≡ length_of place →
+    has_header t n (take (length b - start) (drop start b)) ≡ true → WellFormed b (start + 3 + n) (place + 1)
+well_formed_next b start place t n g h et en hh =
+    let p : take (length b - start) (drop start b) ≡ drop start b = part_is b start in
     let m : 28 - place ≡ suc (28 - (place + 1)) = omega arith in
     let s : suc place ≡ place + 1 = omega arith in
     let d : drop (3 + n) (drop start b) ≡ drop (start + (3 + n)) b = drop-drop (3 + n) start b in
     let a : start + (3 + n) ≡ start + 3 + n = omega arith in
-    let hd : hasHeader (tag_of place) (length_of place) (drop start b) ≡ true = cc in
+    let hd : has_header (tag_of place) (length_of place) (drop start b) ≡ true = cc in
     record {
-      begun = begun-next start place n g.begun h en;
-      formed = cc (g.formed, well-formed-more place (28 - (place + 1)) (drop start b) hd);
+      begun = begun_next start place n g.begun h en;
+      formed = cc (g.formed, well_formed_more place (28 - (place + 1)) (drop start b) hd);
     }
 
-pub well-formed-wrong : (b : List ℕ) (start place t n : ℕ) → WellFormed b start place → place < 28 → t ≡ tag_of place → n ≡ length_of place →
-    hasHeader t n (take (length b - start) (drop start b)) ≡ false → wellFormedFrom 0 28 b ≡ false
-well-formed-wrong b start place t n g h et en hh =
-    let p : take (length b - start) (drop start b) ≡ drop start b = part-is b start in
+pub well_formed_wrong : (b : List ℕ) (start place t n : ℕ) → WellFormed b start place → place < 28 → t ≡ tag_of place → n ≡ length_of place →
+    has_header t n (take (length b - start) (drop start b)) ≡ false → well_formed_from 0 28 b ≡ false
+well_formed_wrong b start place t n g h et en hh =
+    let p : take (length b - start) (drop start b) ≡ drop start b = part_is b start in
     let m : 28 - place ≡ suc (28 - (place + 1)) = omega arith in
-    let hd : hasHeader (tag_of place) (length_of place) (drop start b) ≡ false = cc in
-    cc (g.formed, well-formed-not place (28 - (place + 1)) (drop start b) hd)
+    let hd : has_header (tag_of place) (length_of place) (drop start b) ≡ false = cc in
+    cc (g.formed, well_formed_not place (28 - (place + 1)) (drop start b) hd)
 
-pub well-formed-all : (b : List ℕ) (start place : ℕ) → WellFormed b start place → 28 ≤ place → true ≡ wellFormedFrom 0 28 b
-unfolding wellFormedFrom
-well-formed-all b start place g h =
+pub well_formed_all : (b : List ℕ) (start place : ℕ) → WellFormed b start place → 28 ≤ place → true ≡ well_formed_from 0 28 b
+unfolding well_formed_from
+well_formed_all b start place g h =
     let z : 28 - place ≡ 0 = omega arith in
-    let f : wellFormedFrom place 0 (drop start b) ≡ true = refl in
+    let f : well_formed_from place 0 (drop start b) ≡ true = refl in
     cc g.formed
 
 -- ---- the values
@@ -69,34 +69,34 @@ well-formed-all b start place g h =
 pub record Decoded (b values : List ℕ) (start place : ℕ) : Type 0 where
   pub begun : Begun start place
   pub size : length values ≡ 28
-  pub decoded : valuesFrom 0 28 b ≡ take place values ++ valuesFrom place (28 - place) (drop start b)
+  pub decoded : values_from 0 28 b ≡ take place values ++ values_from place (28 - place) (drop start b)
 
-pub decoded-next : (b values : List ℕ) (start place n v : ℕ) → Decoded b values start place → place < 28 → n ≡ length_of place →
-    v ≡ valueIn n (take (length b - start) (drop start b)) → Decoded b (set values place v) (start + 3 + n) (place + 1)
-decoded-next b values start place n v g h en ev =
-    let p : take (length b - start) (drop start b) ≡ drop start b = part-is b start in
+pub decoded_next : (b values : List ℕ) (start place n v : ℕ) → Decoded b values start place → place < 28 → n ≡ length_of place →
+    v ≡ value_in n (take (length b - start) (drop start b)) → Decoded b (set values place v) (start + 3 + n) (place + 1)
+decoded_next b values start place n v g h en ev =
+    let p : take (length b - start) (drop start b) ≡ drop start b = part_is b start in
     let m : 28 - place ≡ suc (28 - (place + 1)) = omega arith in
     let s : suc place ≡ place + 1 = omega arith in
     let d : drop (3 + n) (drop start b) ≡ drop (start + (3 + n)) b = drop-drop (3 + n) start b in
     let a : start + (3 + n) ≡ start + 3 + n = omega arith in
     record {
-      begun = begun-next start place n g.begun h en;
+      begun = begun_next start place n g.begun h en;
       size = length-set values place v ∙ g.size;
       decoded =
           cc (
             g.decoded,
-            values-more place (28 - (place + 1)) (drop start b),
+            values_more place (28 - (place + 1)) (drop start b),
             take-suc-set values place v (omega arith),
-            append_snoc (take place values) v (valuesFrom (suc place) (28 - (place + 1)) (drop (start + (3 + n)) b)),
+            append_snoc (take place values) v (values_from (suc place) (28 - (place + 1)) (drop (start + (3 + n)) b)),
           );
     }
 
-pub decoded-all : (b values : List ℕ) (start place : ℕ) → Decoded b values start place → 28 ≤ place → values ≡ valuesFrom 0 28 b
-unfolding valuesFrom
-decoded-all b values start place g h =
+pub decoded_all : (b values : List ℕ) (start place : ℕ) → Decoded b values start place → 28 ≤ place → values ≡ values_from 0 28 b
+unfolding values_from
+decoded_all b values start place g h =
     let z : 28 - place ≡ 0 = omega arith in
     let e : take place values ≡ values = take_all place values (omega arith) in
-    let w : valuesFrom place 0 (drop start b) ≡ [] = refl in
+    let w : values_from place 0 (drop start b) ≡ [] = refl in
     cc (g.decoded, append-nil values)
 
 -- ---- the sum
@@ -107,9 +107,9 @@ sum_more [] i h = absurd (not-suc-le-zero h)
 sum_more (w ∷ ws) zero h = omega arith
 sum_more (w ∷ ws) (suc i) h = omega (arith, sum_more ws i (le_of_suc-le-suc h))
 
-pub sum-next : (vs : List ℕ) (s i r : ℕ) → i < length vs → s ≡ sum_of (take i vs) → r ≡ (s + get_or vs i 0) % 65536 →
+pub sum_next : (vs : List ℕ) (s i r : ℕ) → i < length vs → s ≡ sum_of (take i vs) → r ≡ (s + get_or vs i 0) % 65536 →
     r ≡ sum_of (take (i + 1) vs)
 unfolding sum_of
-sum-next vs s i r h es er =
+sum_next vs s i r h es er =
     let more : sum (take (i + 1) vs) ≡ sum (take i vs) + get_or vs i 0 = ap (λ (k : ℕ). sum (take k vs)) (add-one i) ∙ sum_more vs i h in
     omega arith

@@ -4,20 +4,20 @@ use Rattle.integers.specs.Choice.{if◌then◌else◌}
 use Rattle.fields.specs.Fields.{tag_of, length_of}
 
 -- these bytes begin with a field of this tag whose value has so many bytes
-unfoldable pub hasHeader : ℕ → ℕ → List ℕ → Bool
-hasHeader tag size bytes = slice_index bytes 0 == tag && (slice_index bytes 1 == 0 && slice_index bytes 2 == size)
+unfoldable pub has_header : ℕ → ℕ → List ℕ → Bool
+has_header tag size bytes = slice_index bytes 0 == tag && (slice_index bytes 1 == 0 && slice_index bytes 2 == size)
 
 -- the value of the field that they begin with, "high byte first"
-unfoldable pub valueIn : ℕ → List ℕ → ℕ
-valueIn size bytes = if size == 2 then slice_index bytes 3 * 256 + slice_index bytes 4 else slice_index bytes 3
+unfoldable pub value_in : ℕ → List ℕ → ℕ
+value_in size bytes = if size == 2 then slice_index bytes 3 * 256 + slice_index bytes 4 else slice_index bytes 3
 
 -- so many fields from this place on: each tag and length right
-unfoldable pub wellFormedFrom : ℕ → ℕ → List ℕ → Bool
-wellFormedFrom place zero bytes = true
-wellFormedFrom place (suc many) bytes =
-    hasHeader (tag_of place) (length_of place) bytes && wellFormedFrom (suc place) many (drop (3 + length_of place) bytes)
+unfoldable pub well_formed_from : ℕ → ℕ → List ℕ → Bool
+well_formed_from place zero bytes = true
+well_formed_from place (suc many) bytes =
+    has_header (tag_of place) (length_of place) bytes && well_formed_from (suc place) many (drop (3 + length_of place) bytes)
 
 -- and their values
-unfoldable pub valuesFrom : ℕ → ℕ → List ℕ → List ℕ
-valuesFrom place zero bytes = []
-valuesFrom place (suc many) bytes = valueIn (length_of place) bytes ∷ valuesFrom (suc place) many (drop (3 + length_of place) bytes)
+unfoldable pub values_from : ℕ → ℕ → List ℕ → List ℕ
+values_from place zero bytes = []
+values_from place (suc many) bytes = value_in (length_of place) bytes ∷ values_from (suc place) many (drop (3 + length_of place) bytes)

@@ -1,7 +1,7 @@
 -- Laws of single fields and of where they stand.
 use Rattle.std.specs.Prelude.{◌≡◌, ℕ, zero, suc, ◌+◌, ◌-◌, ◌*◌, ◌<◌, ◌≤◌, Bool, true, false, cond, List, [], ◌∷◌, ◌++◌, length, take, nat_lt, slice_index, refl}
 use Rattle.std.proofs.Common.{append_assoc, append-nil, le_of_suc-le-suc, not-suc-le-zero, add-zero, add-suc, suc-add, arith, ltb-true, ltb-false}
-use Rattle.fields.specs.Fields.{tag_of, length_of, valueBytes, fieldBytes, fieldsFrom}
+use Rattle.fields.specs.Fields.{tag_of, length_of, value_bytes, field_bytes, fields_from}
 
 -- a value has one byte or two
 pub by_length : (P : ℕ → Type 0) → P 1 → P 2 → (place : ℕ) → P (length_of place)
@@ -13,9 +13,9 @@ by_length P one two place = pick (nat_lt place 24) (nat_lt place 27)
     pick false true = one
     pick false false = two
 
-pub length-field : (tag place v : ℕ) → length (fieldBytes tag (length_of place) v) ≡ 3 + length_of place
-unfolding fieldBytes valueBytes
-length-field tag place v = by_length (λ (n : ℕ). length (fieldBytes tag n v) ≡ 3 + n) refl refl place
+pub length_field : (tag place v : ℕ) → length (field_bytes tag (length_of place) v) ≡ 3 + length_of place
+unfolding field_bytes value_bytes
+length_field tag place v = by_length (λ (n : ℕ). length (field_bytes tag n v) ≡ 3 + n) refl refl place
 
 -- where a field begins: five bytes a field, but four for those of one byte
 unfoldable pub start_of : ℕ → ℕ
@@ -30,23 +30,23 @@ next_start place h = go (nat_lt place 24) (nat_lt place 27) refl refl
     go false true e d = let w : place < 27 = ltb-true _ _ d in let v : 24 ≤ place = ltb-false _ _ e in omega arith
     go false false e d = let w : 27 ≤ place = ltb-false _ _ d in omega arith
 
-pub start-most : (place : ℕ) → place < 28 → start_of (place + 1) ≤ 137
+pub start_most : (place : ℕ) → place < 28 → start_of (place + 1) ≤ 137
 unfolding start_of
-start-most place h = omega arith
+start_most place h = omega arith
 
 -- starts never fall
-pub start-grows : (many place : ℕ) → place + many ≤ 28 → start_of place ≤ start_of (place + many)
+pub start_grows : (many place : ℕ) → place + many ≤ 28 → start_of place ≤ start_of (place + many)
 unfolding start_of
-start-grows many place h = omega arith
+start_grows many place h = omega arith
 
-pub start-end : start_of 28 ≡ 137
+pub start_end : start_of 28 ≡ 137
 unfolding start_of
-start-end = refl
+start_end = refl
 
 -- one field more
-pub fields-more : (first : ℕ) (vs : List ℕ) (i : ℕ) → i < length vs →
-    fieldsFrom first (take (suc i) vs) ≡ fieldsFrom first (take i vs) ++ fieldBytes (tag_of (first + i)) (length_of (first + i)) (slice_index vs i)
-unfolding fieldsFrom
-fields-more first [] i h = absurd (not-suc-le-zero h)
-fields-more first (v ∷ vs) zero h = simp (append-nil, add-zero)
-fields-more first (v ∷ vs) (suc i) h = simp (fields-more (suc first) vs i (le_of_suc-le-suc h), append_assoc, add-suc, suc-add)
+pub fields_more : (first : ℕ) (vs : List ℕ) (i : ℕ) → i < length vs →
+    fields_from first (take (suc i) vs) ≡ fields_from first (take i vs) ++ field_bytes (tag_of (first + i)) (length_of (first + i)) (slice_index vs i)
+unfolding fields_from
+fields_more first [] i h = absurd (not-suc-le-zero h)
+fields_more first (v ∷ vs) zero h = simp (append-nil, add-zero)
+fields_more first (v ∷ vs) (suc i) h = simp (fields_more (suc first) vs i (le_of_suc-le-suc h), append_assoc, add-suc, suc-add)

@@ -17,17 +17,17 @@ length_of place =
     if nat_lt place 27 then 1 else 2
 
 -- a value in so many bytes, "high byte first"
-unfoldable pub valueBytes : ℕ → ℕ → List ℕ
-valueBytes size v = if size == 2 then v / 256 ∷ v % 256 ∷ [] else v % 256 ∷ []
+unfoldable pub value_bytes : ℕ → ℕ → List ℕ
+value_bytes size v = if size == 2 then v / 256 ∷ v % 256 ∷ [] else v % 256 ∷ []
 
 -- "tag byte, two-byte length, value"
-unfoldable pub fieldBytes : ℕ → ℕ → ℕ → List ℕ
-fieldBytes tag size v = tag ∷ 0 ∷ size ∷ valueBytes size v
+unfoldable pub field_bytes : ℕ → ℕ → ℕ → List ℕ
+field_bytes tag size v = tag ∷ 0 ∷ size ∷ value_bytes size v
 
 -- the fields of these values, the first of which has this place
-unfoldable pub fieldsFrom : ℕ → List ℕ → List ℕ
-fieldsFrom place [] = []
-fieldsFrom place (v ∷ vs) = fieldBytes (tag_of place) (length_of place) v ++ fieldsFrom (suc place) vs
+unfoldable pub fields_from : ℕ → List ℕ → List ℕ
+fields_from place [] = []
+fields_from place (v ∷ vs) = field_bytes (tag_of place) (length_of place) v ++ fields_from (suc place) vs
 
 -- ---- "The sumcheck is all earlier values, read unsigned, summed modulo 65,536."
 
@@ -39,15 +39,15 @@ unfoldable pub sum_of : List ℕ → ℕ
 sum_of vs = sum vs % 65536
 
 -- all values: the earlier ones, and their sumcheck
-unfoldable pub withSumcheck : List ℕ → List ℕ
-withSumcheck vs = vs ++ (sum_of vs ∷ [])
+unfoldable pub with_sumcheck : List ℕ → List ℕ
+with_sumcheck vs = vs ++ (sum_of vs ∷ [])
 
 -- ---- saving
 
 -- "Lender: 15 fewer than 137 bytes to save into."
-unfoldable pub saveTests : List ℕ → List (Bool × ℕ)
-saveTests buffer = (nat_lt (length buffer) 137, 15) ∷ []
+unfoldable pub save_tests : List ℕ → List (Bool × ℕ)
+save_tests buffer = (nat_lt (length buffer) 137, 15) ∷ []
 
 -- the buffer afterwards: "bytes past the 137 stay"; with fewer, "buffers stay"
-unfoldable pub savedIn : List ℕ → List ℕ → List ℕ
-savedIn image buffer = if nat_le 137 (length buffer) then image ++ drop 137 buffer else buffer
+unfoldable pub saved_in : List ℕ → List ℕ → List ℕ
+saved_in image buffer = if nat_le 137 (length buffer) then image ++ drop 137 buffer else buffer

@@ -1,8 +1,8 @@
 // The image as bytes: 28 fields of a tag, a length and a value, encoded in the caller's buffer and
 // decoded again; and the sumcheck over the values.
 ghost use Rattle.std.specs.Prelude.{◌≡◌, ◌+◌, ◌<◌, ◌≤◌, ◌++◌, length, take, drop};
-ghost use Rattle.signals.specs.Refusals.{number_in, refusedBy};
-ghost use Rattle.fields.specs.Fields.{tag_of, length_of, fieldBytes, fieldsFrom, sum_of, withSumcheck, saveTests, savedIn};
+ghost use Rattle.signals.specs.Refusals.{number_in, refused_by};
+ghost use Rattle.fields.specs.Fields.{tag_of, length_of, field_bytes, fields_from, sum_of, with_sumcheck, save_tests, saved_in};
 
 use signals::{Refusal, Verdict};
 
@@ -67,7 +67,7 @@ fn length_of(place: usize) -> u8
 // field that changes.
 fn encode_field(part: &mut [u8], tag: u8, size: u8, value: u16)
     requires { (3 + size ≤ length part.old) × (1 ≤ size) × (size ≤ 2) }
-    ensures { part.new ≡ fieldBytes tag size value ++ drop (3 + size) part.old }
+    ensures { part.new ≡ field_bytes tag size value ++ drop (3 + size) part.old }
 {
     part[0] = tag;
     part[1] = 0;
@@ -83,7 +83,7 @@ fn encode_field(part: &mut [u8], tag: u8, size: u8, value: u16)
 // Encodes all fields, each in the part of the buffer behind the fields before it.
 fn encode(values: [u16; FIELD_COUNT], buffer: &mut [u8])
     requires { 137 ≤ length buffer.old }
-    ensures { buffer.new ≡ fieldsFrom 0 values ++ drop 137 buffer.old }
+    ensures { buffer.new ≡ fields_from 0 values ++ drop 137 buffer.old }
 {
     let mut start: usize = 0;
     let mut place: usize = 0;
@@ -99,8 +99,8 @@ fn encode(values: [u16; FIELD_COUNT], buffer: &mut [u8])
 // rules out a refusal of 137 bytes, an image that is encoded elsewhere, a byte behind it that changes,
 // and a short buffer that doesn't stay.
 pub fn save(values: [u16; FIELD_COUNT], buffer: &mut [u8]) -> Verdict
-    ensures { (number_in result ≡ refusedBy (saveTests buffer.old))
-        × (buffer.new ≡ savedIn (fieldsFrom 0 values) buffer.old) }
+    ensures { (number_in result ≡ refused_by (save_tests buffer.old))
+        × (buffer.new ≡ saved_in (fields_from 0 values) buffer.old) }
 {
     if buffer.len() < IMAGE_LENGTH {
         return Verdict::Refused(Refusal::ShortBuffer);
@@ -125,7 +125,7 @@ pub fn sumcheck(values: [u16; FIELD_COUNT]) -> u16
 
 // The values with their sumcheck behind them. The contract rules out a value that changes.
 pub fn with_sumcheck(mut values: [u16; FIELD_COUNT]) -> [u16; FIELD_COUNT]
-    ensures { result ≡ withSumcheck (take 27 values) }
+    ensures { result ≡ with_sumcheck (take 27 values) }
 {
     values[SUMCHECK] = sumcheck(values);
     values

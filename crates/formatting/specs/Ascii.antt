@@ -10,8 +10,8 @@ abbrev pub ascii : String → List ℕ
 ascii no_text = []
 ascii (c before s) = code c ∷ ascii s
 
-ascii-example : ascii "ok\n" ≡ 111 ∷ 107 ∷ 10 ∷ []
-ascii-example = refl
+ascii_example : ascii "ok\n" ≡ 111 ∷ 107 ∷ 10 ∷ []
+ascii_example = refl
 
 -- digits from 48 on, capitals from 65 on, small letters from 97 on
 digits : ascii "0123456789" ≡ listed (λ n. n) 48 10
@@ -22,6 +22,6 @@ capitals : ascii "ABCDEFGHIJKLMNOPQRSTUVWXYZ" ≡ listed (λ n. n) 65 26
 unfolding listed
 capitals = refl
 
-small-letters : ascii "abcdefghijklmnopqrstuvwxyz" ≡ listed (λ n. n) 97 26
+small_letters_lem : ascii "abcdefghijklmnopqrstuvwxyz" ≡ listed (λ n. n) 97 26
 unfolding listed
-small-letters = refl
+small_letters_lem = refl

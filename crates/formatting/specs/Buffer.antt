@@ -10,6 +10,6 @@ unfoldable pub append : Buffer → ℕ → Buffer
 append (buffer out used) b = cond (ltb used (length out)) (buffer (set out used b) (used + 1)) (buffer out used)
 
 -- bytes one after another: they are cut where the buffer ends
-unfoldable pub appendAll : Buffer → List ℕ → Buffer
-appendAll o [] = o
-appendAll o (b ∷ bs) = appendAll (append o b) bs
+unfoldable pub append_all : Buffer → List ℕ → Buffer
+append_all o [] = o
+append_all o (b ∷ bs) = append_all (append o b) bs

@@ -2,17 +2,17 @@
 use Rattle.std.specs.Prelude.{◌≡◌, refl, List, [], ◌∷◌, ◌++◌, ℕ, suc, ◌+◌, ◌≤◌, ◌<◌, length, set, take, drop, get_or}
 use Rattle.std.proofs.Common.{sym, ap, ◌∙◌, add-one, add-zero, add-suc, suc-add, arith, length-set, length-append, take-append-drop, drop_of_length-le, drop-cons, take-suc-set, drop-set-lt, lt-ltb}
 use Rattle.std.proofs.Math.Seq.{take-append_seam, append_snoc}
-use Rattle.formatting.specs.Buffer.{Buffer, buffer, append, appendAll}
+use Rattle.formatting.specs.Buffer.{Buffer, buffer, append, append_all}
 
 -- bytes behind bytes
-pub append-append : (o : Buffer) (xs ys : List ℕ) → appendAll o (xs ++ ys) ≡ appendAll (appendAll o xs) ys
-unfolding appendAll
-append-append o [] ys = refl
-append-append o (x ∷ xs) ys = append-append (append o x) xs ys
+pub append_append : (o : Buffer) (xs ys : List ℕ) → append_all o (xs ++ ys) ≡ append_all (append_all o xs) ys
+unfolding append_all
+append_append o [] ys = refl
+append_append o (x ∷ xs) ys = append_append (append o x) xs ys
 
 -- a call behind others
-pub then : (o : Buffer) {p q : Buffer} (xs ys : List ℕ) → p ≡ appendAll o xs → q ≡ appendAll p ys → q ≡ appendAll o (xs ++ ys)
-then o xs ys e f = f ∙ ap (λ (b : Buffer). appendAll b ys) e ∙ sym (append-append o xs ys)
+pub then : (o : Buffer) {p q : Buffer} (xs ys : List ℕ) → p ≡ append_all o xs → q ≡ append_all p ys → q ≡ append_all o (xs ++ ys)
+then o xs ys e f = f ∙ ap (λ (b : Buffer). append_all b ys) e ∙ sym (append_append o xs ys)
 
 -- ---- where there is room
 
@@ -20,9 +20,9 @@ then o xs ys e f = f ∙ ap (λ (b : Buffer). appendAll b ys) e ∙ sym (append-
 unfoldable pub replaced : ℕ → List ℕ → List ℕ → List ℕ
 replaced at bytes out = take at out ++ (bytes ++ drop (at + length bytes) out)
 
-replaced-more : (at b : ℕ) (bytes out : List ℕ) → at < length out → replaced (at + 1) bytes (set out at b) ≡ replaced at (b ∷ bytes) out
+replaced_more : (at b : ℕ) (bytes out : List ℕ) → at < length out → replaced (at + 1) bytes (set out at b) ≡ replaced at (b ∷ bytes) out
 unfolding replaced
-replaced-more at b bytes out h =
+replaced_more at b bytes out h =
     rw (
       add-one,
       take-suc-set out at b h,
@@ -33,22 +33,22 @@ replaced-more at b bytes out h =
     )
 
 -- every byte stands behind those used, and no other byte has changed
-pub append-room : (bytes out : List ℕ) (used : ℕ) → used + length bytes ≤ length out
-    → appendAll (buffer out used) bytes ≡ buffer (replaced used bytes out) (used + length bytes)
-unfolding appendAll append replaced
-append-room [] out used h = let e = take-append-drop used out in rw add-zero (rw e)
-append-room (b ∷ bs) out used h =
+pub append_room : (bytes out : List ℕ) (used : ℕ) → used + length bytes ≤ length out
+    → append_all (buffer out used) bytes ≡ buffer (replaced used bytes out) (used + length bytes)
+unfolding append_all append replaced
+append_room [] out used h = let e = take-append-drop used out in rw add-zero (rw e)
+append_room (b ∷ bs) out used h =
     let l : used < length out = omega arith in
     simp (lt-ltb used (length out) l)
-    (append-room bs (set out used b) (used + 1) (omega (arith, length-set out used b)) ∙
-    rw (replaced-more used b bs out l) (ap (buffer (replaced used (b ∷ bs) out)) (omega arith)))
+    (append_room bs (set out used b) (used + 1) (omega (arith, length-set out used b)) ∙
+    rw (replaced_more used b bs out l) (ap (buffer (replaced used (b ∷ bs) out)) (omega arith)))
 
 -- in front of a buffer of which nothing was used, the bytes stand by themselves
-pub append-front : (bytes out after : List ℕ) (end : ℕ) → length bytes ≤ length out → buffer after end ≡ appendAll (buffer out 0) bytes
+pub append_front : (bytes out after : List ℕ) (end : ℕ) → length bytes ≤ length out → buffer after end ≡ append_all (buffer out 0) bytes
     → (end ≤ length after) × (take end after ≡ bytes)
 unfolding replaced
-append-front bytes out after end h e =
-    let r = e ∙ append-room bytes out 0 (omega arith) in
+append_front bytes out after end h e =
+    let r = e ∙ append_room bytes out 0 (omega arith) in
     let a : after ≡ bytes ++ drop (0 + length bytes) out = cc in
     let n : end ≡ 0 + length bytes = cc in
     let l : end ≡ length bytes = omega arith in
@@ -60,17 +60,17 @@ append-front bytes out after end h e =
 pub record Appending (f : List ℕ → List ℕ) (bytes out₀ : List ℕ) (used : ℕ) (out : List ℕ) (end i : ℕ) : Type 0 where
   pub inside : i ≤ length bytes
   pub size : length out ≡ length out₀
-  pub whole : appendAll (buffer out end) (f (drop i bytes)) ≡ appendAll (buffer out₀ used) (f bytes)
+  pub whole : append_all (buffer out end) (f (drop i bytes)) ≡ append_all (buffer out₀ used) (f bytes)
 
 module _ (f : List ℕ → List ℕ) (none : f [] ≡ []) (more : (b : ℕ) (bs : List ℕ) → f (b ∷ bs) ≡ f (b ∷ []) ++ f bs)
     (bytes out₀ : List ℕ) (used : ℕ) (out : List ℕ) (end i : ℕ) (a : Appending f bytes out₀ used out end i) where
-  pub appending-turn : (out' : List ℕ) (end' : ℕ) → i < length bytes → length out' ≡ length out
-      → buffer out' end' ≡ appendAll (buffer out end) (f (get_or bytes i 0 ∷ [])) → Appending f bytes out₀ used out' end' (i + 1)
-  appending-turn out' end' h l e =
-      let s : appendAll (buffer out end) (f (drop i bytes)) ≡ appendAll (buffer out' end') (f (drop (suc i) bytes)) =
-      rw (drop-cons bytes i 0 h, more (get_or bytes i 0) (drop (suc i) bytes), e) (append-append (buffer out end) _ _) in
+  pub appending_turn : (out' : List ℕ) (end' : ℕ) → i < length bytes → length out' ≡ length out
+      → buffer out' end' ≡ append_all (buffer out end) (f (get_or bytes i 0 ∷ [])) → Appending f bytes out₀ used out' end' (i + 1)
+  appending_turn out' end' h l e =
+      let s : append_all (buffer out end) (f (drop i bytes)) ≡ append_all (buffer out' end') (f (drop (suc i) bytes)) =
+      rw (drop-cons bytes i 0 h, more (get_or bytes i 0) (drop (suc i) bytes), e) (append_append (buffer out end) _ _) in
       record { inside = omega arith; size = l ∙ a.size; whole = rw add-one (sym s ∙ a.whole) }
 
-  pub appending-ends : length bytes ≤ i → buffer out end ≡ appendAll (buffer out₀ used) (f bytes)
-  unfolding appendAll
-  appending-ends h = rw (drop_of_length-le bytes {i = i} h, none) at a.whole
+  pub appending_ends : length bytes ≤ i → buffer out end ≡ append_all (buffer out₀ used) (f bytes)
+  unfolding append_all
+  appending_ends h = rw (drop_of_length-le bytes {i = i} h, none) at a.whole

@@ -1,12 +1,12 @@
 // Bytes and numbers appended to an output buffer, behind the bytes used; a function's result is how many are used then.
 // What doesn't fit is left out, so no call has a condition, and the contracts state every byte of the buffer.
 ghost use Rattle.std.specs.Prelude.{◌≡◌, [], ◌∷◌, ◌≤◌, ◌<◌};
-ghost use Rattle.numerals.specs.Numerals.{lastDigits, digits, decimal, hexadecimal, hexadecimalWord};
-ghost use Rattle.formatting.specs.Buffer.{buffer, appendAll};
+ghost use Rattle.numerals.specs.Numerals.{last_digits, digits, decimal, hexadecimal, hexadecimal_word};
+ghost use Rattle.formatting.specs.Buffer.{buffer, append_all};
 
 // One byte. The contract rules out a byte written past those used, and a count that is off by one.
 pub fn append_byte(out: &mut [u8], used: usize, byte: u8) -> usize
-    ensures { buffer out.new result ≡ appendAll (buffer out.old used) (byte ∷ []) }
+    ensures { buffer out.new result ≡ append_all (buffer out.old used) (byte ∷ []) }
 {
     if used < out.len() {
         out[used] = byte;
@@ -17,7 +17,7 @@ pub fn append_byte(out: &mut [u8], used: usize, byte: u8) -> usize
 
 // The bytes of a slice. The contract rules out a byte that is lost, or out of its order.
 pub fn append_bytes(out: &mut [u8], used: usize, bytes: &[u8]) -> usize
-    ensures { buffer out.new result ≡ appendAll (buffer out.old used) bytes.now }
+    ensures { buffer out.new result ≡ append_all (buffer out.old used) bytes.now }
 {
     let mut end = used;
     let mut i = 0;
@@ -31,7 +31,7 @@ pub fn append_bytes(out: &mut [u8], used: usize, bytes: &[u8]) -> usize
 // The last digits of a number, so many: at most twenty, as many as 64 bits have in decimal.
 fn append_digits(out: &mut [u8], used: usize, base: u64, count: usize, number: u64) -> usize
     requires { (1 < base) × (base ≤ 16) × (count ≤ 20) }
-    ensures { buffer out.new result ≡ appendAll (buffer out.old used) (lastDigits base count number) }
+    ensures { buffer out.new result ≡ append_all (buffer out.old used) (last_digits base count number) }
 {
     let mut text = [0u8; 20];
     numerals::writing::write_digits(&mut text, base, count, number);
@@ -40,7 +40,7 @@ fn append_digits(out: &mut [u8], used: usize, base: u64, count: usize, number: u
 
 // A natural number in decimal. The contract rules out a leading zero and a digit that is wrong.
 pub fn append_decimal(out: &mut [u8], used: usize, number: u64) -> usize
-    ensures { buffer out.new result ≡ appendAll (buffer out.old used) (digits number) }
+    ensures { buffer out.new result ≡ append_all (buffer out.old used) (digits number) }
 {
     let count = numerals::writing::places(number);
     append_digits(out, used, 10, count, number)
@@ -48,7 +48,7 @@ pub fn append_decimal(out: &mut [u8], used: usize, number: u64) -> usize
 
 // An integer in decimal. The contract rules out a sign that is lost.
 pub fn append_signed(out: &mut [u8], used: usize, number: i64) -> usize
-    ensures { buffer out.new result ≡ appendAll (buffer out.old used) (decimal number) }
+    ensures { buffer out.new result ≡ append_all (buffer out.old used) (decimal number) }
 {
     let size = integers::magnitude(number);
     if integers::negative(number) {
@@ -61,7 +61,7 @@ pub fn append_signed(out: &mut [u8], used: usize, number: i64) -> usize
 // A word in four hexadecimal digits, its low 16 bits. The contract rules out small letters and a digit too few or too
 // many.
 pub fn append_word(out: &mut [u8], used: usize, word: u64) -> usize
-    ensures { buffer out.new result ≡ appendAll (buffer out.old used) (hexadecimalWord word) }
+    ensures { buffer out.new result ≡ append_all (buffer out.old used) (hexadecimal_word word) }
 {
     append_digits(out, used, 16, 4, word)
 }
@@ -69,7 +69,7 @@ pub fn append_word(out: &mut [u8], used: usize, word: u64) -> usize
 // The bytes of a slice in hexadecimal, two digits to a byte. The contract rules out halves that are exchanged and small
 // letters.
 pub fn append_hexadecimal(out: &mut [u8], used: usize, bytes: &[u8]) -> usize
-    ensures { buffer out.new result ≡ appendAll (buffer out.old used) (hexadecimal bytes.now) }
+    ensures { buffer out.new result ≡ append_all (buffer out.old used) (hexadecimal bytes.now) }
 {
     let mut end = used;
     let mut i = 0;

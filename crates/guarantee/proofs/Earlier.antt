@@ -2,55 +2,55 @@
 use mathlib.Core.Path.{◌≡◌, refl, ap, ◌∙◌}
 use Prim.Native.Nat.{ℕ}
 use Rattle.integers.specs.Choice.{if◌then◌else◌}
-use Rattle.signals.specs.Refusals.{refusedBy, scanTests}
-use Rattle.signals.specs.Signals.{isOpen}
+use Rattle.signals.specs.Refusals.{refused_by, scan_tests}
+use Rattle.signals.specs.Signals.{is_open}
 use Rattle.signals.specs.declared.clock.ClockReading.{ClockReading}
 use Rattle.setpoints.specs.declared.Readings.{Readings}
-use Rattle.outputs.specs.History.{remembered, historyAfter}
+use Rattle.outputs.specs.History.{remembered, history_after}
 use Rattle.outputs.specs.declared.History.{History}
 use Rattle.outputs.specs.declared.History.TheVariants.{Nothing, One, Two}
-use Rattle.controller.specs.Restart.{valuesIn, restartTests, restartAccepted, restartCore}
-use Rattle.controller.specs.Scan.{earlierScans, context_of, coreAfter, statusOf, accepted, refused, scanCore}
-use Rattle.controller.specs.State.{freshCore}
-use Rattle.controller.specs.ValidLaws.{by-verdict}
-use Rattle.controller.specs.Write.{writeTests, writeAccepted, writeCore}
-use Rattle.controller.specs.WriteLaws.{history-stays}
+use Rattle.controller.specs.Restart.{values_in, restart_tests, restart_accepted, restart_core}
+use Rattle.controller.specs.Scan.{earlier_scans, context_of, core_after, status_of, accepted, refused, scan_core}
+use Rattle.controller.specs.State.{fresh_core}
+use Rattle.controller.specs.ValidLaws.{by_verdict_lem}
+use Rattle.controller.specs.Write.{write_tests, write_accepted, write_core}
+use Rattle.controller.specs.WriteLaws.{history_stays}
 use Rattle.controller.specs.declared.Core.{Core}
-use Rattle.guarantee.specs.Clock.{recalledAt}
-use Rattle.guarantee.specs.Count.{lastReading, remember, earlierAfter, earlier}
-use Rattle.guarantee.specs.Exact.{Call, scan, write, restart, Calls, none, ◌then◌, oneMore, outcomeOf, exactAfter, exact, exactAnswer}
-use Rattle.guarantee.proofs.Clock.{history-is, reading-after}
+use Rattle.guarantee.specs.Clock.{recalled_at}
+use Rattle.guarantee.specs.Count.{last_reading, remember, earlier_after, earlier}
+use Rattle.guarantee.specs.Exact.{Call, scan, write, restart, Calls, none, ◌then◌, one_more, outcome_of, exact_after, exact, exact_answer}
+use Rattle.guarantee.proofs.Clock.{history_is, reading_after_lem}
 
-remembered-is : (h : History) (r : Readings) → remembered h r ≡ remember r.pv r.sp h
-remembered-is Nothing r = refl
-remembered-is (One pv sp) r = refl
-remembered-is (Two pv sp before) r = refl
+remembered_is : (h : History) (r : Readings) → remembered h r ≡ remember r.pv r.sp h
+remembered_is Nothing r = refl
+remembered_is (One pv sp) r = refl
+remembered_is (Two pv sp before) r = refl
 
-step : (c : Core) (x : Call) → let o = outcomeOf oneMore c x in
-    o.next.history ≡ earlierAfter o.next c.clock x o.answer c.history
-unfolding outcomeOf scanCore writeCore writeAccepted restartCore restartAccepted refused accepted context_of coreAfter historyAfter
-    statusOf earlierAfter recalledAt
+step : (c : Core) (x : Call) → let o = outcome_of one_more c x in
+    o.next.history ≡ earlier_after o.next c.clock x o.answer c.history
+unfolding outcome_of scan_core write_core write_accepted restart_core restart_accepted refused accepted context_of core_after history_after
+    status_of earlier_after recalled_at
 step c (scan i) =
-    let r = (accepted oneMore c i).next.readings in
-    by-verdict (λ o. o.next.history ≡ earlierAfter o.next c.clock (scan i) o.answer c.history)
-    (refusedBy (scanTests c.clock i)) c (accepted oneMore c i)
-    (λ e. ap (λ (h : History). if isOpen i then Nothing else h)
-    (remembered-is (earlierScans c i) r ∙ ap (λ (h : History). remember r.pv r.sp h) (history-is c i))) (λ n. refl)
+    let r = (accepted one_more c i).next.readings in
+    by_verdict_lem (λ o. o.next.history ≡ earlier_after o.next c.clock (scan i) o.answer c.history)
+    (refused_by (scan_tests c.clock i)) c (accepted one_more c i)
+    (λ e. ap (λ (h : History). if is_open i then Nothing else h)
+    (remembered_is (earlier_scans c i) r ∙ ap (λ (h : History). remember r.pv r.sp h) (history_is c i))) (λ n. refl)
 step c (write w n v) =
-    by-verdict (λ o. o.next.history ≡ earlierAfter o.next c.clock (write w n v) o.answer c.history)
-    (refusedBy (writeTests c w n v)) c (writeAccepted c n v)
-    (λ e. history-stays c n v) (λ m. refl)
+    by_verdict_lem (λ o. o.next.history ≡ earlier_after o.next c.clock (write w n v) o.answer c.history)
+    (refused_by (write_tests c w n v)) c (write_accepted c n v)
+    (λ e. history_stays c n v) (λ m. refl)
 step c (restart image) =
-    by-verdict (λ o. o.next.history ≡ earlierAfter o.next c.clock (restart image) o.answer c.history)
-    (refusedBy (restartTests image)) c (restartAccepted c (valuesIn image))
+    by_verdict_lem (λ o. o.next.history ≡ earlier_after o.next c.clock (restart image) o.answer c.history)
+    (refused_by (restart_tests image)) c (restart_accepted c (values_in image))
     (λ e. refl) (λ m. refl)
 
-pub earlier-after : (word : ℕ) (xs : Calls) → (exact word xs).core.history ≡ earlier word xs
-unfolding exact exactAfter exactAnswer earlier freshCore
-earlier-after word none = refl
-earlier-after word (xs then x) =
+pub earlier_after_lem : (word : ℕ) (xs : Calls) → (exact word xs).core.history ≡ earlier word xs
+unfolding exact exact_after exact_answer earlier fresh_core
+earlier_after_lem word none = refl
+earlier_after_lem word (xs then x) =
     step (exact word xs).core x ∙
-    ap (λ (last : ClockReading). earlierAfter (exact word (xs then x)).core last x (exactAnswer word xs x) (exact word xs).core.history)
-    (reading-after word xs) ∙
-    ap (λ (h : History). earlierAfter (exact word (xs then x)).core (lastReading word xs) x (exactAnswer word xs x) h)
-    (earlier-after word xs)
+    ap (λ (last : ClockReading). earlier_after (exact word (xs then x)).core last x (exact_answer word xs x) (exact word xs).core.history)
+    (reading_after_lem word xs) ∙
+    ap (λ (h : History). earlier_after (exact word (xs then x)).core (last_reading word xs) x (exact_answer word xs x) h)
+    (earlier_after_lem word xs)

@@ -9,26 +9,26 @@ use lib.IntN.{ℤ, pos, ◌*ℤ◌}
 use lib.ListN.{get_or}
 use lib.Signed.{lt_z, ◌≤ℤ◌, ◌<ℤ◌}
 use Rattle.integers.specs.Limit as value
-use Rattle.integers.specs.Limit.{limited-same}
+use Rattle.integers.specs.Limit.{limited_same}
 use Rattle.integers.specs.Listed.{listed, listed_same}
-use Rattle.integers.specs.Parts.{integers, at-most}
-use Rattle.integers.specs.Split.{split-self, split-times}
+use Rattle.integers.specs.Parts.{integers, at_most_lem}
+use Rattle.integers.specs.Split.{split_self, split_times}
 use Rattle.terms.specs.Fraction.{whole, plus, at_least, at_most, limited}
 use Rattle.guarantee.specs.Shared.{weights, Bits, Is, LimitedValues, Sums, LimitedFractions, SharedWords}
 
-less-is : (a b : ℤ) → a <ℤ b → lt_z a b ≡ true
-less-is a b h = omega (arith, integers)
+less_is : (a b : ℤ) → a <ℤ b → lt_z a b ≡ true
+less_is a b h = omega (arith, integers)
 
-not-less-is : (a b : ℤ) → b ≤ℤ a → lt_z a b ≡ false
-not-less-is a b h = omega (arith, integers)
+not_less_is : (a b : ℤ) → b ≤ℤ a → lt_z a b ≡ false
+not_less_is a b h = omega (arith, integers)
 
-pub limited-values : LimitedValues
+pub limited_values : LimitedValues
 unfolding value.limited value.at_least value.at_most
-limited-values low high x order =
+limited_values low high x order =
     record {
-      below = λ h. rw (less-is x low h, not-less-is high low order) refl;
-      above = λ h. rw (not-less-is x low (omega (arith, integers)), less-is high x h) refl;
-      within = limited-same low high x;
+      below = λ h. rw (less_is x low h, not_less_is high low order) refl;
+      above = λ h. rw (not_less_is x low (omega (arith, integers)), less_is high x h) refl;
+      within = limited_same low high x;
     }
 
 -- what a bit counts for is a power of two, in each of the 16 places
@@ -41,52 +41,52 @@ bits word number h = ap (λ (n : ℕ). eqb (word / n % 2) 1) (weight_is number h
 
 -- ---- fractions
 
-crosswise-sum : Sums
+crosswise_sum : Sums
 unfolding plus
-crosswise-sum f g h k = record { positive = mul-pos h k; crosswise = refl }
+crosswise_sum f g h k = record { positive = mul-pos h k; crosswise = refl }
 
 -- an order stays where both sides are taken so many times
-times-order : (a b : ℤ) (n : ℕ) → a ≤ℤ b → (a *ℤ pos n) ≤ℤ (b *ℤ pos n)
-times-order a b n h =
+times_order : (a b : ℤ) (n : ℕ) → a ≤ℤ b → (a *ℤ pos n) ≤ℤ (b *ℤ pos n)
+times_order a b n h =
     omega (
       arith,
       integers,
-      split-times a n (split-self a),
-      split-times b n (split-self b),
-      mul-le-mul_right n (at-most h).aboves,
-      mul-le-mul_right n (at-most h).belows,
+      split_times a n (split_self a),
+      split_times b n (split_self b),
+      mul-le-mul_right n (at_most_lem h).aboves,
+      mul-le-mul_right n (at_most_lem h).belows,
     )
 
 whole_is : (units : ℤ) → Is (whole units) units 1
 unfolding whole
 whole_is units = record { positive = omega arith; crosswise = refl }
 
-limited-fractions : LimitedFractions
+limited_fractions : LimitedFractions
 unfolding limited at_least at_most whole
-limited-fractions low high f order some =
+limited_fractions low high f order some =
     let d = f.denominator in
     let n = f.numerator in
     record {
       below = λ h.
           let kept : lt_z (high *ℤ pos 1) low ≡ false =
-          not-less-is (high *ℤ pos 1) low (omega (arith, integers, split-times high 1 (split-self high))) in
-          rw (less-is n (low *ℤ pos d) h) (rw kept (whole_is low));
+          not_less_is (high *ℤ pos 1) low (omega (arith, integers, split_times high 1 (split_self high))) in
+          rw (less_is n (low *ℤ pos d) h) (rw kept (whole_is low));
       above = λ h.
-          let kept = not-less-is n (low *ℤ pos d) (omega (arith, integers, times-order low high d order)) in
-          rw kept (rw (less-is (high *ℤ pos d) n h) (whole_is high));
-      within = λ h k. rw (not-less-is n (low *ℤ pos d) h) (rw (not-less-is (high *ℤ pos d) n k) refl);
+          let kept = not_less_is n (low *ℤ pos d) (omega (arith, integers, times_order low high d order)) in
+          rw kept (rw (less_is (high *ℤ pos d) n h) (whole_is high));
+      within = λ h k. rw (not_less_is n (low *ℤ pos d) h) (rw (not_less_is (high *ℤ pos d) n k) refl);
     }
 
-pub shared-words : SharedWords
-shared-words =
+pub shared_words : SharedWords
+shared_words =
     record {
       choices = λ A x y. (refl, refl);
       bits = bits;
-      limited-values = limited-values;
+      limited_values = limited_values;
       wholes = whole_is;
-      sums = crosswise-sum;
-      limited-fractions = limited-fractions;
-      accepted-answers = record {
+      sums = crosswise_sum;
+      limited_fractions = limited_fractions;
+      accepted_answers = record {
         scans = λ v. refl;
         reads = λ v. refl;
         others = refl;

@@ -8,10 +8,10 @@ abbrev pub word_at : List ℕ → ℕ → ℕ
 word_at image k = 256 * get_or image k 0 + get_or image (k + 1) 0
 
 -- the sum of so many two-byte values
-unfoldable pub twoByteSum : List ℕ → ℕ → ℕ
-twoByteSum image zero = 0
-twoByteSum image (suc n) = twoByteSum image n + word_at image (5 * n + 3)
+unfoldable pub two_byte_sum : List ℕ → ℕ → ℕ
+two_byte_sum image zero = 0
+two_byte_sum image (suc n) = two_byte_sum image n + word_at image (5 * n + 3)
 
 -- "all earlier values, read unsigned, summed modulo 65,536"
-unfoldable pub sumRight : List ℕ → Bool
-sumRight image = eqb (word_at image 135) ((twoByteSum image 24 + get_or image 123 0 + get_or image 127 0 + get_or image 131 0) % 65536)
+unfoldable pub sum_right : List ℕ → Bool
+sum_right image = eqb (word_at image 135) ((two_byte_sum image 24 + get_or image 123 0 + get_or image 127 0 + get_or image 131 0) % 65536)

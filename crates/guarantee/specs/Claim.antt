@@ -12,13 +12,13 @@ use Rattle.modes.specs.declared.Mode.TheVariants.{Hold, Track, Forced, Manual, A
 use Rattle.parameters.specs.Table.{value}
 use Rattle.settings.specs.Settings.{image_of}
 use Rattle.controller.specs.Answers.{Reply, words, reading, acceptance, number, Response}
-use Rattle.controller.specs.Read.{readIn}
-use Rattle.controller.specs.Save.{settingsOf}
-use Rattle.controller.specs.Scan.{Status, status, accepts, refusedWith}
+use Rattle.controller.specs.Read.{read_in}
+use Rattle.controller.specs.Save.{settings_of}
+use Rattle.controller.specs.Scan.{Status, status, accepts, refused_with}
 use Rattle.controller.specs.declared.Controller.{Controller}
 use Rattle.controller.specs.declared.Core.{Core}
-use Rattle.guarantee.specs.Exact.{Call, Calls, none, ◌then◌, exact, exactAnswer}
-use Rattle.guarantee.specs.Modes.{modeIn}
+use Rattle.guarantee.specs.Exact.{Call, Calls, none, ◌then◌, exact, exact_answer}
+use Rattle.guarantee.specs.Modes.{mode_in}
 
 -- ---- outside Hold and Track the stored output is within its limits
 
@@ -34,8 +34,8 @@ pub record WithinLimits (c : Controller) : Type 0 where
 -- times d
 pub record WithinHalves (x : ℤ) (f : Fraction) (halves : ℕ) : Type 0 where
   pub positive : 0 < f.denominator
-  pub not-above : (x *ℤ pos (2 * f.denominator)) ≤ℤ (f.numerator *ℤ pos 131072 +ℤ pos (halves * f.denominator))
-  pub not-below : (f.numerator *ℤ pos 131072) ≤ℤ (x *ℤ pos (2 * f.denominator) +ℤ pos (halves * f.denominator))
+  pub not_above : (x *ℤ pos (2 * f.denominator)) ≤ℤ (f.numerator *ℤ pos 131072 +ℤ pos (halves * f.denominator))
+  pub not_below : (f.numerator *ℤ pos 131072) ≤ℤ (x *ℤ pos (2 * f.denominator) +ℤ pos (halves * f.denominator))
 
 -- ---- apart from the output, the whole state and every answer equal those of the exact controller
 
@@ -61,43 +61,43 @@ capped c =
 -- "OP and electrical output, which are those of our own stored output": OP is its floor in units;
 -- electrical output is OP, or 9999 - OP with S2.2 ON
 pub record OwnOutput (c : Controller) (op electrical : ℕ) : Type 0 where
-  pub not-above : pos (op * 65536) ≤ℤ c.output
+  pub not_above : pos (op * 65536) ≤ℤ c.output
   pub below_next : c.output <ℤ pos ((op + 1) * 65536)
   pub electrically : electrical ≡ (if bit c.core.sw 14 then 9999 - op else op)
 
 -- MD bits 15 to 11, read as a number of five bits: "15 Hold, 14 Track, 13 Manual or Forced, 12 Auto or
 -- Fall-back, 11 Remote or Ratio"
-abbrev pub modeField : Mode → ℕ
-modeField Hold = 16
-modeField Track = 8
-modeField Manual = 4
-modeField Forced = 4
-modeField Auto = 2
-modeField Fallback = 2
-modeField Remote = 1
-modeField Ratio = 1
+abbrev pub mode_field : Mode → ℕ
+mode_field Hold = 16
+mode_field Track = 8
+mode_field Manual = 4
+mode_field Forced = 4
+mode_field Auto = 2
+mode_field Fallback = 2
+mode_field Remote = 1
+mode_field Ratio = 1
 
 -- MD shows the mode that the conditions of this state give
 pub record ShowsMode (md : ℕ) (now : Core) : Type 0 where
   pub mode : Mode
-  pub present : modeIn now ≡ some mode
-  pub field : md / 2048 ≡ modeField mode
+  pub present : mode_in now ≡ some mode
+  pub field : md / 2048 ≡ mode_field mode
 
 -- an answer that was returned with the controller c, beside that of the exact controller, which this
 -- call left in the state `now`: the mode that it gives is the first whose condition is present, which MD shows too; its
 -- PV is the exact controller's
 pub data SameAnswer (c : Controller) (now : Core) : Reply → Status → Type 0 where
-  same-words : {md ds op electrical : ℕ} {mode : Mode} {pv : ℤ} →
-      ShowsMode md now → OwnOutput c op electrical → modeIn now ≡ some mode → pv ≡ now.readings.pv →
+  same_words : {md ds op electrical : ℕ} {mode : Mode} {pv : ℤ} →
+      ShowsMode md now → OwnOutput c op electrical → mode_in now ≡ some mode → pv ≡ now.readings.pv →
       SameAnswer c now (words md ds op electrical mode pv) (status md ds mode pv)
-  same-acceptance : SameAnswer c now acceptance accepts
-  same_number : {n : ℕ} → SameAnswer c now (number n) (refusedWith n)
+  same_acceptance : SameAnswer c now acceptance accepts
+  same_number : {n : ℕ} → SameAnswer c now (number n) (refused_with n)
 
 -- every answer of the list, the latest first
 pub data SameAnswers (word : ℕ) : Calls → List Response → Type 0 where
   no_answer : SameAnswers word none []
-  and-answer : {xs : Calls} {rs : List Response} {x : Call} {h : Response} →
-      SameAnswers word xs rs → SameAnswer h.next (exact word (xs then x)).core h.answer (exactAnswer word xs x) →
+  and_answer : {xs : Calls} {rs : List Response} {x : Call} {h : Response} →
+      SameAnswers word xs rs → SameAnswer h.next (exact word (xs then x)).core h.answer (exact_answer word xs x) →
       SameAnswers word (xs then x) (h ∷ rs)
 
 -- ---- reads: of a controller c, beside the exact controller's state `now`; OP is that of our own stored output
@@ -105,13 +105,13 @@ pub record SameReading (c : Controller) (now : Core) (n : ℕ) (reply : Reply) :
   pub op : ℕ
   pub electrical : ℕ
   pub own : OwnOutput c op electrical
-  pub same : reply ≡ readIn now op n
+  pub same : reply ≡ read_in now op n
   -- by itself: MD, parameter 24, shows the mode that the conditions give, after a write too, and OP,
   -- parameter 28, is our own
   pub md : ℕ
   pub shows : ShowsMode md now
-  pub md-is : n ≡ 24 → reply ≡ reading (pos md)
-  pub op-is : n ≡ 28 → reply ≡ reading (pos op)
+  pub md_is : n ≡ 24 → reply ≡ reading (pos md)
+  pub op_is : n ≡ 28 → reply ≡ reading (pos op)
 
 -- ---- saves: of a controller c, beside the exact controller's state `now`; the OP that is saved is
 -- that of our own stored output. Fewer than 137 bytes are refused and stay
@@ -120,4 +120,4 @@ pub record SameSave (c : Controller) (now : Core) (buffer : List ℕ) (reply : R
   pub electrical : ℕ
   pub own : OwnOutput c op electrical
   pub same : reply ≡ (if ltb (length buffer) 137 then number 15 else acceptance)
-  pub bytes : after ≡ (if ltb (length buffer) 137 then buffer else image_of (settingsOf now op) ++ drop 137 buffer)
+  pub bytes : after ≡ (if ltb (length buffer) 137 then buffer else image_of (settings_of now op) ++ drop 137 buffer)

@@ -11,19 +11,19 @@ use Rattle.controller.specs.declared.Core.{Core}
 
 -- "16 when the reading is less than 30 ms after the last accepted one or lies before it"; "Until a scan is accepted
 -- after a fresh start or a restart, any reading is taken."
-abbrev pub tooSoon : ClockReading → ℕ → Bool
-tooSoon None milliseconds = false
-tooSoon (At last) milliseconds = ltb milliseconds (last + 30)
+abbrev pub too_soon : ClockReading → ℕ → Bool
+too_soon None milliseconds = false
+too_soon (At last) milliseconds = ltb milliseconds (last + 30)
 
 -- "After more than 42 ms"
-abbrev pub afterGap : ClockReading → ℕ → Bool
-afterGap None milliseconds = false
-afterGap (At last) milliseconds = ltb (last + 42) milliseconds
+abbrev pub after_gap : ClockReading → ℕ → Bool
+after_gap None milliseconds = false
+after_gap (At last) milliseconds = ltb (last + 42) milliseconds
 
 -- "the scan is taken, but earlier PV and SP are forgotten first": what a scan at this reading recalls
-unfoldable pub recalledAt : ClockReading → ℕ → History → History
-recalledAt last milliseconds h = if afterGap last milliseconds then Nothing else h
+unfoldable pub recalled_at : ClockReading → ℕ → History → History
+recalled_at last milliseconds h = if after_gap last milliseconds then Nothing else h
 
 -- of a scan that was made in the state `before`
-abbrev pub recalledIn : Core → Input → History
-recalledIn before i = recalledAt before.clock i.milliseconds before.history
+abbrev pub recalled_in : Core → Input → History
+recalled_in before i = recalled_at before.clock i.milliseconds before.history

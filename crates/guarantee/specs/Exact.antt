@@ -5,12 +5,12 @@ use Rattle.integers.specs.Choice.{if◌then◌else◌}
 use Rattle.signals.specs.declared.Input.{Input}
 use Rattle.rights.specs.declared.Writer.{Writer}
 use Rattle.terms.specs.Fraction.{Fraction, whole}
-use Rattle.controller.specs.Restart.{restartCore}
-use Rattle.controller.specs.Scan.{Status, status, accepts, refusedWith, Outcome, scanCore}
-use Rattle.controller.specs.State.{freshCore}
-use Rattle.controller.specs.Write.{writeCore}
+use Rattle.controller.specs.Restart.{restart_core}
+use Rattle.controller.specs.Scan.{Status, status, accepts, refused_with, Outcome, scan_core}
+use Rattle.controller.specs.State.{fresh_core}
+use Rattle.controller.specs.Write.{write_core}
 use Rattle.controller.specs.declared.Core.{Core}
-use Rattle.guarantee.specs.ExactOutput.{scanOutput, writeOutput, restartOutput}
+use Rattle.guarantee.specs.ExactOutput.{scan_output, write_output, restart_output}
 
 -- ---- calls, and lists of them, the latest last
 
@@ -28,10 +28,10 @@ pub data Calls : Type 0 where
   ◌then◌ : Calls → Call → Calls
 
 -- what a call does, by the rules. `more` counts one more open scan
-unfoldable pub outcomeOf : (ℕ → ℕ) → Core → Call → Outcome
-outcomeOf more c (scan i) = scanCore more c i
-outcomeOf more c (write w n v) = writeCore c w n v
-outcomeOf more c (restart image) = restartCore c image
+unfoldable pub outcome_of : (ℕ → ℕ) → Core → Call → Outcome
+outcome_of more c (scan i) = scan_core more c i
+outcome_of more c (write w n v) = write_core c w n v
+outcome_of more c (restart image) = restart_core c image
 
 -- ---- the exact controller
 
@@ -41,40 +41,40 @@ pub record Exact : Type 0 where
   pub output : Fraction
 
 -- it counts open scans without stopping
-abbrev pub oneMore : ℕ → ℕ
-oneMore n = n + 1
+abbrev pub one_more : ℕ → ℕ
+one_more n = n + 1
 
-abbrev pub exactOutcome : Exact → Call → Outcome
-exactOutcome c x = outcomeOf oneMore c.core x
+abbrev pub exact_outcome : Exact → Call → Outcome
+exact_outcome c x = outcome_of one_more c.core x
 
-abbrev pub isAccepted : Status → Bool
-isAccepted (status md ds mode pv) = true
-isAccepted accepts = true
-isAccepted (refusedWith n) = false
+abbrev pub is_accepted : Status → Bool
+is_accepted (status md ds mode pv) = true
+is_accepted accepts = true
+is_accepted (refused_with n) = false
 
 -- the output after an accepted call, which was made in the state `before` and left the state `now`
-unfoldable pub outputAfter : Core → Core → Call → Fraction → Fraction
-outputAfter before now (scan i) output = scanOutput before now i output
-outputAfter before now (write w n v) output = writeOutput before now n output
-outputAfter before now (restart image) output = restartOutput now image
+unfoldable pub output_after : Core → Core → Call → Fraction → Fraction
+output_after before now (scan i) output = scan_output before now i output
+output_after before now (write w n v) output = write_output before now n output
+output_after before now (restart image) output = restart_output now image
 
 -- "the same steps and rules, declined calls included, but its output is a fraction of two whole numbers and its
 -- limited terms are added unrounded": after a call with this outcome; a declined call leaves the output
-abbrev pub afterOutcome : Exact → Call → Outcome → Exact
-afterOutcome c x o =
+abbrev pub after_outcome : Exact → Call → Outcome → Exact
+after_outcome c x o =
     record {
       core = o.next;
-      output = if isAccepted o.answer then outputAfter c.core o.next x c.output else c.output;
+      output = if is_accepted o.answer then output_after c.core o.next x c.output else c.output;
     }
 
-unfoldable pub exactAfter : Exact → Call → Exact
-exactAfter c x = afterOutcome c x (exactOutcome c x)
+unfoldable pub exact_after : Exact → Call → Exact
+exact_after c x = after_outcome c x (exact_outcome c x)
 
 -- "fed the same switch word and, call by call, the same arguments except the controller"
 unfoldable pub exact : ℕ → Calls → Exact
-exact word none = record { core = freshCore word; output = whole (pos 0) }
-exact word (xs then x) = exactAfter (exact word xs) x
+exact word none = record { core = fresh_core word; output = whole (pos 0) }
+exact word (xs then x) = exact_after (exact word xs) x
 
 -- its answer to a call made after these, but for OP and electrical output, "which are those of our own stored output"
-unfoldable pub exactAnswer : ℕ → Calls → Call → Status
-exactAnswer word xs x = (exactOutcome (exact word xs) x).answer
+unfoldable pub exact_answer : ℕ → Calls → Call → Status
+exact_answer word xs x = (exact_outcome (exact word xs) x).answer

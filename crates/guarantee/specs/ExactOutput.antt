@@ -15,27 +15,27 @@ use Rattle.parameters.specs.declared.Parameters.{Parameters}
 use Rattle.outputs.specs.declared.History.{History}
 use Rattle.outputs.specs.declared.History.TheVariants.{Nothing, One, Two}
 use Rattle.controller.specs.declared.Core.{Core}
-use Rattle.guarantee.specs.Bytes.{word_at, sumRight}
-use Rattle.guarantee.specs.Clock.{recalledIn}
-use Rattle.guarantee.specs.Modes.{modeIn, automaticMode, manualOrForced}
+use Rattle.guarantee.specs.Bytes.{word_at, sum_right}
+use Rattle.guarantee.specs.Clock.{recalled_in}
+use Rattle.guarantee.specs.Modes.{mode_in, automatic_mode, manual_or_forced}
 
 -- ---- Terms, of a scan that was made in the state `before` and left the state `now`; h is what it recalls
 
 -- the previous PV and SP, and the PV before it; "A forgotten value counts as the nearest later one."
-abbrev pub previousPV : History → ℤ → ℤ
-previousPV Nothing pv = pv
-previousPV (One pv1 sp1) pv = pv1
-previousPV (Two pv1 sp1 pv2) pv = pv1
+abbrev pub previous_pv : History → ℤ → ℤ
+previous_pv Nothing pv = pv
+previous_pv (One pv1 sp1) pv = pv1
+previous_pv (Two pv1 sp1 pv2) pv = pv1
 
-abbrev pub previousSP : History → ℤ → ℤ
-previousSP Nothing sp = sp
-previousSP (One pv1 sp1) sp = sp1
-previousSP (Two pv1 sp1 pv2) sp = sp1
+abbrev pub previous_sp : History → ℤ → ℤ
+previous_sp Nothing sp = sp
+previous_sp (One pv1 sp1) sp = sp1
+previous_sp (Two pv1 sp1 pv2) sp = sp1
 
-abbrev pub earlierPV : History → ℤ → ℤ
-earlierPV Nothing pv = pv
-earlierPV (One pv1 sp1) pv = pv1
-earlierPV (Two pv1 sp1 pv2) pv = pv2
+abbrev pub earlier_pv : History → ℤ → ℤ
+earlier_pv Nothing pv = pv
+earlier_pv (One pv1 sp1) pv = pv1
+earlier_pv (Two pv1 sp1 pv2) pv = pv2
 
 -- "c is SP - PV, or PV - SP with S2.4 ON", SW bit 12
 unfoldable pub c : ℕ → ℤ → ℤ → ℤ
@@ -51,8 +51,8 @@ unfoldable pub proportional : Bool → History → Core → Core → Fraction
 proportional present h before now =
     let pv = now.readings.pv in
     let sp = now.readings.sp in
-    let sp1 = if present then sp else previousSP h sp in
-    let c1 = c now.sw sp1 (previousPV h pv) in
+    let sp1 = if present then sp else previous_sp h sp in
+    let c1 = c now.sw sp1 (previous_pv h pv) in
     record { numerator = pos 10000000 *ℤ (c now.sw sp pv -ℤ c1); denominator = band before.parameters }
 
 -- "Integral: 10,000,000 × c × 9 / (XP × W × 25 × TI), with S2.8 ON 3 and 500 for 9 and 25; 0 if TI is 0.": SW bit 8;
@@ -72,7 +72,7 @@ integral before now =
 unfoldable pub derivative : History → Core → Core → Fraction
 derivative h before now =
     let pv = now.readings.pv in
-    let d = (pv -ℤ pos 2 *ℤ previousPV h pv) +ℤ earlierPV h pv in
+    let d = (pv -ℤ pos 2 *ℤ previous_pv h pv) +ℤ earlier_pv h pv in
     let minutes = bit now.sw 8 in
     let product = pos 10000000 *ℤ d *ℤ pos (if minutes then 500 else 25) *ℤ pos (nat_abs (value before.parameters 19)) in
     record {
@@ -92,59 +92,59 @@ minimum sw p = if bit sw 14 then value p 15 else value p 16
 
 -- "on the 85th open scan, if the mode just before this scan was automatic and S2.5 is ON", SW bit 11. The exact
 -- controller counts on, so its count is 85 only then
-unfoldable pub toMinimum : Core → Core → Bool
-toMinimum before now = eqb now.conditions.opencount 85 && automaticMode (modeIn before) && bit now.sw 11
+unfoldable pub to_minimum : Core → Core → Bool
+to_minimum before now = eqb now.conditions.opencount 85 && automatic_mode (mode_in before) && bit now.sw 11
 
 -- "one of Raise, Lower without SP moves it 12 units; but .. it goes to minimum instead": button bits 6, 7 and 3
-unfoldable pub byHand : Core → Core → Input → Fraction → Fraction
-byHand before now i output =
+unfoldable pub by_hand : Core → Core → Input → Fraction → Fraction
+by_hand before now i output =
     let raise = bit i.buttons 6 in
     let lower = bit i.buttons 7 in
-    if toMinimum before now then whole (minimum now.sw before.parameters) else
+    if to_minimum before now then whole (minimum now.sw before.parameters) else
     if bit i.buttons 3 then output else
     if raise && not lower then plus output (whole (pos 12)) else
     if lower && not raise then plus output (whole (neg_ℤ (pos 12))) else output
 
 -- "Automatic and open: kept. Automatic otherwise, an automatic scan: the three terms are added.": sensor bit 0.
 -- "its limited terms are added unrounded"
-unfoldable pub byTerms : Bool → Core → Core → Input → Fraction → Fraction
-byTerms present before now i output =
-    let h = recalledIn before i in
+unfoldable pub by_terms : Bool → Core → Core → Input → Fraction → Fraction
+by_terms present before now i output =
+    let h = recalled_in before i in
     if bit i.sensors 0 then output else
     plus (plus (plus output (within10000 (proportional present h before now))) (within10000 (integral before now)))
     (within10000 (derivative h before now))
 
 -- "limited to LO..HO"
-abbrev pub betweenLimits : Parameters → Fraction → Fraction
-betweenLimits p output = limited (value p 16) (value p 15) output
+abbrev pub between_limits : Parameters → Fraction → Fraction
+between_limits p output = limited (value p 16) (value p 15) output
 
 -- "Hold: kept. Track: the lesser of sample 3 and 9999. Manual and Forced: .."; "Outside Hold and Track the output is
 -- then limited to LO..HO."; S1.1 is SW bit 7
-abbrev pub inMode : Option Mode → Core → Core → Input → Fraction → Fraction
-inMode Option.none before now i output = output
-inMode (some Hold) before now i output = output
-inMode (some Track) before now i output = whole (pos (min i.sample3 9999))
-inMode (some Forced) before now i output = betweenLimits before.parameters (byHand before now i output)
-inMode (some Manual) before now i output = betweenLimits before.parameters (byHand before now i output)
-inMode (some Auto) before now i output = betweenLimits before.parameters (byTerms (not (bit now.sw 7)) before now i output)
-inMode (some Remote) before now i output = betweenLimits before.parameters (byTerms false before now i output)
-inMode (some Ratio) before now i output = betweenLimits before.parameters (byTerms false before now i output)
-inMode (some Fallback) before now i output = betweenLimits before.parameters (byTerms (not (bit now.sw 7)) before now i output)
+abbrev pub in_mode : Option Mode → Core → Core → Input → Fraction → Fraction
+in_mode Option.none before now i output = output
+in_mode (some Hold) before now i output = output
+in_mode (some Track) before now i output = whole (pos (min i.sample3 9999))
+in_mode (some Forced) before now i output = between_limits before.parameters (by_hand before now i output)
+in_mode (some Manual) before now i output = between_limits before.parameters (by_hand before now i output)
+in_mode (some Auto) before now i output = between_limits before.parameters (by_terms (not (bit now.sw 7)) before now i output)
+in_mode (some Remote) before now i output = between_limits before.parameters (by_terms false before now i output)
+in_mode (some Ratio) before now i output = between_limits before.parameters (by_terms false before now i output)
+in_mode (some Fallback) before now i output = between_limits before.parameters (by_terms (not (bit now.sw 7)) before now i output)
 
-unfoldable pub scanOutput : Core → Core → Input → Fraction → Fraction
-scanOutput before now i output = inMode (modeIn now) before now i output
+unfoldable pub scan_output : Core → Core → Input → Fraction → Fraction
+scan_output before now i output = in_mode (mode_in now) before now i output
 
 -- ---- a write: "HO or LO limits the output unless the mode is Hold or Track": numbers 15 and 16, to the limits as the
 -- write leaves them
-unfoldable pub writeOutput : Core → Core → ℕ → Fraction → Fraction
-writeOutput before now n output =
-    if (eqb n 15 || eqb n 16) && (manualOrForced (modeIn before) || automaticMode (modeIn before))
-    then betweenLimits now.parameters output
+unfoldable pub write_output : Core → Core → ℕ → Fraction → Fraction
+write_output before now n output =
+    if (eqb n 15 || eqb n 16) && (manual_or_forced (mode_in before) || automatic_mode (mode_in before))
+    then between_limits now.parameters output
     else output
 
 -- ---- a restart: "OP limited to LO..HO; S2.5 ON makes .. OP minimum", SW bit 11; "A wrong sumcheck also sets .. OP
 -- minimum". The image's OP begins at byte 118
-unfoldable pub restartOutput : Core → List ℕ → Fraction
-restartOutput now image =
-    betweenLimits now.parameters
-    (whole (if bit now.sw 11 || not (sumRight image) then minimum now.sw now.parameters else pos (word_at image 118)))
+unfoldable pub restart_output : Core → List ℕ → Fraction
+restart_output now image =
+    between_limits now.parameters
+    (whole (if bit now.sw 11 || not (sum_right image) then minimum now.sw now.parameters else pos (word_at image 118)))

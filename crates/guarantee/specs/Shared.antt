@@ -9,8 +9,8 @@ use Rattle.signals.specs.Bits.{bit}
 use Rattle.signals.specs.declared.Verdict.TheVariants as verdict
 use Rattle.terms.specs.Fraction.{Fraction, whole, plus, limited}
 use Rattle.answers.specs.declared.ScanValues.{ScanValues}
-use Rattle.controller.specs.Answers.{words, reading, acceptance, number, replyOf, replyOfVerdict, replyOfRead, replyBy}
-use Rattle.controller.specs.Answers.{responseOf, responseOfVerdict}
+use Rattle.controller.specs.Answers.{words, reading, acceptance, number, reply_of, reply_of_verdict, reply_of_read, reply_by}
+use Rattle.controller.specs.Answers.{response_of, response_of_verdict}
 use Rattle.controller.specs.declared.Answer.TheVariants.{Accepted}
 use Rattle.controller.specs.declared.CallResult.{CallResult}
 use Rattle.controller.specs.declared.ReadAnswer.TheVariants.{Value}
@@ -70,20 +70,20 @@ LimitedFractions = (low high : ℤ) (f : Fraction) → low ≤ℤ high → 0 < f
 -- ---- what stands for an answer of the code; of a refusal `RefusalNumbers` tells it (promises)
 
 pub record AcceptedAnswers : Type 0 where
-  pub scans : (v : ScanValues) → replyOf (Accepted v) ≡ words v.md v.ds v.op v.electrical v.mode v.pv
-  pub reads : (v : ℤ) → replyOfRead (Value v) ≡ reading v
-  pub others : replyOfVerdict verdict.Accepted ≡ acceptance
+  pub scans : (v : ScanValues) → reply_of (Accepted v) ≡ words v.md v.ds v.op v.electrical v.mode v.pv
+  pub reads : (v : ℤ) → reply_of_read (Value v) ≡ reading v
+  pub others : reply_of_verdict verdict.Accepted ≡ acceptance
   -- by a number, or none
-  pub numbered : (n : ℕ) → (replyBy (some n) ≡ number n) × (replyBy none ≡ acceptance)
+  pub numbered : (n : ℕ) → (reply_by (some n) ≡ number n) × (reply_by none ≡ acceptance)
   -- and with the controller that is returned
-  pub scanned : (r : ScanResult) → responseOf r ≡ record { next = r.controller; answer = replyOf r.answer }
-  pub called : (r : CallResult) → responseOfVerdict r ≡ record { next = r.controller; answer = replyOfVerdict r.verdict }
+  pub scanned : (r : ScanResult) → response_of r ≡ record { next = r.controller; answer = reply_of r.answer }
+  pub called : (r : CallResult) → response_of_verdict r ≡ record { next = r.controller; answer = reply_of_verdict r.verdict }
 
 pub record SharedWords : Type 1 where
   pub choices : Choices
   pub bits : Bits
-  pub limited-values : LimitedValues
+  pub limited_values : LimitedValues
   pub wholes : Wholes
   pub sums : Sums
-  pub limited-fractions : LimitedFractions
-  pub accepted-answers : AcceptedAnswers
+  pub limited_fractions : LimitedFractions
+  pub accepted_answers : AcceptedAnswers

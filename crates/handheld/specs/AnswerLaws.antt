@@ -2,9 +2,9 @@
 use Rattle.std.specs.Prelude.{◌≡◌, List, ℕ, ◌+◌, ◌≤◌, length, drop}
 use Rattle.std.proofs.Common.{arith, length-append, length-take}
 use Rattle.std.proofs.Math.Seq.{take-append_seam}
-use Rattle.numerals.specs.Numerals.{digitByte, lastDigits, placesWithin, places, digits}
-use Rattle.formatting.specs.Buffer.{buffer, appendAll}
-use Rattle.formatting.specs.Laws.{replaced, append-room}
+use Rattle.numerals.specs.Numerals.{digit_byte, last_digits, places_within, places, digits}
+use Rattle.formatting.specs.Buffer.{buffer, append_all}
+use Rattle.formatting.specs.Laws.{replaced, append_room}
 use Rattle.signals.specs.Refusals.{number_of}
 use Rattle.signals.specs.declared.Refusal.{Refusal}
 use Rattle.signals.specs.declared.Refusal.TheVariants.{Sample, ButtonBits, SensorBits, Number, ReadOnly, Range, Pair}
@@ -12,53 +12,53 @@ use Rattle.signals.specs.declared.Refusal.TheVariants.{Setpoint, RequestBits, Re
 use Rattle.signals.specs.declared.Refusal.TheVariants.{ImageLength, ImageField, ImageValue, ShortBuffer, Clock, Mnemonic, ValueForm}
 use Rattle.signals.specs.declared.Refusal.TheVariants.{ComputerPin, WriterRight, NotFinite}
 use Rattle.controller.specs.declared.Controller.{Controller}
-use Rattle.terminal.specs.Terminal.{replyText, presentValue, replied, replyOfLine}
+use Rattle.terminal.specs.Terminal.{reply_text, present_value, replied, reply_of_line}
 use Rattle.terminal.specs.declared.LineAnswer.{LineAnswer}
 use Rattle.terminal.specs.declared.LineAnswer.TheVariants as answer
-use Rattle.handheld.specs.Answers.{refusalText, answerText, answerLine}
+use Rattle.handheld.specs.Answers.{refusal_text, answer_text, answer_line}
 
 -- a reply is written whole, and nothing of the buffer behind it
-pub reply-written : (c : Controller) (n : ℕ) (bytes : List ℕ) →
-    let o = replied c n bytes in answerText o.answer o.buffer ≡ replyText n (presentValue c n)
-unfolding answerText replied
-reply-written c n bytes = let text = replyText n (presentValue c n) in take-append_seam text (drop (length text) bytes)
+pub reply_written : (c : Controller) (n : ℕ) (bytes : List ℕ) →
+    let o = replied c n bytes in answer_text o.answer o.buffer ≡ reply_text n (present_value c n)
+unfolding answer_text replied
+reply_written c n bytes = let text = reply_text n (present_value c n) in take-append_seam text (drop (length text) bytes)
 
 -- ---- how long an answer is
 
-refusal-length : (r : Refusal) → length (refusalText (number_of r)) ≤ 22
-unfolding refusalText digitByte lastDigits placesWithin places digits
-refusal-length Sample = omega arith
-refusal-length ButtonBits = omega arith
-refusal-length SensorBits = omega arith
-refusal-length Number = omega arith
-refusal-length ReadOnly = omega arith
-refusal-length Range = omega arith
-refusal-length Pair = omega arith
-refusal-length Setpoint = omega arith
-refusal-length RequestBits = omega arith
-refusal-length RemotePin = omega arith
-refusal-length Cause = omega arith
-refusal-length ImageLength = omega arith
-refusal-length ImageField = omega arith
-refusal-length ImageValue = omega arith
-refusal-length ShortBuffer = omega arith
-refusal-length Clock = omega arith
-refusal-length Mnemonic = omega arith
-refusal-length ValueForm = omega arith
-refusal-length ComputerPin = omega arith
-refusal-length WriterRight = omega arith
-refusal-length NotFinite = omega arith
+refusal_length : (r : Refusal) → length (refusal_text (number_of r)) ≤ 22
+unfolding refusal_text digit_byte last_digits places_within places digits
+refusal_length Sample = omega arith
+refusal_length ButtonBits = omega arith
+refusal_length SensorBits = omega arith
+refusal_length Number = omega arith
+refusal_length ReadOnly = omega arith
+refusal_length Range = omega arith
+refusal_length Pair = omega arith
+refusal_length Setpoint = omega arith
+refusal_length RequestBits = omega arith
+refusal_length RemotePin = omega arith
+refusal_length Cause = omega arith
+refusal_length ImageLength = omega arith
+refusal_length ImageField = omega arith
+refusal_length ImageValue = omega arith
+refusal_length ShortBuffer = omega arith
+refusal_length Clock = omega arith
+refusal_length Mnemonic = omega arith
+refusal_length ValueForm = omega arith
+refusal_length ComputerPin = omega arith
+refusal_length WriterRight = omega arith
+refusal_length NotFinite = omega arith
 
-text-length : (a : LineAnswer) (bytes : List ℕ) → length bytes ≤ 9 → length (answerText (replyOfLine a) bytes) ≤ 22
-unfolding answerText
-text-length (answer.Reply count) bytes h = omega (arith, length-take count bytes)
-text-length (answer.Refused refusal) bytes h = refusal-length refusal
+text_length : (a : LineAnswer) (bytes : List ℕ) → length bytes ≤ 9 → length (answer_text (reply_of_line a) bytes) ≤ 22
+unfolding answer_text
+text_length (answer.Reply count) bytes h = omega (arith, length-take count bytes)
+text_length (answer.Refused refusal) bytes h = refusal_length refusal
 
 -- the line stands whole behind the bytes used, and no other byte has changed
-pub answer-fits : (a : LineAnswer) (bytes out : List ℕ) (used : ℕ) → length bytes ≤ 9 → used ≤ 64000 → 65536 ≤ length out →
-    let line = answerLine (replyOfLine a) bytes in
-    appendAll (buffer out used) line ≡ buffer (replaced used line out) (used + length line)
-unfolding answerLine
-answer-fits a bytes out used short few size =
-    let t = text-length a bytes short in
-    append-room _ out used (simp length-append (omega arith))
+pub answer_fits : (a : LineAnswer) (bytes out : List ℕ) (used : ℕ) → length bytes ≤ 9 → used ≤ 64000 → 65536 ≤ length out →
+    let line = answer_line (reply_of_line a) bytes in
+    append_all (buffer out used) line ≡ buffer (replaced used line out) (used + length line)
+unfolding answer_line
+answer_fits a bytes out used short few size =
+    let t = text_length a bytes short in
+    append_room _ out used (simp length-append (omega arith))

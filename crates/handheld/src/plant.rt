@@ -1,8 +1,8 @@
 // The plant beside the terminal: a line of the program's own brings the plant's pins to the controller in one scan.
 ghost use Rattle.std.specs.Prelude.{◌≡◌, ◌≤◌, length};
 ghost use Rattle.controller.specs.Valid.{Valid};
-ghost use Rattle.terminal.specs.Terminal.{outcomeOf};
-ghost use Rattle.handheld.specs.Plant.{pinsFrom, pinsIn, readingAfter, scanInput, scanOutcome, outcomeFor};
+ghost use Rattle.terminal.specs.Terminal.{outcome_of};
+ghost use Rattle.handheld.specs.Plant.{pins_from, pins_in, reading_after, scan_input, scan_outcome, outcome_for};
 
 use controller::{Answer, Controller};
 use numerals::ParsedNumber;
@@ -19,7 +19,7 @@ pub enum PlantLine {
 
 // The contract rules out a number beyond eight bits.
 fn pins_from(reading: ParsedNumber) -> PlantLine
-    ensures { result ≡ pinsFrom reading }
+    ensures { result ≡ pins_from reading }
 {
     match reading {
         ParsedNumber::Number(value) => {
@@ -37,7 +37,7 @@ fn pins_from(reading: ParsedNumber) -> PlantLine
 // `pins`, one blank and a number from 0 to 255; any other line is the terminal's. The contract rules out one of the
 // terminal's that is taken.
 fn parse(line: &[u8]) -> PlantLine
-    ensures { result ≡ pinsIn line.now }
+    ensures { result ≡ pins_in line.now }
 {
     if line.len() < 5 {
         return PlantLine::Terminal;
@@ -50,7 +50,7 @@ fn parse(line: &[u8]) -> PlantLine
 
 // 36 ms after the last scan; the first at 36. At the end of 64 bits the clock stands still.
 fn reading_after(last: ClockReading) -> u64
-    ensures { result ≡ readingAfter last }
+    ensures { result ≡ reading_after last }
 {
     match last {
         ClockReading::None => 36,
@@ -66,7 +66,7 @@ fn reading_after(last: ClockReading) -> u64
 
 // These pins, channel 1 at half of its range, the others at 0, no button pressed, the sensors good.
 fn scan_input(last: ClockReading, pins: u8) -> Input
-    ensures { result ≡ scanInput last pins }
+    ensures { result ≡ scan_input last pins }
 {
     Input {
         pins,
@@ -83,7 +83,7 @@ fn scan_input(last: ClockReading, pins: u8) -> Input
 // than the one that the scan returned.
 fn scan(controller: Controller, pins: u8, reply: &mut [u8]) -> LineResult
     requires { Valid controller × (2 ≤ length reply.old) }
-    ensures { outcomeOf result reply.new ≡ scanOutcome controller pins reply.old }
+    ensures { outcome_of result reply.new ≡ scan_outcome controller pins reply.old }
 {
     let r = controller.scan(scan_input(controller.last_reading(), pins));
     let next = r.controller;
@@ -104,7 +104,7 @@ fn scan(controller: Controller, pins: u8, reply: &mut [u8]) -> LineResult
 // that makes a scan, and the other way round; and a line of the terminal's with another writer.
 pub fn answer(controller: Controller, writer: Writer, line: &[u8], reply: &mut [u8]) -> LineResult
     requires { Valid controller × (2 ≤ length reply.old) }
-    ensures { outcomeOf result reply.new ≡ outcomeFor controller writer line.now reply.old }
+    ensures { outcome_of result reply.new ≡ outcome_for controller writer line.now reply.old }
 {
     let own = parse(line);
     match own {

@@ -1,16 +1,16 @@
 // The line that answers a line of the terminal, appended to the output.
 ghost use Rattle.std.specs.Prelude.{◌≡◌, length, take};
-ghost use Rattle.formatting.specs.Buffer.{buffer, appendAll};
+ghost use Rattle.formatting.specs.Buffer.{buffer, append_all};
 ghost use Rattle.signals.specs.Refusals.{number_of};
-ghost use Rattle.terminal.specs.Terminal.{replyOfLine};
-ghost use Rattle.handheld.specs.Answers.{refusalName, refusalText, answerText, answerLine};
+ghost use Rattle.terminal.specs.Terminal.{reply_of_line};
+ghost use Rattle.handheld.specs.Answers.{refusal_name, refusal_text, answer_text, answer_line};
 
 use signals::Refusal;
 use terminal::LineAnswer;
 
 // The names by refusal, each in a row as long as the longest. The contract rules out the name of another.
 fn name_row(refusal: Refusal) -> [u8; 17]
-    ensures { take (length (refusalName (number_of refusal))) result ≡ refusalName (number_of refusal) }
+    ensures { take (length (refusal_name (number_of refusal))) result ≡ refusal_name (number_of refusal) }
 {
     match refusal {
         Refusal::Sample => *b"sample           ",
@@ -39,7 +39,7 @@ fn name_row(refusal: Refusal) -> [u8; 17]
 
 // How many bytes of its row a name has. The contract rules out a name that is cut, and a blank behind it.
 fn name_length(refusal: Refusal) -> usize
-    ensures { result ≡ length (refusalName (number_of refusal)) }
+    ensures { result ≡ length (refusal_name (number_of refusal)) }
 {
     match refusal {
         Refusal::Sample => 6,
@@ -67,7 +67,7 @@ fn name_length(refusal: Refusal) -> usize
 }
 
 fn append_name(out: &mut [u8], used: usize, refusal: Refusal) -> usize
-    ensures { buffer out.new result ≡ appendAll (buffer out.old used) (refusalName (number_of refusal)) }
+    ensures { buffer out.new result ≡ append_all (buffer out.old used) (refusal_name (number_of refusal)) }
 {
     let row = name_row(refusal);
     append_front(out, used, &row, name_length(refusal))
@@ -75,7 +75,7 @@ fn append_name(out: &mut [u8], used: usize, refusal: Refusal) -> usize
 
 // ? and the refusal's number and name. The contract rules out the number of another refusal.
 fn append_refusal(out: &mut [u8], used: usize, refusal: Refusal) -> usize
-    ensures { buffer out.new result ≡ appendAll (buffer out.old used) (refusalText (number_of refusal)) }
+    ensures { buffer out.new result ≡ append_all (buffer out.old used) (refusal_text (number_of refusal)) }
 {
     let sign = formatting::append_bytes(out, used, b"? ");
     let number = formatting::append_decimal(out, sign, refusal.number() as u64);
@@ -85,7 +85,7 @@ fn append_refusal(out: &mut [u8], used: usize, refusal: Refusal) -> usize
 
 // The first bytes of a buffer, so many, or all where there are fewer. The contract rules out one byte more.
 fn append_front(out: &mut [u8], used: usize, bytes: &[u8], count: usize) -> usize
-    ensures { buffer out.new result ≡ appendAll (buffer out.old used) (take count bytes.now) }
+    ensures { buffer out.new result ≡ append_all (buffer out.old used) (take count bytes.now) }
 {
     if bytes.len() < count {
         return formatting::append_bytes(out, used, bytes);
@@ -94,8 +94,8 @@ fn append_front(out: &mut [u8], used: usize, bytes: &[u8], count: usize) -> usiz
 }
 
 fn append_text(out: &mut [u8], used: usize, answer: LineAnswer, reply: &[u8]) -> usize
-    ensures { buffer out.new result ≡ appendAll (buffer out.old used)
-        (answerText (replyOfLine answer) reply.now) }
+    ensures { buffer out.new result ≡ append_all (buffer out.old used)
+        (answer_text (reply_of_line answer) reply.now) }
 {
     match answer {
         LineAnswer::Reply(count) => append_front(out, used, reply, count),
@@ -106,8 +106,8 @@ fn append_text(out: &mut [u8], used: usize, answer: LineAnswer, reply: &[u8]) ->
 // The line of an answer; `reply` is the buffer that the terminal wrote into. The contract rules out the line of another
 // answer, and one with no end.
 pub fn append_answer(out: &mut [u8], used: usize, answer: LineAnswer, reply: &[u8]) -> usize
-    ensures { buffer out.new result ≡ appendAll (buffer out.old used)
-        (answerLine (replyOfLine answer) reply.now) }
+    ensures { buffer out.new result ≡ append_all (buffer out.old used)
+        (answer_line (reply_of_line answer) reply.now) }
 {
     let end = append_text(out, used, answer, reply);
     formatting::append_byte(out, end, b'\n')

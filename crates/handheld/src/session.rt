@@ -1,7 +1,7 @@
 // What a run holds from line to line, and what comes of a line that is typed.
 ghost use Rattle.std.specs.Prelude.{◌≡◌, ◌≤◌, length};
 ghost use Rattle.controller.specs.Valid.{Valid};
-ghost use Rattle.handheld.specs.Sessions.{firstSession, sessionOutcomeOf, typedOutcome};
+ghost use Rattle.handheld.specs.Sessions.{first_session, session_outcome_of, typed_outcome};
 
 use controller::Controller;
 use rights::Writer;
@@ -24,7 +24,7 @@ pub struct SessionResult {
 
 // Before the first line: a controller that is fresh with SW 0, and the operator. The contract rules out others.
 pub fn first() -> Session
-    ensures { (result ≡ firstSession) × Valid result.controller }
+    ensures { (result ≡ first_session) × Valid result.controller }
 {
     Session {
         controller: Controller::fresh(0),
@@ -37,7 +37,7 @@ pub fn first() -> Session
 // changes the controller, and a line of the terminal's that carries another writer than the one who is there.
 pub fn answer(session: Session, line: &[u8], reply: &mut [u8]) -> SessionResult
     requires { Valid session.controller × (2 ≤ length reply.old) }
-    ensures { sessionOutcomeOf result reply.new ≡ typedOutcome session line.now reply.old }
+    ensures { session_outcome_of result reply.new ≡ typed_outcome session line.now reply.old }
 {
     let controller = session.controller;
     let there = session.writer;

@@ -15,22 +15,22 @@ at_most high x = cond (lt_z high x) high x
 unfoldable pub limited : ℤ → ℤ → ℤ → ℤ
 limited low high x = at_most high (at_least low x)
 
-pub atLeast-low : (low x : ℤ) → low ≤ℤ at_least low x
+pub at_least-low : (low x : ℤ) → low ≤ℤ at_least low x
 unfolding at_least
-atLeast-low low x = by_cases (λ r. low ≤ℤ r) (lt_z x low) low x (λ e. omega (arith, integers)) (λ e. omega (arith, integers))
+at_least-low low x = by_cases (λ r. low ≤ℤ r) (lt_z x low) low x (λ e. omega (arith, integers)) (λ e. omega (arith, integers))
 
-pub limited-low : (low high x : ℤ) → low ≤ℤ high → low ≤ℤ limited low high x
+pub limited_low : (low high x : ℤ) → low ≤ℤ high → low ≤ℤ limited low high x
 unfolding limited at_most
-limited-low low high x h = by_cases (λ r. low ≤ℤ r) (lt_z high (at_least low x)) high (at_least low x) (λ e. h) (λ e. atLeast-low low x)
+limited_low low high x h = by_cases (λ r. low ≤ℤ r) (lt_z high (at_least low x)) high (at_least low x) (λ e. h) (λ e. at_least-low low x)
 
-pub limited-high : (low high x : ℤ) → limited low high x ≤ℤ high
+pub limited_high : (low high x : ℤ) → limited low high x ≤ℤ high
 unfolding limited at_most
-limited-high low high x =
+limited_high low high x =
     by_cases (λ r. r ≤ℤ high) (lt_z high (at_least low x)) high (at_least low x) (λ e. omega (arith, integers)) (λ e. omega (arith, integers))
 
 -- a value within its limits is kept
-pub limited-same : (low high x : ℤ) → low ≤ℤ x → x ≤ℤ high → limited low high x ≡ x
+pub limited_same : (low high x : ℤ) → low ≤ℤ x → x ≤ℤ high → limited low high x ≡ x
 unfolding limited at_most at_least
-limited-same low high x h k =
+limited_same low high x h k =
     by_cases (λ r. cond (lt_z high r) high r ≡ x) (lt_z x low) low x (λ e. absurd (omega (arith, integers)))
     (λ e. by_cases (λ r. r ≡ x) (lt_z high x) high x (λ f. omega (arith, integers)) (λ f. refl))

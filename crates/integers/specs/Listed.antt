@@ -11,10 +11,10 @@ listed f first zero = []
 listed f first (suc many) = f first ∷ listed f (suc first) many
 
 module _ {A : Type 0} (f : ℕ → A) where
-  pub listed-length : (first many : ℕ) → length (listed f first many) ≡ many
+  pub listed_length : (first many : ℕ) → length (listed f first many) ≡ many
   unfolding listed
-  listed-length first zero = refl
-  listed-length first (suc many) = ap suc (listed-length (suc first) many)
+  listed_length first zero = refl
+  listed_length first (suc many) = ap suc (listed_length (suc first) many)
 
   pub listed_at : (d : A) (first many place : ℕ) → place < many → get_or (listed f first many) place d ≡ f (first + place)
   unfolding listed
@@ -37,9 +37,9 @@ module _ {A : Type 0} (f : ℕ → A) where
     pub long : length out ≡ size
     pub front : take place out ≡ listed f 0 place
 
-  pub filled-start : (many size : ℕ) (out : List A) → length out ≡ size → Filled many size out 0
+  pub filled_start : (many size : ℕ) (out : List A) → length out ≡ size → Filled many size out 0
   unfolding listed
-  filled-start many size out long = record { few = omega arith; long = long; front = refl }
+  filled_start many size out long = record { few = omega arith; long = long; front = refl }
 
   pub filled_next : (many size : ℕ) (out : List A) (place : ℕ) (v : A) → many ≤ size → Filled many size out place → place < many →
       v ≡ f place →
@@ -51,12 +51,12 @@ module _ {A : Type 0} (f : ℕ → A) where
       ap (λ (k : ℕ). listed f 0 k) (add-one place) ∙ listed_more 0 place in
       record { few = omega arith; long = length-set out place v ∙ r.long; front = cc (one, two, r.front, zero-add place) }
 
-  pub filled-front : (many size : ℕ) (out : List A) (place : ℕ) → Filled many size out place → many ≤ place →
+  pub filled_front : (many size : ℕ) (out : List A) (place : ℕ) → Filled many size out place → many ≤ place →
       take many out ≡ listed f 0 many
-  filled-front many size out place r h = let e : place ≡ many = omega (arith, r.few) in cc r.front
+  filled_front many size out place r h = let e : place ≡ many = omega (arith, r.few) in cc r.front
 
-  pub filled-all : (many : ℕ) (out : List A) (place : ℕ) → Filled many many out place → many ≤ place → out ≡ listed f 0 many
-  filled-all many out place r h = sym (take_all many out (omega (arith, r.long))) ∙ filled-front many many out place r h
+  pub filled_all : (many : ℕ) (out : List A) (place : ℕ) → Filled many many out place → many ≤ place → out ≡ listed f 0 many
+  filled_all many out place r h = sym (take_all many out (omega (arith, r.long))) ∙ filled_front many many out place r h
 
 -- two functions agree at each number of a short range: both lists are computed, and one `refl` compares them
 pub listed_same : {A : Type 0} (f g : ℕ → A) (first many n : ℕ) → listed f first many ≡ listed g first many →

@@ -16,8 +16,8 @@ pub back : (w : Width) (z : ℤ) → mag z < 2 ^ hbits w → to_z w (of_z w z) �
 back w z h = to_z-of_z {w = w} {z = z} (record { sfits = h })
 
 -- of an unsigned number that was cast to a signed type
-pub cast-back : (w : Width) (n : ℕ) → n < 2 ^ hbits w → to_z w n ≡ pos n
-cast-back w n h = to_z-of_z {w = w} {z = pos n} (record { sfits = h })
+pub cast_back : (w : Width) (n : ℕ) → n < 2 ^ hbits w → to_z w n ≡ pos n
+cast_back w n h = to_z-of_z {w = w} {z = pos n} (record { sfits = h })
 
 -- a number so small that a sum or difference of two fits 64 bits by far: up to a million million
 pub record Small (z : ℤ) : Type 0 where
@@ -26,11 +26,11 @@ pub record Small (z : ℤ) : Type 0 where
 -- ---- `if a < b { x } else { y }` of signed numbers, as each arm leaves it
 
 module _ {w : Width} {a b : ℤ} (x y : ℤ) (fa : SFits w a) (fb : SFits w b) where
-  pub choice-taken : SFits w x → lt_z (to_z w (of_z w a)) (to_z w (of_z w b)) ≡ true → to_z w (of_z w x) ≡ cond (lt_z a b) x y
-  choice-taken fx e = simp (to_z-of_z fx, simp (to_z-of_z fa, to_z-of_z fb) at e)
+  pub choice_taken : SFits w x → lt_z (to_z w (of_z w a)) (to_z w (of_z w b)) ≡ true → to_z w (of_z w x) ≡ cond (lt_z a b) x y
+  choice_taken fx e = simp (to_z-of_z fx, simp (to_z-of_z fa, to_z-of_z fb) at e)
 
-  pub choice-left : SFits w y → lt_z (to_z w (of_z w a)) (to_z w (of_z w b)) ≡ false → to_z w (of_z w y) ≡ cond (lt_z a b) x y
-  choice-left fy e = simp (to_z-of_z fy, simp (to_z-of_z fa, to_z-of_z fb) at e)
+  pub choice_left : SFits w y → lt_z (to_z w (of_z w a)) (to_z w (of_z w b)) ≡ false → to_z w (of_z w y) ≡ cond (lt_z a b) x y
+  choice_left fy e = simp (to_z-of_z fy, simp (to_z-of_z fa, to_z-of_z fb) at e)
 
 -- ---- a number that 32 bits hold
 

@@ -19,8 +19,8 @@ number (negsuc n) = omega arith
 -- of an integer that is known to fit a width: bounds the other way
 pub record Known (z : ℤ) : Type 0 where
   pub size : nat_abs z ≡ above z + below z
-  pub above-held : above z ≤ mag z
-  pub below-held : below z ≤ suc (mag z)
+  pub above_held : above z ≤ mag z
+  pub below_held : below z ≤ suc (mag z)
 
 pub known : (z : ℤ) → Known z
 known (pos n) = omega arith
@@ -41,8 +41,8 @@ negation (negsuc n) = omega arith
 
 -- ---- sum and difference
 
-above-sub : (a b : ℕ) → above (sub_ℕ a b) ≡ a - b
-above-sub a b =
+above_sub : (a b : ℕ) → above (sub_ℕ a b) ≡ a - b
+above_sub a b =
     by_cases (λ z. above z ≡ a - b) (ltb a b) (negsuc (b - suc a)) (pos (a - b)) (λ e. omega (arith, ltb-true a b e)) (λ e. refl)
 
 below_sub : (a b : ℕ) → below (sub_ℕ a b) ≡ b - a
@@ -54,19 +54,19 @@ pub record Sum (s a b : ℤ) : Type 0 where
   pub self : Number s
   pub balance : above s + (below a + below b) ≡ below s + (above a + above b)
   pub above_most : above s ≤ above a + above b
-  pub below-most : below s ≤ below a + below b
+  pub below_most : below s ≤ below a + below b
 
 pub sum : (a b : ℤ) → Sum (a +ℤ b) a b
 sum (pos a) (pos b) = omega arith
-sum (pos a) (negsuc b) = omega (arith, above-sub a (suc b), below_sub a (suc b), number (sub_ℕ a (suc b)))
-sum (negsuc a) (pos b) = omega (arith, above-sub b (suc a), below_sub b (suc a), number (sub_ℕ b (suc a)))
+sum (pos a) (negsuc b) = omega (arith, above_sub a (suc b), below_sub a (suc b), number (sub_ℕ a (suc b)))
+sum (negsuc a) (pos b) = omega (arith, above_sub b (suc a), below_sub b (suc a), number (sub_ℕ b (suc a)))
 sum (negsuc a) (negsuc b) = omega arith
 
 pub record Difference (s a b : ℤ) : Type 0 where
   pub self : Number s
   pub balance : above s + (below a + above b) ≡ below s + (above a + below b)
   pub above_most : above s ≤ above a + below b
-  pub below-most : below s ≤ below a + above b
+  pub below_most : below s ≤ below a + above b
 
 pub difference : (a b : ℤ) → Difference (a -ℤ b) a b
 difference a b = omega (arith, sum a (neg_ℤ b), negation b)
@@ -83,11 +83,11 @@ product (pos a) (negsuc b) = omega (arith, negation (pos (a * suc b)))
 product (negsuc a) (pos b) = omega (arith, negation (pos (suc a * b)))
 product (negsuc a) (negsuc b) = omega arith
 
-pub natAbs-product : (a b : ℤ) → nat_abs (a *ℤ b) ≡ nat_abs a * nat_abs b
-natAbs-product (pos a) (pos b) = refl
-natAbs-product (pos a) (negsuc b) = omega (arith, negation (pos (a * suc b)))
-natAbs-product (negsuc a) (pos b) = omega (arith, negation (pos (suc a * b)))
-natAbs-product (negsuc a) (negsuc b) = refl
+pub nat_abs-product : (a b : ℤ) → nat_abs (a *ℤ b) ≡ nat_abs a * nat_abs b
+nat_abs-product (pos a) (pos b) = refl
+nat_abs-product (pos a) (negsuc b) = omega (arith, negation (pos (a * suc b)))
+nat_abs-product (negsuc a) (pos b) = omega (arith, negation (pos (suc a * b)))
+nat_abs-product (negsuc a) (negsuc b) = refl
 
 -- ---- sizes alone: all that is asked where it matters only that a result fits
 
@@ -95,11 +95,11 @@ pub record Size (z : ℤ) (most : ℕ) : Type 0 where
   pub held : mag z ≤ nat_abs z
   pub size : nat_abs z ≤ most
 
-pub sum-size : (a b : ℤ) → Size (a +ℤ b) (nat_abs a + nat_abs b)
-sum-size a b = omega (arith, sum a b, number a, number b)
+pub sum_size : (a b : ℤ) → Size (a +ℤ b) (nat_abs a + nat_abs b)
+sum_size a b = omega (arith, sum a b, number a, number b)
 
-pub difference-size : (a b : ℤ) → Size (a -ℤ b) (nat_abs a + nat_abs b)
-difference-size a b = omega (arith, difference a b, number a, number b)
+pub difference_size : (a b : ℤ) → Size (a -ℤ b) (nat_abs a + nat_abs b)
+difference_size a b = omega (arith, difference a b, number a, number b)
 
 -- a product of natural numbers is bounded by its factors' bounds
 pub bounded : (m n : ℕ) {a b : ℕ} → a ≤ m → b ≤ n → a * b ≤ m * n

@@ -42,17 +42,17 @@ le_parts (pos a) (negsuc b) t = absurd t
 le_parts (negsuc a) (pos b) t = omega arith
 le_parts (negsuc a) (negsuc b) t = omega (arith, leb→le b a t)
 
-lt-parts : (a b : ℤ) → T (lt_z a b) → Strict a b
-lt-parts (pos a) (pos b) t = omega (arith, ltb→lt a b t)
-lt-parts (pos a) (negsuc b) t = absurd t
-lt-parts (negsuc a) (pos b) t = omega arith
-lt-parts (negsuc a) (negsuc b) t = omega (arith, ltb→lt b a t)
+lt_parts : (a b : ℤ) → T (lt_z a b) → Strict a b
+lt_parts (pos a) (pos b) t = omega (arith, ltb→lt a b t)
+lt_parts (pos a) (negsuc b) t = absurd t
+lt_parts (negsuc a) (pos b) t = omega arith
+lt_parts (negsuc a) (negsuc b) t = omega (arith, ltb→lt b a t)
 
-pub at-most : {a b : ℤ} → a ≤ℤ b → Order a b
-at-most {a} {b} h = le_parts a b h.le
+pub at_most_lem : {a b : ℤ} → a ≤ℤ b → Order a b
+at_most_lem {a} {b} h = le_parts a b h.le
 
-pub less-than : {a b : ℤ} → a <ℤ b → Strict a b
-less-than {a} {b} h = lt-parts a b h.lt
+pub less_than : {a b : ℤ} → a <ℤ b → Strict a b
+less_than {a} {b} h = lt_parts a b h.lt
 
 pub same : {a b : ℤ} → a ≡ b → Same a b
 same e = record { aboves = ap above e; belows = ap below e; sizes = ap nat_abs e; mags = ap mag e }
@@ -60,73 +60,73 @@ same e = record { aboves = ap above e; belows = ap below e; sizes = ap nat_abs e
 -- ---- rules that read a hypothesis: omega applies the first that fits, so those for a literal bound,
 -- which say more, stand first
 
-pub from-nonnegative : {z : ℤ} → pos 0 ≤ℤ z → below z ≡ 0
-from-nonnegative h = omega (arith, at-most h)
+pub from_nonnegative : {z : ℤ} → pos 0 ≤ℤ z → below z ≡ 0
+from_nonnegative h = omega (arith, at_most_lem h)
 
 -- below z is 0 here. A rule gives one statement, so the factor says that too, wherever above z is known
 -- to be less than the factor
-pub from-at-least : {z : ℤ} {n : ℕ} → pos n ≤ℤ z → n + 18446744073709551616 * below z ≤ above z
-from-at-least h = omega (arith, at-most h)
+pub from_at_least : {z : ℤ} {n : ℕ} → pos n ≤ℤ z → n + 18446744073709551616 * below z ≤ above z
+from_at_least h = omega (arith, at_most_lem h)
 
-pub from-at-most : {z : ℤ} {n : ℕ} → z ≤ℤ pos n → above z ≤ n
-from-at-most h = (at-most h).aboves
+pub from_at_most : {z : ℤ} {n : ℕ} → z ≤ℤ pos n → above z ≤ n
+from_at_most h = (at_most_lem h).aboves
 
-pub from-at-least-minus : {z : ℤ} {n : ℕ} → negsuc n ≤ℤ z → below z ≤ suc n
-from-at-least-minus h = (at-most h).belows
+pub from_at_least_minus : {z : ℤ} {n : ℕ} → negsuc n ≤ℤ z → below z ≤ suc n
+from_at_least_minus h = (at_most_lem h).belows
 
-pub from-≤ : {a b : ℤ} → a ≤ℤ b → above a + below b ≤ above b + below a
-from-≤ h = omega (arith, at-most h)
+pub from_≤ : {a b : ℤ} → a ≤ℤ b → above a + below b ≤ above b + below a
+from_≤ h = omega (arith, at_most_lem h)
 
-pub from-< : {a b : ℤ} → a <ℤ b → above a + below b < above b + below a
-from-< h = (less-than h).less
+pub from_< : {a b : ℤ} → a <ℤ b → above a + below b < above b + below a
+from_< h = (less_than h).less
 
-pub from-≡ : {a b : ℤ} → a ≡ b → above a + below b ≡ above b + below a
-from-≡ e = omega (arith, same e)
+pub from_≡ : {a b : ℤ} → a ≡ b → above a + below b ≡ above b + below a
+from_≡ e = omega (arith, same e)
 
 -- ---- rules that prove a goal
 
-pub to-≤ : {a b : ℤ} → above a + below b ≤ above b + below a → a ≤ℤ b
-to-≤ {a = pos a} {b = pos b} h = record { le = le→leb a b (omega arith) }
-to-≤ {a = pos a} {b = negsuc b} h = absurd (omega arith)
-to-≤ {a = negsuc a} {b = pos b} h = record { le = tt }
-to-≤ {a = negsuc a} {b = negsuc b} h = record { le = le→leb b a (omega arith) }
+pub to_≤ : {a b : ℤ} → above a + below b ≤ above b + below a → a ≤ℤ b
+to_≤ {a = pos a} {b = pos b} h = record { le = le→leb a b (omega arith) }
+to_≤ {a = pos a} {b = negsuc b} h = absurd (omega arith)
+to_≤ {a = negsuc a} {b = pos b} h = record { le = tt }
+to_≤ {a = negsuc a} {b = negsuc b} h = record { le = le→leb b a (omega arith) }
 
-pub to-< : {a b : ℤ} → above a + below b < above b + below a → a <ℤ b
-to-< {a = pos a} {b = pos b} h = record { lt = lt→ltb a b (omega arith) }
-to-< {a = pos a} {b = negsuc b} h = absurd (omega arith)
-to-< {a = negsuc a} {b = pos b} h = record { lt = tt }
-to-< {a = negsuc a} {b = negsuc b} h = record { lt = lt→ltb b a (omega arith) }
+pub to_< : {a b : ℤ} → above a + below b < above b + below a → a <ℤ b
+to_< {a = pos a} {b = pos b} h = record { lt = lt→ltb a b (omega arith) }
+to_< {a = pos a} {b = negsuc b} h = absurd (omega arith)
+to_< {a = negsuc a} {b = pos b} h = record { lt = tt }
+to_< {a = negsuc a} {b = negsuc b} h = record { lt = lt→ltb b a (omega arith) }
 
-pub to-≡ : {a b : ℤ} → above a + below b ≡ above b + below a → a ≡ b
-to-≡ {a = pos a} {b = pos b} h = ap pos (omega arith)
-to-≡ {a = pos a} {b = negsuc b} h = absurd (omega arith)
-to-≡ {a = negsuc a} {b = pos b} h = absurd (omega arith)
-to-≡ {a = negsuc a} {b = negsuc b} h = ap negsuc (omega arith)
+pub to_≡ : {a b : ℤ} → above a + below b ≡ above b + below a → a ≡ b
+to_≡ {a = pos a} {b = pos b} h = ap pos (omega arith)
+to_≡ {a = pos a} {b = negsuc b} h = absurd (omega arith)
+to_≡ {a = negsuc a} {b = pos b} h = absurd (omega arith)
+to_≡ {a = negsuc a} {b = negsuc b} h = ap negsuc (omega arith)
 
 -- a cast to an unsigned type asks this
-pub to-nonnegative : (z : ℤ) → below z ≤ above z → T (non_neg z)
-to-nonnegative (pos n) h = tt
-to-nonnegative (negsuc n) h = absurd (omega arith)
+pub to_nonnegative : (z : ℤ) → below z ≤ above z → T (non_neg z)
+to_nonnegative (pos n) h = tt
+to_nonnegative (negsuc n) h = absurd (omega arith)
 
 -- ---- a test's flag, read and proved
 
-nle-lt : (a b : ℤ) → T (not (le_z a b)) → b <ℤ a
-nle-lt (pos a) (pos b) t = to-< (omega (arith, nleb→lt a b t))
-nle-lt (pos a) (negsuc b) t = to-< (omega arith)
-nle-lt (negsuc a) (pos b) t = absurd t
-nle-lt (negsuc a) (negsuc b) t = to-< (omega (arith, nleb→lt b a t))
+nle_lt : (a b : ℤ) → T (not (le_z a b)) → b <ℤ a
+nle_lt (pos a) (pos b) t = to_< (omega (arith, nleb→lt a b t))
+nle_lt (pos a) (negsuc b) t = to_< (omega arith)
+nle_lt (negsuc a) (pos b) t = absurd t
+nle_lt (negsuc a) (negsuc b) t = to_< (omega (arith, nleb→lt b a t))
 
-pub ltZ-true : (a b : ℤ) → lt_z a b ≡ true → above a + below b < above b + below a
-ltZ-true a b e = (lt-parts a b (subst T (sym e) tt)).less
+pub lt_z-true : (a b : ℤ) → lt_z a b ≡ true → above a + below b < above b + below a
+lt_z-true a b e = (lt_parts a b (subst T (sym e) tt)).less
 
-pub ltZ-false : (a b : ℤ) → lt_z a b ≡ false → above b + below a ≤ above a + below b
-ltZ-false a b e = from-≤ (Signed.lt_z_no {a = a} {b = b} (subst (λ (t : Bool). T (not t)) (sym e) tt))
+pub lt_z-false : (a b : ℤ) → lt_z a b ≡ false → above b + below a ≤ above a + below b
+lt_z-false a b e = from_≤ (Signed.lt_z_no {a = a} {b = b} (subst (λ (t : Bool). T (not t)) (sym e) tt))
 
-pub leZ-true : (a b : ℤ) → le_z a b ≡ true → above a + below b ≤ above b + below a
-leZ-true a b e = omega (arith, le_parts a b (subst T (sym e) tt))
+pub le_z-true : (a b : ℤ) → le_z a b ≡ true → above a + below b ≤ above b + below a
+le_z-true a b e = omega (arith, le_parts a b (subst T (sym e) tt))
 
-pub leZ-false : (a b : ℤ) → le_z a b ≡ false → above b + below a < above a + below b
-leZ-false a b e = from-< (nle-lt a b (subst (λ (t : Bool). T (not t)) (sym e) tt))
+pub le_z-false : (a b : ℤ) → le_z a b ≡ false → above b + below a < above a + below b
+le_z-false a b e = from_< (nle_lt a b (subst (λ (t : Bool). T (not t)) (sym e) tt))
 
 is_true : (t : Bool) → T t → t ≡ true
 is_true true h = refl
@@ -136,36 +136,36 @@ is_false : (t : Bool) → (t ≡ true → ⊥) → t ≡ false
 is_false true h = absurd (h refl)
 is_false false h = refl
 
-pub true-ltZ : (a b : ℤ) → above a + below b < above b + below a → lt_z a b ≡ true
-true-ltZ a b h = is_true (lt_z a b) (to-< {a = a} {b = b} h).lt
+pub true-lt_z : (a b : ℤ) → above a + below b < above b + below a → lt_z a b ≡ true
+true-lt_z a b h = is_true (lt_z a b) (to_< {a = a} {b = b} h).lt
 
-pub true-leZ : (a b : ℤ) → above a + below b ≤ above b + below a → le_z a b ≡ true
-true-leZ a b h = is_true (le_z a b) (to-≤ {a = a} {b = b} h).le
+pub true-le_z : (a b : ℤ) → above a + below b ≤ above b + below a → le_z a b ≡ true
+true-le_z a b h = is_true (le_z a b) (to_≤ {a = a} {b = b} h).le
 
-pub false-ltZ : (a b : ℤ) → above b + below a ≤ above a + below b → lt_z a b ≡ false
-false-ltZ a b h = is_false (lt_z a b) (λ e. omega (arith, ltZ-true a b e))
+pub false-lt_z : (a b : ℤ) → above b + below a ≤ above a + below b → lt_z a b ≡ false
+false-lt_z a b h = is_false (lt_z a b) (λ e. omega (arith, lt_z-true a b e))
 
-pub false-leZ : (a b : ℤ) → above b + below a < above a + below b → le_z a b ≡ false
-false-leZ a b h = is_false (le_z a b) (λ e. omega (arith, leZ-true a b e))
+pub false-le_z : (a b : ℤ) → above b + below a < above a + below b → le_z a b ≡ false
+false-le_z a b h = is_false (le_z a b) (λ e. omega (arith, le_z-true a b e))
 
 pub ruleset integers = (
-  from-nonnegative,
-  from-at-least,
-  from-at-most,
-  from-at-least-minus,
-  from-≤,
-  from-<,
-  from-≡,
-  ltZ-true,
-  ltZ-false,
-  leZ-true,
-  leZ-false,
-  to-≤,
-  to-<,
-  to-≡,
-  to-nonnegative,
-  true-ltZ,
-  false-ltZ,
-  true-leZ,
-  false-leZ,
+  from_nonnegative,
+  from_at_least,
+  from_at_most,
+  from_at_least_minus,
+  from_≤,
+  from_<,
+  from_≡,
+  lt_z-true,
+  lt_z-false,
+  le_z-true,
+  le_z-false,
+  to_≤,
+  to_<,
+  to_≡,
+  to_nonnegative,
+  true-lt_z,
+  false-lt_z,
+  true-le_z,
+  false-le_z,
 )

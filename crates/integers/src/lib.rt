@@ -4,14 +4,14 @@ ghost use Rattle.std.specs.Prelude.{◌≡◌, ◌*◌, ◌<◌, ◌≤◌, pos,
 ghost use Rattle.std.specs.Int.Signed.{le_z, lt_z, mag};
 ghost use Rattle.integers.specs.Choice.{if◌then◌else◌};
 ghost use Rattle.integers.specs.Machine.{Small};
-ghost use Rattle.integers.specs.Sign.{fromSign, isNegative};
+ghost use Rattle.integers.specs.Sign.{from_sign, is_negative};
 ghost use Rattle.integers.specs.Limit.{at_least, at_most, limited};
-ghost use Rattle.integers.specs.Rounding.{halfEven};
-ghost use Rattle.integers.specs.TwosComplement.{asWord, fromWord};
+ghost use Rattle.integers.specs.Rounding.{half_even};
+ghost use Rattle.integers.specs.TwosComplement.{as_word, from_word};
 
 // Whether x lies below zero. The contract rules out taking zero for negative.
 pub fn negative(x: i64) -> bool
-    ensures { result ≡ isNegative x }
+    ensures { result ≡ is_negative x }
 {
     x < 0
 }
@@ -31,7 +31,7 @@ pub fn magnitude(x: i64) -> u64
 // -m where minus is true, else m. The contract rules out a sign that is lost.
 pub fn signed(minus: bool, m: u64) -> i64
     requires { m < 9223372036854775808 }
-    ensures { result ≡ fromSign minus m }
+    ensures { result ≡ from_sign minus m }
 {
     if minus { 0 - m as i64 } else { m as i64 }
 }
@@ -114,7 +114,7 @@ pub fn limit(low: i64, high: i64, value: i64) -> i64
 // whatever its neighbours are.
 pub fn nearest_even(n: u64, d: u64) -> u64
     requires { 0 < d }
-    ensures { result ≡ halfEven n d }
+    ensures { result ≡ half_even n d }
 {
     let rest = n % d;
     let quotient = n / d;
@@ -149,7 +149,7 @@ pub fn narrow(x: i64) -> i32
 // A number in a word of 16 bits, two's complement. The contract rules out a sign that is lost.
 pub fn as_word(v: i64) -> u16
     requires { nat_abs v ≤ 32767 }
-    ensures { result ≡ asWord v }
+    ensures { result ≡ as_word v }
 {
     let size = magnitude(v);
     if negative(v) {
@@ -161,7 +161,7 @@ pub fn as_word(v: i64) -> u16
 
 // The number that a word of 16 bits holds. The contract rules out a word that is read unsigned.
 pub fn from_word(word: u16) -> i64
-    ensures { result ≡ fromWord word }
+    ensures { result ≡ from_word word }
 {
     if word < 32768 {
         word as i64

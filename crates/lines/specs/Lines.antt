@@ -1,13 +1,13 @@
 -- Lines of a stream of bytes: a line feed ends each of them.
 use Rattle.std.specs.Prelude.{◌≡◌, Bool, true, false, not, ◌&&◌, ◌||◌, cond, List, [], ◌∷◌, ◌++◌, ℕ, suc, ◌≤◌, eqb, ltb, length, take, drop}
-use Rattle.formatting.specs.Buffer.{buffer, appendAll}
+use Rattle.formatting.specs.Buffer.{buffer, append_all}
 use Rattle.lines.specs.declared.AppendResult.{AppendResult}
 use Rattle.lines.specs.declared.ReaderState.{ReaderState}
 
 -- whether a line ends among bytes
-unfoldable pub hasEnd : List ℕ → Bool
-hasEnd [] = false
-hasEnd (b ∷ bs) = cond (eqb b 10) true (hasEnd bs)
+unfoldable pub has_end : List ℕ → Bool
+has_end [] = false
+has_end (b ∷ bs) = cond (eqb b 10) true (has_end bs)
 
 -- the bytes in front of the first line feed; all of them where there is none
 unfoldable pub line_of : List ℕ → List ℕ
@@ -24,14 +24,14 @@ unfoldable pub unread : List ℕ → ReaderState → List ℕ
 unread input place = drop place.at (take place.end input)
 
 -- how many bytes the first line has, with its line feed
-unfoldable pub lineLength : List ℕ → ℕ
-lineLength bytes = cond (hasEnd bytes) (suc (length (line_of bytes))) (length (line_of bytes))
+unfoldable pub line_length : List ℕ → ℕ
+line_length bytes = cond (has_end bytes) (suc (length (line_of bytes))) (length (line_of bytes))
 
 -- What comes of bytes that are appended to a line buffer up to the first line feed.
 pub record Appended (bytes before after : List ℕ) (len : ℕ) (r : AppendResult) : Type 0 where
-  pub filled : buffer after r.len ≡ appendAll (buffer before len) (line_of bytes)
-  pub complete : r.complete ≡ hasEnd bytes
-  pub count : r.count ≡ lineLength bytes
+  pub filled : buffer after r.len ≡ append_all (buffer before len) (line_of bytes)
+  pub complete : r.complete ≡ has_end bytes
+  pub count : r.count ≡ line_length bytes
 
 -- where the answer to a line begins in the output: at the front where more than 64,000 bytes were used, since those are
 -- written out first
@@ -56,8 +56,8 @@ ended p = record { at = 0; end = 0; len = p.len; complete = ltb 0 p.len; more = 
 
 -- The unread bytes appended to the line buffer up to the first line feed; the others stay unread.
 pub record Advanced (input before after : List ℕ) (place r : ReaderState) : Type 0 where
-  pub filled : buffer after r.len ≡ appendAll (buffer before place.len) (line_of (unread input place))
-  pub complete : r.complete ≡ hasEnd (unread input place)
+  pub filled : buffer after r.len ≡ append_all (buffer before place.len) (line_of (unread input place))
+  pub complete : r.complete ≡ has_end (unread input place)
   pub pending : unread input r ≡ rest_of (unread input place)
   pub more : r.more ≡ place.more
   pub used : r.used ≡ place.used
@@ -71,15 +71,15 @@ pub record Refilled (input : List ℕ) (place r : ReaderState) : Type 0 where
 -- The line goes on with bytes received, up to the first line feed, or to the end of the input.
 pub record Continued (input before after : List ℕ) (place r : ReaderState) : Type 0 where
   pub received : List ℕ
-  pub filled : buffer after r.len ≡ appendAll (buffer before place.len) (line_of received)
-  pub complete : r.complete ≡ (hasEnd received || ltb 0 r.len)
+  pub filled : buffer after r.len ≡ append_all (buffer before place.len) (line_of received)
+  pub complete : r.complete ≡ (has_end received || ltb 0 r.len)
   pub pending : unread input r ≡ rest_of received
-  pub more : r.more ≡ hasEnd received
+  pub more : r.more ≡ has_end received
   pub used : r.used ≡ place.used
 
 -- whether the next line has to be read: it isn't pending, and the input goes on
 unfoldable pub reads : List ℕ → ReaderState → Bool
-reads input place = not (hasEnd (unread input place)) && place.more
+reads input place = not (has_end (unread input place)) && place.more
 
 -- The next line is made of the bytes that were pending and of those received since: it stands at the front of the line
 -- buffer, cut where the buffer ends, no other byte of which changes, and what follows its line feed is pending. A last
@@ -87,9 +87,9 @@ reads input place = not (hasEnd (unread input place)) && place.more
 -- flushed, so none of it is used.
 pub record NextLine (input₀ input before after : List ℕ) (place r : ReaderState) : Type 0 where
   pub received : List ℕ
-  pub filled : buffer after r.len ≡ appendAll (buffer before 0) (line_of (unread input₀ place ++ received))
-  pub complete : r.complete ≡ (hasEnd (unread input₀ place ++ received) || ltb 0 r.len)
+  pub filled : buffer after r.len ≡ append_all (buffer before 0) (line_of (unread input₀ place ++ received))
+  pub complete : r.complete ≡ (has_end (unread input₀ place ++ received) || ltb 0 r.len)
   pub pending : unread input r ≡ rest_of (unread input₀ place ++ received)
-  pub more : r.more ≡ (place.more && hasEnd (unread input₀ place ++ received))
+  pub more : r.more ≡ (place.more && has_end (unread input₀ place ++ received))
   pub used : r.used ≡ cond (reads input₀ place) 0 place.used
   pub quiet : reads input₀ place ≡ false → (received ≡ []) × (input ≡ input₀)

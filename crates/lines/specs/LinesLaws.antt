@@ -8,117 +8,117 @@ use Rattle.std.proofs.Math.Nat.{sub-zero, zero-sub, suc-sub-suc}
 use Rattle.std.proofs.Math.ListN.{drop}
 use Rattle.std.proofs.Math.Seq.{take-nil}
 use Rattle.integers.specs.Choice.{by_cases, never}
-use Rattle.lines.specs.Lines.{hasEnd, line_of, rest_of, unread, lineLength, start_of}
+use Rattle.lines.specs.Lines.{has_end, line_of, rest_of, unread, line_length, start_of}
 use Rattle.lines.specs.declared.ReaderState.{ReaderState}
 
-pub start-most : (used : ℕ) → start_of used ≤ 64000
-start-most used =
+pub start_most : (used : ℕ) → start_of used ≤ 64000
+start_most used =
     by_cases (λ (n : ℕ). n ≤ 64000) (ltb 64000 used) 0 used (λ e. omega arith) (λ e. let l = ltb-false 64000 used e in omega arith)
 
 -- ---- a line byte by byte
 
-one_more : (t : Bool) (n : ℕ) → cond t (suc (suc n)) (suc n) ≡ suc (cond t (suc n) n)
-one_more true n = refl
-one_more false n = refl
+one_more_lem : (t : Bool) (n : ℕ) → cond t (suc (suc n)) (suc n) ≡ suc (cond t (suc n) n)
+one_more_lem true n = refl
+one_more_lem false n = refl
 
 module _ (s : List ℕ) (i : ℕ) (inside : i < length s) where
   module _ (feed : get_or s i 0 ≡ 10) where
-    pub line-at-feed : line_of (drop i s) ≡ []
+    pub line_at_feed : line_of (drop i s) ≡ []
     unfolding line_of
-    line-at-feed = rw (drop-cons s i 0) (simp (eq-eqb (get_or s i 0) 10 feed))
+    line_at_feed = rw (drop-cons s i 0) (simp (eq-eqb (get_or s i 0) 10 feed))
 
-    pub end-at-feed : hasEnd (drop i s) ≡ true
-    unfolding hasEnd
-    end-at-feed = rw (drop-cons s i 0) (simp (eq-eqb (get_or s i 0) 10 feed))
+    pub end_at_feed : has_end (drop i s) ≡ true
+    unfolding has_end
+    end_at_feed = rw (drop-cons s i 0) (simp (eq-eqb (get_or s i 0) 10 feed))
 
-    pub length-at-feed : lineLength (drop i s) ≡ 1
-    unfolding lineLength
-    length-at-feed = rw (end-at-feed, line-at-feed)
+    pub length_at_feed : line_length (drop i s) ≡ 1
+    unfolding line_length
+    length_at_feed = rw (end_at_feed, line_at_feed)
 
   module _ (other : get_or s i 0 ≡ 10 → ⊥) where
-    pub line-more : line_of (drop i s) ≡ get_or s i 0 ∷ line_of (drop (suc i) s)
+    pub line_more : line_of (drop i s) ≡ get_or s i 0 ∷ line_of (drop (suc i) s)
     unfolding line_of
-    line-more = rw (drop-cons s i 0) (simp (ne_eqb (get_or s i 0) 10 other))
+    line_more = rw (drop-cons s i 0) (simp (ne_eqb (get_or s i 0) 10 other))
 
-    pub end_more : hasEnd (drop i s) ≡ hasEnd (drop (suc i) s)
-    unfolding hasEnd
+    pub end_more : has_end (drop i s) ≡ has_end (drop (suc i) s)
+    unfolding has_end
     end_more = rw (drop-cons s i 0) (simp (ne_eqb (get_or s i 0) 10 other))
 
-    pub length_more : lineLength (drop i s) ≡ suc (lineLength (drop (suc i) s))
-    unfolding lineLength
-    length_more = rw (end_more, line-more) (one_more (hasEnd (drop (suc i) s)) (length (line_of (drop (suc i) s))))
+    pub length_more : line_length (drop i s) ≡ suc (line_length (drop (suc i) s))
+    unfolding line_length
+    length_more = rw (end_more, line_more) (one_more_lem (has_end (drop (suc i) s)) (length (line_of (drop (suc i) s))))
 
 module _ (s : List ℕ) (i : ℕ) (past : length s ≤ i) where
-  pub line-at-end : line_of (drop i s) ≡ []
+  pub line_at_end : line_of (drop i s) ≡ []
   unfolding line_of
-  line-at-end = rw (drop_of_length-le s past)
+  line_at_end = rw (drop_of_length-le s past)
 
-  pub end-at-end : hasEnd (drop i s) ≡ false
-  unfolding hasEnd
-  end-at-end = rw (drop_of_length-le s past)
+  pub end_at_end : has_end (drop i s) ≡ false
+  unfolding has_end
+  end_at_end = rw (drop_of_length-le s past)
 
-  pub length-at-end : lineLength (drop i s) ≡ 0
-  unfolding lineLength
-  length-at-end = rw (end-at-end, line-at-end)
+  pub length_at_end : line_length (drop i s) ≡ 0
+  unfolding line_length
+  length_at_end = rw (end_at_end, line_at_end)
 
 module _ (b : ℕ) (bs : List ℕ) where
   -- what is used up and what is behind it
-  behind : (feed : Bool) → rest_of bs ≡ drop (lineLength bs) bs → lineLength bs ≤ length bs → eqb b 10 ≡ feed →
-      (rest_of (b ∷ bs) ≡ drop (lineLength (b ∷ bs)) (b ∷ bs)) × (lineLength (b ∷ bs) ≤ suc (length bs))
-  unfolding rest_of lineLength line_of hasEnd
+  behind : (feed : Bool) → rest_of bs ≡ drop (line_length bs) bs → line_length bs ≤ length bs → eqb b 10 ≡ feed →
+      (rest_of (b ∷ bs) ≡ drop (line_length (b ∷ bs)) (b ∷ bs)) × (line_length (b ∷ bs) ≤ suc (length bs))
+  unfolding rest_of line_length line_of has_end
   behind true e h f = simp f (refl, omega arith)
   behind false e h f =
-      let more : lineLength (b ∷ bs) ≡ suc (lineLength bs) = simp f (one_more (hasEnd bs) (length (line_of bs))) in
+      let more : line_length (b ∷ bs) ≡ suc (line_length bs) = simp f (one_more_lem (has_end bs) (length (line_of bs))) in
       rw more (simp f e, omega arith)
 
-pub rest-behind-line : (bytes : List ℕ) → (rest_of bytes ≡ drop (lineLength bytes) bytes) × (lineLength bytes ≤ length bytes)
-unfolding rest_of lineLength line_of hasEnd
-rest-behind-line [] = (refl, omega arith)
-rest-behind-line (b ∷ bs) = let h = rest-behind-line bs in behind b bs (eqb b 10) h.0 h.1 refl
+pub rest_behind_line : (bytes : List ℕ) → (rest_of bytes ≡ drop (line_length bytes) bytes) × (line_length bytes ≤ length bytes)
+unfolding rest_of line_length line_of has_end
+rest_behind_line [] = (refl, omega arith)
+rest_behind_line (b ∷ bs) = let h = rest_behind_line bs in behind b bs (eqb b 10) h.0 h.1 refl
 
 -- ---- bytes with no line feed, and others behind them
 
 module _ (b : ℕ) (bs : List ℕ) where
-  no-feed : (feed : Bool) → eqb b 10 ≡ feed → hasEnd (b ∷ bs) ≡ false → (eqb b 10 ≡ false) × (hasEnd bs ≡ false)
-  unfolding hasEnd
-  no-feed true f e = never (sym (simp f at e))
-  no-feed false f e = (f, simp f at e)
+  no_feed : (feed : Bool) → eqb b 10 ≡ feed → has_end (b ∷ bs) ≡ false → (eqb b 10 ≡ false) × (has_end bs ≡ false)
+  unfolding has_end
+  no_feed true f e = never (sym (simp f at e))
+  no_feed false f e = (f, simp f at e)
 
-pub line-behind : (xs ys : List ℕ) → hasEnd xs ≡ false → line_of (xs ++ ys) ≡ xs ++ line_of ys
+pub line_behind : (xs ys : List ℕ) → has_end xs ≡ false → line_of (xs ++ ys) ≡ xs ++ line_of ys
 unfolding line_of
-line-behind [] ys e = refl
-line-behind (x ∷ xs) ys e =
-    let n = no-feed x xs (eqb x 10) refl e in
-    simp n.0 (ap (λ (l : List ℕ). x ∷ l) (line-behind xs ys n.1))
+line_behind [] ys e = refl
+line_behind (x ∷ xs) ys e =
+    let n = no_feed x xs (eqb x 10) refl e in
+    simp n.0 (ap (λ (l : List ℕ). x ∷ l) (line_behind xs ys n.1))
 
-pub end-behind : (xs ys : List ℕ) → hasEnd xs ≡ false → hasEnd (xs ++ ys) ≡ hasEnd ys
-unfolding hasEnd
-end-behind [] ys e = refl
-end-behind (x ∷ xs) ys e =
-    let n = no-feed x xs (eqb x 10) refl e in
-    simp n.0 (end-behind xs ys n.1)
+pub end_behind : (xs ys : List ℕ) → has_end xs ≡ false → has_end (xs ++ ys) ≡ has_end ys
+unfolding has_end
+end_behind [] ys e = refl
+end_behind (x ∷ xs) ys e =
+    let n = no_feed x xs (eqb x 10) refl e in
+    simp n.0 (end_behind xs ys n.1)
 
-pub rest-behind : (xs ys : List ℕ) → hasEnd xs ≡ false → rest_of (xs ++ ys) ≡ rest_of ys
+pub rest_behind : (xs ys : List ℕ) → has_end xs ≡ false → rest_of (xs ++ ys) ≡ rest_of ys
 unfolding rest_of
-rest-behind [] ys e = refl
-rest-behind (x ∷ xs) ys e =
-    let n = no-feed x xs (eqb x 10) refl e in
-    simp n.0 (rest-behind xs ys n.1)
+rest_behind [] ys e = refl
+rest_behind (x ∷ xs) ys e =
+    let n = no_feed x xs (eqb x 10) refl e in
+    simp n.0 (rest_behind xs ys n.1)
 
 -- bytes with no line feed are a line by themselves, and nothing is behind it
-pub line-whole : (xs : List ℕ) → hasEnd xs ≡ false → line_of xs ≡ xs
+pub line_whole : (xs : List ℕ) → has_end xs ≡ false → line_of xs ≡ xs
 unfolding line_of
-line-whole [] e = refl
-line-whole (x ∷ xs) e =
-    let n = no-feed x xs (eqb x 10) refl e in
-    simp n.0 (ap (λ (l : List ℕ). x ∷ l) (line-whole xs n.1))
+line_whole [] e = refl
+line_whole (x ∷ xs) e =
+    let n = no_feed x xs (eqb x 10) refl e in
+    simp n.0 (ap (λ (l : List ℕ). x ∷ l) (line_whole xs n.1))
 
-pub rest-whole : (xs : List ℕ) → hasEnd xs ≡ false → rest_of xs ≡ []
+pub rest_whole : (xs : List ℕ) → has_end xs ≡ false → rest_of xs ≡ []
 unfolding rest_of
-rest-whole [] e = refl
-rest-whole (x ∷ xs) e =
-    let n = no-feed x xs (eqb x 10) refl e in
-    simp n.0 (rest-whole xs n.1)
+rest_whole [] e = refl
+rest_whole (x ∷ xs) e =
+    let n = no_feed x xs (eqb x 10) refl e in
+    simp n.0 (rest_whole xs n.1)
 
 -- ---- the unread bytes, as a part of the input
 
@@ -138,11 +138,11 @@ drop_min a l = go (leb a (length l)) refl
         let past = leb-false a (length l) h in
         drop_of_length-le l {i = min a (length l)} (omega arith) ∙ sym (drop_of_length-le l {i = a} (omega arith))
 
-take-drop : (a e : ℕ) (l : List ℕ) → take (e - a) (drop a l) ≡ drop a (take e l)
-take-drop zero e l = rw sub-zero
-take-drop (suc a) zero l = rw zero-sub
-take-drop (suc a) (suc e) [] = take-nil (suc e - suc a)
-take-drop (suc a) (suc e) (x ∷ xs) = rw suc-sub-suc (take-drop a e xs)
+take_drop : (a e : ℕ) (l : List ℕ) → take (e - a) (drop a l) ≡ drop a (take e l)
+take_drop zero e l = rw sub-zero
+take_drop (suc a) zero l = rw zero-sub
+take_drop (suc a) (suc e) [] = take-nil (suc e - suc a)
+take_drop (suc a) (suc e) (x ∷ xs) = rw suc-sub-suc (take_drop a e xs)
 
 module _ (input : List ℕ) (place : ReaderState) where
   abbrev pub last_of : ℕ
@@ -158,11 +158,11 @@ module _ (input : List ℕ) (place : ReaderState) where
       ap (λ (n : ℕ). drop (min place.at n) (take place.end input)) (sym (length-take place.end input)) ∙
       drop_min place.at (take place.end input)
 
-  pub unread-part : take (last_of - first_of) (drop first_of input) ≡ unread input place
-  unread-part = take-drop first_of last_of input ∙ clamped
+  pub unread_part : take (last_of - first_of) (drop first_of input) ≡ unread input place
+  unread_part = take_drop first_of last_of input ∙ clamped
 
-  pub unread-rest : drop (first_of + lineLength (unread input place)) (take last_of input) ≡ rest_of (unread input place)
-  unread-rest =
-      sym (drop-drop (lineLength (unread input place)) first_of (take last_of input)) ∙
-      ap (drop (lineLength (unread input place))) clamped ∙
-      sym (rest-behind-line (unread input place)).0
+  pub unread_rest : drop (first_of + line_length (unread input place)) (take last_of input) ≡ rest_of (unread input place)
+  unread_rest =
+      sym (drop-drop (line_length (unread input place)) first_of (take last_of input)) ∙
+      ap (drop (line_length (unread input place))) clamped ∙
+      sym (rest_behind_line (unread input place)).0

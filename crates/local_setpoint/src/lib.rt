@@ -5,8 +5,8 @@ ghost use Rattle.integers.specs.Limit.{limited};
 ghost use Rattle.integers.specs.Machine.{Small};
 ghost use Rattle.parameters.specs.Legal.{Legal};
 ghost use Rattle.parameters.specs.Table.{value, HS, LS};
-ghost use Rattle.local_setpoint.specs.LocalSetpoint.{moved, movedByHand, ratioAfter, setpointMoved, setpointAfter};
-ghost use Rattle.local_setpoint.specs.LocalSetpoint.{followingSetpoint};
+ghost use Rattle.local_setpoint.specs.LocalSetpoint.{moved, moved_by_hand, ratio_after, setpoint_moved, setpoint_after};
+ghost use Rattle.local_setpoint.specs.LocalSetpoint.{following_setpoint};
 
 use modes::Mode;
 use parameters::Parameters;
@@ -54,7 +54,7 @@ fn moved_by_hand(
     number: u64,
 ) -> i64
     requires { Small by × Small (value p number) }
-    ensures { result ≡ movedByHand input here by (value p low) (value p high) (value p number) }
+    ensures { result ≡ moved_by_hand input here by (value p low) (value p high) (value p number) }
 {
     let b = signals::buttons_of(input.buttons);
     let adjustment = signals::adjustment_of(b);
@@ -68,7 +68,7 @@ fn moved_by_hand(
 // RS after step 4. The contract rules out that hands move it in another mode than Ratio, or past its limits.
 pub fn ratio_after(p: Parameters, mode: Mode, input: Input) -> i64
     requires { Legal p }
-    ensures { result ≡ ratioAfter p mode input }
+    ensures { result ≡ ratio_after p mode input }
 {
     let ratio = modes::is_ratio(mode);
     moved_by_hand(
@@ -84,7 +84,7 @@ pub fn ratio_after(p: Parameters, mode: Mode, input: Input) -> i64
 
 fn setpoint_moved(p: Parameters, mode: Mode, input: Input) -> i64
     requires { Legal p }
-    ensures { result ≡ setpointMoved p mode input }
+    ensures { result ≡ setpoint_moved p mode input }
 {
     let ratio = modes::is_ratio(mode);
     let remote = modes::is_remote(mode);
@@ -102,7 +102,7 @@ fn setpoint_moved(p: Parameters, mode: Mode, input: Input) -> i64
 // SL after step 4. The contract rules out a setpoint that tracks PV in an automatic mode or while channel 1 is open.
 pub fn setpoint_after(p: Parameters, setpointtracks: bool, mode: Mode, input: Input, pv: i64) -> i64
     requires { Legal p }
-    ensures { result ≡ setpointAfter p setpointtracks mode input pv }
+    ensures { result ≡ setpoint_after p setpointtracks mode input pv }
 {
     let sl = p.get(parameters::SL);
     let isopen = signals::is_open(input);
@@ -118,7 +118,7 @@ pub fn setpoint_after(p: Parameters, setpointtracks: bool, mode: Mode, input: In
 // it off too, and that SL follows SP in any other mode.
 pub fn following_setpoint(p: Parameters, mode: Mode, sl: i64, sp: i64, trim: i64) -> i64
     requires { Small sp × Small trim }
-    ensures { result ≡ followingSetpoint p mode sl sp trim }
+    ensures { result ≡ following_setpoint p mode sl sp trim }
 {
     let untrimmed = integers::minus(sp, trim);
     let limited = limited_setpoint(p, untrimmed);

@@ -1,9 +1,9 @@
 // What decides the mode, and the mode: causes, the request, the priority order.
 ghost use Rattle.std.specs.Prelude.{◌≡◌, true};
 ghost use Rattle.signals.specs.declared.Input.{Input};
-ghost use Rattle.modes.specs.Modes.{isOpenCause, isCause, counted, openCountAfter, requestBy, requestAfter};
-ghost use Rattle.modes.specs.Modes.{conditionsAfter, modeBy, inPriority, mode_of, goesToMinimum};
-ghost use Rattle.modes.specs.Modes.{isAutomatic, isTrack, isRemote, isRatio, isAutoOrFallback, setsSetpoint, isLimiting};
+ghost use Rattle.modes.specs.Modes.{is_open_cause, is_cause, counted, open_count_after, request_by, request_after};
+ghost use Rattle.modes.specs.Modes.{conditions_after, mode_by, in_priority, mode_of, goes_to_minimum};
+ghost use Rattle.modes.specs.Modes.{is_automatic, is_track, is_remote, is_ratio, is_auto_or_fallback, sets_setpoint, is_limiting};
 
 use signals::{Buttons, Input};
 
@@ -46,14 +46,14 @@ pub struct Conditions {
 
 // The contract rules out a cause at the 84th open scan, and none at the 85th.
 pub fn is_open_cause(opencount: u8) -> bool
-    ensures { result ≡ isOpenCause opencount }
+    ensures { result ≡ is_open_cause opencount }
 {
     OPEN_CAUSE_SCANS <= opencount
 }
 
 // The contract rules out one cause that hides the other.
 pub fn is_cause(fault: bool, opencount: u8) -> bool
-    ensures { result ≡ isCause fault opencount }
+    ensures { result ≡ is_cause fault opencount }
 {
     fault | is_open_cause(opencount)
 }
@@ -71,14 +71,14 @@ fn counted(opencount: u8) -> u8
 
 // The contract rules out a count that a scan that isn't open leaves standing.
 fn open_count_after(isopen: bool, opencount: u8) -> u8
-    ensures { result ≡ openCountAfter counted isopen opencount }
+    ensures { result ≡ open_count_after counted isopen opencount }
 {
     if isopen { counted(opencount) } else { 0 }
 }
 
 // The first pressed of M, A, R. The contract rules out another order.
 fn request_by(b: Buttons, q: Request) -> Request
-    ensures { result ≡ requestBy b q }
+    ensures { result ≡ request_by b q }
 {
     if b.m {
         return Request::Manual;
@@ -94,7 +94,7 @@ fn request_by(b: Buttons, q: Request) -> Request
 
 // The contract rules out a button that leaves Forced Manual.
 fn request_after(cause: bool, b: Buttons, q: Request) -> Request
-    ensures { result ≡ requestAfter cause b q }
+    ensures { result ≡ request_after cause b q }
 {
     let asked = request_by(b, q);
     if cause { Request::Manual } else { asked }
@@ -102,7 +102,7 @@ fn request_after(cause: bool, b: Buttons, q: Request) -> Request
 
 // The mode by the request alone. The contract rules out Remote for Ratio, and either with the Remote pin 0.
 fn mode_by(q: Request, remotepin: bool, ratioswitch: bool) -> Mode
-    ensures { result ≡ modeBy q remotepin ratioswitch }
+    ensures { result ≡ mode_by q remotepin ratioswitch }
 {
     match q {
         Request::Manual => Mode::Manual,
@@ -123,7 +123,7 @@ fn mode_by(q: Request, remotepin: bool, ratioswitch: bool) -> Mode
 
 // Hold, Track and Forced Manual before what is requested. The contract rules out another order.
 fn in_priority(holdpin: bool, trackpin: bool, cause: bool, requested: Mode) -> Mode
-    ensures { result ≡ inPriority holdpin trackpin cause requested }
+    ensures { result ≡ in_priority holdpin trackpin cause requested }
 {
     if holdpin {
         if trackpin {
@@ -138,7 +138,7 @@ fn in_priority(holdpin: bool, trackpin: bool, cause: bool, requested: Mode) -> M
 
 // The contract rules out a mode that is not in the list of the automatic ones, and one of them left out.
 pub fn is_automatic(mode: Mode) -> bool
-    ensures { result ≡ isAutomatic mode }
+    ensures { result ≡ is_automatic mode }
 {
     match mode {
         Mode::Auto | Mode::Remote | Mode::Ratio | Mode::Fallback => true,
@@ -148,7 +148,7 @@ pub fn is_automatic(mode: Mode) -> bool
 
 // The contract rules out any mode but Track.
 pub fn is_track(mode: Mode) -> bool
-    ensures { result ≡ isTrack mode }
+    ensures { result ≡ is_track mode }
 {
     match mode {
         Mode::Track => true,
@@ -158,7 +158,7 @@ pub fn is_track(mode: Mode) -> bool
 
 // The contract rules out any mode but Remote.
 pub fn is_remote(mode: Mode) -> bool
-    ensures { result ≡ isRemote mode }
+    ensures { result ≡ is_remote mode }
 {
     match mode {
         Mode::Remote => true,
@@ -168,7 +168,7 @@ pub fn is_remote(mode: Mode) -> bool
 
 // The contract rules out any mode but Ratio.
 pub fn is_ratio(mode: Mode) -> bool
-    ensures { result ≡ isRatio mode }
+    ensures { result ≡ is_ratio mode }
 {
     match mode {
         Mode::Ratio => true,
@@ -178,7 +178,7 @@ pub fn is_ratio(mode: Mode) -> bool
 
 // The contract rules out Remote and Ratio, which keep the previous SP within c1.
 pub fn is_auto_or_fallback(mode: Mode) -> bool
-    ensures { result ≡ isAutoOrFallback mode }
+    ensures { result ≡ is_auto_or_fallback mode }
 {
     match mode {
         Mode::Auto | Mode::Fallback => true,
@@ -189,7 +189,7 @@ pub fn is_auto_or_fallback(mode: Mode) -> bool
 // Whether SL is left to the scans of this mode. The contract rules out Auto and Fall-back, and, with S2.6 OFF, every
 // mode but Remote and Ratio.
 pub fn sets_setpoint(mode: Mode, setpointtracks: bool) -> bool
-    ensures { result ≡ setsSetpoint mode setpointtracks }
+    ensures { result ≡ sets_setpoint mode setpointtracks }
 {
     let remote = is_remote(mode);
     let ratio = is_ratio(mode);
@@ -199,7 +199,7 @@ pub fn sets_setpoint(mode: Mode, setpointtracks: bool) -> bool
 
 // Whether the output is limited in this mode. The contract rules out Hold and Track, and that another is left out.
 pub fn is_limiting(mode: Mode) -> bool
-    ensures { result ≡ isLimiting mode }
+    ensures { result ≡ is_limiting mode }
 {
     match mode {
         Mode::Hold | Mode::Track => false,
@@ -211,7 +211,7 @@ impl Conditions {
     // What an accepted scan leaves. The contract rules out a count that goes on through a scan that isn't open, and a
     // request kept under a cause.
     pub fn after(self, input: Input) -> Conditions
-        ensures { result ≡ conditionsAfter counted self input }
+        ensures { result ≡ conditions_after counted self input }
     {
         let opencount = open_count_after(signals::is_open(input), self.opencount);
         let cause = is_cause(self.fault, opencount);
@@ -239,7 +239,7 @@ impl Conditions {
     // Whether a scan of this input, made now, sets the output to minimum if its mode is Manual or Forced Manual. The
     // contract rules out any but the 85th open scan, and the mode of this scan taken for the one before.
     pub fn goes_to_minimum(self, input: Input, ratioswitch: bool, powerfail: bool) -> bool
-        ensures { result ≡ goesToMinimum self input ratioswitch powerfail }
+        ensures { result ≡ goes_to_minimum self input ratioswitch powerfail }
     {
         let mode = self.mode(ratioswitch);
         signals::is_open(input)

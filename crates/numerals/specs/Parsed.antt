@@ -1,7 +1,7 @@
 -- What the functions that read numbers answer.
 use Rattle.std.specs.Prelude.{cond, List, ℕ, ◌^◌, ltb, ℤ}
 use Rattle.std.proofs.Math.Option.{Option, some, none}
-use Rattle.numerals.specs.Numerals.{digitsOf, integerOf, word_of}
+use Rattle.numerals.specs.Numerals.{digits_of, integer_of, word_of}
 use Rattle.numerals.specs.declared.ParsedNatural.{ParsedNatural}
 use Rattle.numerals.specs.declared.ParsedNatural.TheVariants as natural
 use Rattle.numerals.specs.declared.ParsedNumber.{ParsedNumber}
@@ -15,21 +15,21 @@ within64 (some v) = cond (ltb v (2 ^ 64)) (natural.Natural v) natural.Malformed
 within64 none = natural.Malformed
 
 -- a natural number of 64 bits: one to twenty digits, and no sign
-unfoldable pub naturalOf : List ℕ → ParsedNatural
-naturalOf s = within64 (digitsOf 10 20 s)
+unfoldable pub natural_of : List ℕ → ParsedNatural
+natural_of s = within64 (digits_of 10 20 s)
 
-unfoldable pub parsedNumber : Option ℤ → ParsedNumber
-parsedNumber (some z) = number.Number z
-parsedNumber none = number.Malformed
+unfoldable pub parsed_number : Option ℤ → ParsedNumber
+parsed_number (some z) = number.Number z
+parsed_number none = number.Malformed
 
 -- an integer of at most so many digits
 unfoldable pub number_of : ℕ → List ℕ → ParsedNumber
-number_of most s = parsedNumber (integerOf most s)
+number_of most s = parsed_number (integer_of most s)
 
 unfoldable pub word_in : Option ℕ → ParsedWord
 word_in (some n) = word.Word n
 word_in none = word.Malformed
 
 -- a word of exactly four hexadecimal digits
-unfoldable pub parsedWord : List ℕ → ParsedWord
-parsedWord s = word_in (word_of s)
+unfoldable pub parsed_word : List ℕ → ParsedWord
+parsed_word s = word_in (word_of s)

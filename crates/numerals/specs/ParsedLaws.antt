@@ -3,10 +3,10 @@ use Rattle.std.specs.Prelude.{◌≡◌, refl, Bool, true, false, cond, List, []
 use Rattle.std.proofs.Math.Option.{Option, some, none}
 use Rattle.std.proofs.Common.{mul_comm, mul-le-mul_right, div-lt_iff_lt-mul, le-div_iff_mul-le, arith, lt-ltb, le-ltb}
 use Rattle.integers.specs.Choice.{by_cases}
-use Rattle.numerals.specs.Numerals.{digits, decimal, hexadecimalWord, digitValue, read_on, digitsOf, with_sign, integerOf}
-use Rattle.numerals.specs.Parsed.{within64, naturalOf, parsedNumber, number_of, word_in, parsedWord}
-use Rattle.numerals.specs.Reading.{read-most}
-use Rattle.numerals.specs.Shortest.{natural-some, digits-shortest, decimal-shortest, word-shortest}
+use Rattle.numerals.specs.Numerals.{digits, decimal, hexadecimal_word, digit_value, read_on, digits_of, with_sign, integer_of}
+use Rattle.numerals.specs.Parsed.{within64, natural_of, parsed_number, number_of, word_in, parsed_word}
+use Rattle.numerals.specs.Reading.{read_most}
+use Rattle.numerals.specs.Shortest.{natural_some, digits_shortest, decimal_shortest, word_shortest}
 use Rattle.numerals.specs.declared.ParsedNatural.TheVariants as natural
 use Rattle.numerals.specs.declared.ParsedNumber.TheVariants as number
 use Rattle.numerals.specs.declared.ParsedWord.TheVariants as word
@@ -23,8 +23,8 @@ unfolding within64 read_on
 too_large b v [] base h = simp (le-ltb v (2 ^ 64) h)
 too_large b v (d ∷ ds) base h =
     let m : 1 * v ≤ b * v = mul-le-mul_right v (omega arith) in
-    by_cases (λ (r : Option ℕ). within64 r ≡ natural.Malformed) (ltb (digitValue d) b) (read_on b (v * b + digitValue d) ds) none
-    (λ e. too_large b (v * b + digitValue d) ds base (omega (arith, mul_comm b v))) (λ e. refl)
+    by_cases (λ (r : Option ℕ). within64 r ≡ natural.Malformed) (ltb (digit_value d) b) (read_on b (v * b + digit_value d) ds) none
+    (λ e. too_large b (v * b + digit_value d) ds base (omega (arith, mul_comm b v))) (λ e. refl)
 
 -- whether a digit more is too large, by a test of 64 bits
 module _ (b v d : ℕ) (base : 1 < b) (digit : d ≤ 16) where
@@ -54,27 +54,27 @@ untold (some m) h e =
     absurd (omega arith)
 
 -- eighteen digits fit
-pub few-digits : (most n : ℕ) (s : List ℕ) → most ≤ 18 → digitsOf 10 most s ≡ some n → n < 10 ^ 18
-few-digits most n s h e =
-    let r = natural-some most n s e in
-    read-most 10 18 n s (omega arith) (omega arith) (omega (arith, r.1)) r.2
+pub few_digits : (most n : ℕ) (s : List ℕ) → most ≤ 18 → digits_of 10 most s ≡ some n → n < 10 ^ 18
+few_digits most n s h e =
+    let r = natural_some most n s e in
+    read_most 10 18 n s (omega arith) (omega arith) (omega (arith, r.1)) r.2
 
 -- what is empty is no number
-pub empty-read : (most : ℕ) (s : List ℕ) → length s ≡ 0 → number.Malformed ≡ number_of most s
-unfolding number_of parsedNumber integerOf with_sign digitsOf
-empty-read most [] h = refl
-empty-read most (x ∷ xs) h = absurd (omega arith)
+pub empty_read : (most : ℕ) (s : List ℕ) → length s ≡ 0 → number.Malformed ≡ number_of most s
+unfolding number_of parsed_number integer_of with_sign digits_of
+empty_read most [] h = refl
+empty_read most (x ∷ xs) h = absurd (omega arith)
 
 -- ---- what is written is read
 
-pub natural-read : (n : ℕ) → n < 2 ^ 64 → naturalOf (digits n) ≡ natural.Natural n
-unfolding naturalOf
-natural-read n h = rw (digits-shortest 20 n (omega arith) (omega arith)).reads (fits n h)
+pub natural_read : (n : ℕ) → n < 2 ^ 64 → natural_of (digits n) ≡ natural.Natural n
+unfolding natural_of
+natural_read n h = rw (digits_shortest 20 n (omega arith) (omega arith)).reads (fits n h)
 
-pub decimal-read : (most : ℕ) (z : ℤ) → nat_abs z < 10 ^ most → 0 < most → number_of most (decimal z) ≡ number.Number z
-unfolding number_of parsedNumber
-decimal-read most z h p = rw (decimal-shortest most z h p).reads
+pub decimal_read : (most : ℕ) (z : ℤ) → nat_abs z < 10 ^ most → 0 < most → number_of most (decimal z) ≡ number.Number z
+unfolding number_of parsed_number
+decimal_read most z h p = rw (decimal_shortest most z h p).reads
 
-pub word_read : (n : ℕ) → n < 65536 → parsedWord (hexadecimalWord n) ≡ word.Word n
-unfolding parsedWord word_in
-word_read n h = rw (word-shortest n h).reads
+pub word_read : (n : ℕ) → n < 65536 → parsed_word (hexadecimal_word n) ≡ word.Word n
+unfolding parsed_word word_in
+word_read n h = rw (word_shortest n h).reads

@@ -1,7 +1,7 @@
 // Numbers in ASCII digits, read: what is wrong with the bytes is in the answer. `writing` writes them.
 ghost use Rattle.std.specs.Prelude.{◌≡◌, ◌≤◌, ◌<◌};
-ghost use Rattle.numerals.specs.Numerals.{digitValue, read_on, digitsOf, with_sign};
-ghost use Rattle.numerals.specs.Parsed.{within64, naturalOf, parsedNumber, number_of, parsedWord};
+ghost use Rattle.numerals.specs.Numerals.{digit_value, read_on, digits_of, with_sign};
+ghost use Rattle.numerals.specs.Parsed.{within64, natural_of, parsed_number, number_of, parsed_word};
 
 pub mod writing;
 
@@ -25,7 +25,7 @@ pub enum ParsedWord {
 
 // The value of a digit, capitals for `A` to `F`; 16 for another byte. The contract rules out a small letter.
 pub fn digit_value(b: u8) -> u64
-    ensures { (result ≡ digitValue b) × (result ≤ 16) }
+    ensures { (result ≡ digit_value b) × (result ≤ 16) }
 {
     match b {
         b'0'..=b'9' => (b - b'0') as u64,
@@ -57,7 +57,7 @@ fn value_of(s: &[u8], base: u64) -> ParsedNatural
 
 // The value of one decimal digit or more, at most so many.
 fn digits(s: &[u8], most: usize) -> ParsedNatural
-    ensures { result ≡ within64 (digitsOf 10 most s.now) }
+    ensures { result ≡ within64 (digits_of 10 most s.now) }
 {
     if s.len() == 0 {
         return ParsedNatural::Malformed;
@@ -71,14 +71,14 @@ fn digits(s: &[u8], most: usize) -> ParsedNatural
 // A natural number of 64 bits: one to twenty digits, and no sign. The contract rules out a wrong value, a number that
 // 64 bits don't hold, and one of up to twenty digits that they hold and isn't taken.
 pub fn natural(s: &[u8]) -> ParsedNatural
-    ensures { result ≡ naturalOf s.now }
+    ensures { result ≡ natural_of s.now }
 {
     digits(s, 20)
 }
 
 fn signed(minus: bool, s: &[u8], most: usize) -> ParsedNumber
     requires { most ≤ 18 }
-    ensures { result ≡ parsedNumber (with_sign minus (digitsOf 10 most s.now)) }
+    ensures { result ≡ parsed_number (with_sign minus (digits_of 10 most s.now)) }
 {
     let reading = digits(s, most);
     match reading {
@@ -105,7 +105,7 @@ pub fn number(s: &[u8], most: usize) -> ParsedNumber
 // A word of 16 bits: exactly four hexadecimal digits, capitals. The contract rules out a wrong value, a digit too few
 // or too many, and a small letter.
 pub fn word(s: &[u8]) -> ParsedWord
-    ensures { result ≡ parsedWord s.now }
+    ensures { result ≡ parsed_word s.now }
 {
     if s.len() != 4 {
         return ParsedWord::Malformed;

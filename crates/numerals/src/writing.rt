@@ -1,10 +1,10 @@
 // Numbers in ASCII digits, written to the front of a buffer.
 ghost use Rattle.std.specs.Prelude.{◌≡◌, ◌++◌, ◌≤◌, ◌<◌, length, drop};
-ghost use Rattle.numerals.specs.Numerals.{digitByte, lastDigits, places};
+ghost use Rattle.numerals.specs.Numerals.{digit_byte, last_digits, places};
 
 fn digit_byte(d: u64) -> u8
     requires { d < 16 }
-    ensures { result ≡ digitByte d }
+    ensures { result ≡ digit_byte d }
 {
     let small = d as u8;
     if small < 10 {
@@ -31,7 +31,7 @@ pub fn places(n: u64) -> usize
 // order and a change behind the digits.
 pub fn write_digits(out: &mut [u8], base: u64, count: usize, n: u64)
     requires { (1 < base) × (base ≤ 16) × (count ≤ length out.old) }
-    ensures { out.new ≡ lastDigits base count n ++ drop count out.old }
+    ensures { out.new ≡ last_digits base count n ++ drop count out.old }
 {
     let mut i = count;
     let mut rest = n;

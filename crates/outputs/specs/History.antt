@@ -9,8 +9,8 @@ use Rattle.outputs.specs.declared.Past.{Past}
 
 -- when a scan begins; document 02, request 2: "After more than 42 ms the scan is taken, but earlier PV and SP are
 -- forgotten first."
-unfoldable pub historyBefore : History → Bool → History
-historyBefore h aftergap = if aftergap then Nothing else h
+unfoldable pub history_before : History → Bool → History
+history_before h aftergap = if aftergap then Nothing else h
 
 -- an open scan "isn't remembered; others are": the PV and SP of the last one, and the PV of the one before
 abbrev pub remembered : History → Readings → History
@@ -19,8 +19,8 @@ remembered (One pv sp) r = Two r.pv r.sp pv
 remembered (Two pv sp before) r = Two r.pv r.sp pv
 
 -- "An open scan forgets earlier PV and SP and isn't remembered; others are."
-unfoldable pub historyAfter : History → Bool → Readings → History
-historyAfter h isopen r = if isopen then Nothing else remembered h r
+unfoldable pub history_after : History → Bool → Readings → History
+history_after h isopen r = if isopen then Nothing else remembered h r
 
 -- the previous PV and SP and the PV before, in a scan with these readings; "A forgotten value counts as
 -- the nearest later one."

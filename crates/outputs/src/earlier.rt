@@ -1,13 +1,13 @@
 // What is remembered of earlier scans: before a scan, in its terms, and after it.
 ghost use Rattle.std.specs.Prelude.{◌≡◌};
-ghost use Rattle.outputs.specs.History.{historyBefore, recalled, remembered, historyAfter};
+ghost use Rattle.outputs.specs.History.{history_before, recalled, remembered, history_after};
 
 use crate::{History, Past};
 use setpoints::Readings;
 
 // The contract rules out a gap that forgets only a part, and a scan after none that forgets.
 pub fn history_before(h: History, aftergap: bool) -> History
-    ensures { result ≡ historyBefore h aftergap }
+    ensures { result ≡ history_before h aftergap }
 {
     if aftergap { History::Nothing } else { h }
 }
@@ -46,7 +46,7 @@ fn remembered(h: History, r: Readings) -> History
 
 // The contract rules out an open scan that is remembered and one that forgets only a part.
 pub fn history_after(h: History, isopen: bool, r: Readings) -> History
-    ensures { result ≡ historyAfter h isopen r }
+    ensures { result ≡ history_after h isopen r }
 {
     if isopen {
         History::Nothing

@@ -2,14 +2,14 @@
 // earlier scans is in a file of its own.
 ghost use Rattle.std.specs.Prelude.{◌≡◌, ◌≤◌, min, nat_abs, pos};
 ghost use Rattle.integers.specs.Machine.{Small};
-ghost use Rattle.terms.specs.Fraction.{storedUnits, limitedStored};
+ghost use Rattle.terms.specs.Fraction.{stored_units, limited_stored};
 ghost use Rattle.parameters.specs.Legal.{Legal};
 ghost use Rattle.parameters.specs.Table.{HO, LO};
-ghost use Rattle.outputs.specs.ControlDifference.{controlDifference, earlierSetpoint, changeOfDifference, secondDifference, tuningOf};
-ghost use Rattle.outputs.specs.Instruction.{storedArithmetic, changed, limitedTo, executed};
+ghost use Rattle.outputs.specs.ControlDifference.{control_difference, earlier_setpoint, change_of_difference, second_difference, tuning_of};
+ghost use Rattle.outputs.specs.Instruction.{stored_arithmetic, changed, limited_to, executed};
 ghost use Rattle.outputs.specs.OutputLaws.{ReadingsRange, HistoryRange, PastRange, OutputRange};
-ghost use Rattle.outputs.specs.Outputs.{minimumOf, adjusted, byHand, termsOf, byTerms};
-ghost use Rattle.outputs.specs.Outputs.{changeIn, limitsIn, instructionOf, limitsWritten};
+ghost use Rattle.outputs.specs.Outputs.{minimum_of, adjusted, by_hand, terms_of, by_terms};
+ghost use Rattle.outputs.specs.Outputs.{change_in, limits_in, instruction_of, limits_written};
 
 use modes::Mode;
 use parameters::Parameters;
@@ -50,7 +50,7 @@ pub struct Context {
 // c, the control difference, or c1 of earlier values.
 fn control_difference(inverse: bool, sp: i64, pv: i64) -> i64
     requires { Small sp × Small pv }
-    ensures { result ≡ controlDifference inverse sp pv }
+    ensures { result ≡ control_difference inverse sp pv }
 {
     let reverse = integers::minus(pv, sp);
     let direct = integers::minus(sp, pv);
@@ -58,7 +58,7 @@ fn control_difference(inverse: bool, sp: i64, pv: i64) -> i64
 }
 
 fn earlier_setpoint(s: Switches, mode: Mode, r: Readings, past: Past) -> i64
-    ensures { result ≡ earlierSetpoint s mode r past }
+    ensures { result ≡ earlier_setpoint s mode r past }
 {
     let balanced = modes::is_auto_or_fallback(mode);
     integers::choose(balanced & !s.balanceoff, r.sp, past.sp)
@@ -66,7 +66,7 @@ fn earlier_setpoint(s: Switches, mode: Mode, r: Readings, past: Past) -> i64
 
 fn change_of_difference(s: Switches, mode: Mode, r: Readings, past: Past) -> i64
     requires { ReadingsRange r × PastRange past }
-    ensures { result ≡ changeOfDifference s mode r past }
+    ensures { result ≡ change_of_difference s mode r past }
 {
     let now = control_difference(s.inverseoutput, r.sp, r.pv);
     let sp = earlier_setpoint(s, mode, r, past);
@@ -76,7 +76,7 @@ fn change_of_difference(s: Switches, mode: Mode, r: Readings, past: Past) -> i64
 
 fn second_difference(r: Readings, past: Past) -> i64
     requires { ReadingsRange r × PastRange past }
-    ensures { result ≡ secondDifference r past }
+    ensures { result ≡ second_difference r past }
 {
     let twice = integers::plus(past.pv, past.pv);
     let first = integers::minus(r.pv, twice);
@@ -85,7 +85,7 @@ fn second_difference(r: Readings, past: Past) -> i64
 
 fn tuning_of(p: Parameters, s: Switches) -> Tuning
     requires { Legal p }
-    ensures { result ≡ tuningOf p s }
+    ensures { result ≡ tuning_of p s }
 {
     let xp = integers::magnitude(p.get(parameters::XP));
     let span = integers::minus(p.get(parameters::H1), p.get(parameters::L1));
@@ -105,7 +105,7 @@ fn tuning_of(p: Parameters, s: Switches) -> Tuning
 // output that never moves.
 fn with_terms(p: Parameters, x: Context, r: Readings, h: History, output: i64) -> i64
     requires { Legal p × ReadingsRange r × HistoryRange h × OutputRange output }
-    ensures { result ≡ changed storedArithmetic (termsOf p x r h) output }
+    ensures { result ≡ changed stored_arithmetic (terms_of p x r h) output }
 {
     let s = x.switches;
     let mode = x.mode;
@@ -122,13 +122,13 @@ fn with_terms(p: Parameters, x: Context, r: Readings, h: History, output: i64) -
 // So many whole units, stored.
 fn units(u: i64) -> i64
     requires { nat_abs u ≤ 65535 }
-    ensures { result ≡ storedUnits u }
+    ensures { result ≡ stored_units u }
 {
     u * amounts::UNIT
 }
 
 fn minimum_of(p: Parameters, s: Switches) -> i64
-    ensures { result ≡ minimumOf p s }
+    ensures { result ≡ minimum_of p s }
 {
     let high = p.get(parameters::HO);
     let low = p.get(parameters::LO);
@@ -137,7 +137,7 @@ fn minimum_of(p: Parameters, s: Switches) -> i64
 
 fn adjusted(adjustment: Adjustment, output: i64) -> i64
     requires { OutputRange output }
-    ensures { result ≡ changed storedArithmetic (adjusted adjustment) output }
+    ensures { result ≡ changed stored_arithmetic (adjusted adjustment) output }
 {
     match adjustment {
         Adjustment::Raise => {
@@ -155,7 +155,7 @@ fn adjusted(adjustment: Adjustment, output: i64) -> i64
 // Manual and Forced Manual. The contract rules out a move while SP is held, and Raise or Lower beside the minimum.
 fn by_hand(p: Parameters, x: Context, output: i64) -> i64
     requires { Legal p × OutputRange output }
-    ensures { result ≡ changed storedArithmetic (byHand p x) output }
+    ensures { result ≡ changed stored_arithmetic (by_hand p x) output }
 {
     let s = x.switches;
     let input = x.input;
@@ -173,7 +173,7 @@ fn by_hand(p: Parameters, x: Context, output: i64) -> i64
 // The automatic modes.
 fn by_terms(p: Parameters, x: Context, r: Readings, h: History, output: i64) -> i64
     requires { Legal p × ReadingsRange r × HistoryRange h × OutputRange output }
-    ensures { result ≡ changed storedArithmetic (byTerms p x r h) output }
+    ensures { result ≡ changed stored_arithmetic (by_terms p x r h) output }
 {
     let input = x.input;
     let isopen = signals::is_open(input);
@@ -185,7 +185,7 @@ fn by_terms(p: Parameters, x: Context, r: Readings, h: History, output: i64) -> 
 
 // Track's output, stored: the lesser of sample 3 and 9999 units.
 fn tracked(sample: u16) -> i64
-    ensures { result ≡ storedUnits (pos (min sample 9999)) }
+    ensures { result ≡ stored_units (pos (min sample 9999)) }
 {
     if sample < parameters::OP_MOST {
         return sample as i64 * amounts::UNIT;
@@ -195,7 +195,7 @@ fn tracked(sample: u16) -> i64
 
 fn changed_in(p: Parameters, x: Context, r: Readings, h: History, output: i64) -> i64
     requires { Legal p × ReadingsRange r × HistoryRange h × OutputRange output }
-    ensures { result ≡ changed storedArithmetic (changeIn x.mode p x r h) output }
+    ensures { result ≡ changed stored_arithmetic (change_in x.mode p x r h) output }
 {
     let mode = x.mode;
     let input = x.input;
@@ -214,7 +214,7 @@ fn changed_in(p: Parameters, x: Context, r: Readings, h: History, output: i64) -
 // Limited to LO..HO.
 fn limited(p: Parameters, output: i64) -> i64
     requires { Legal p }
-    ensures { result ≡ limitedStored (LO p) (HO p) output }
+    ensures { result ≡ limited_stored (LO p) (HO p) output }
 {
     let low = units(p.get(parameters::LO));
     let high = units(p.get(parameters::HO));
@@ -223,7 +223,7 @@ fn limited(p: Parameters, output: i64) -> i64
 
 fn limited_in(mode: Mode, p: Parameters, output: i64) -> i64
     requires { Legal p }
-    ensures { result ≡ limitedTo storedArithmetic (limitsIn mode p) output }
+    ensures { result ≡ limited_to stored_arithmetic (limits_in mode p) output }
 {
     let limiting = modes::is_limiting(mode);
     let within = limited(p, output);
@@ -234,7 +234,7 @@ fn limited_in(mode: Mode, p: Parameters, output: i64) -> i64
 // is not limited elsewhere, one that never moves, and one that repeats an earlier one.
 pub fn output_after(p: Parameters, x: Context, r: Readings, h: History, output: i64) -> i64
     requires { Legal p × ReadingsRange r × HistoryRange h × OutputRange output }
-    ensures { result ≡ executed storedArithmetic (instructionOf p x r h) output }
+    ensures { result ≡ executed stored_arithmetic (instruction_of p x r h) output }
 {
     let mode = x.mode;
     let to = changed_in(p, x, r, h, output);
@@ -245,7 +245,7 @@ pub fn output_after(p: Parameters, x: Context, r: Readings, h: History, output: 
 // that HO or LO limits in Hold or Track, one that they leave outside elsewhere, and one that another write moves.
 pub fn output_written(number: u64, mode: Mode, p: Parameters, output: i64) -> i64
     requires { Legal p }
-    ensures { result ≡ limitedTo storedArithmetic (limitsWritten number mode p) output }
+    ensures { result ≡ limited_to stored_arithmetic (limits_written number mode p) output }
 {
     match number {
         parameters::HO..=parameters::LO => limited_in(mode, p, output),

@@ -2,8 +2,8 @@
 ghost use Rattle.std.specs.Prelude.{◌≡◌};
 ghost use Rattle.parameters.specs.Legal.{Legal};
 ghost use Rattle.parameters.specs.Table.{HO, LO};
-ghost use Rattle.terms.specs.Fraction.{storedUnits, limitedStored};
-ghost use Rattle.outputs.specs.Outputs.{restartedTo};
+ghost use Rattle.terms.specs.Fraction.{stored_units, limited_stored};
+ghost use Rattle.outputs.specs.Outputs.{restarted_to};
 
 use parameters::Parameters;
 use signals::Switches;
@@ -11,7 +11,7 @@ use signals::Switches;
 // The contract rules out an OP that is left outside its limits, and a minimum that ignores S2.2.
 pub fn output_restarted(p: Parameters, s: Switches, tominimum: bool, op: u16) -> i64
     requires { Legal p }
-    ensures { result ≡ limitedStored (LO p) (HO p) (storedUnits (restartedTo p s tominimum op)) }
+    ensures { result ≡ limited_stored (LO p) (HO p) (stored_units (restarted_to p s tominimum op)) }
 {
     let minimum = crate::minimum_of(p, s);
     let to = integers::choose(tominimum, minimum, op as i64);

@@ -5,38 +5,38 @@ use Rattle.std.specs.Int.Signed.{le_z, lt_z}
 use Rattle.integers.specs.Choice.{if◌then◌else◌}
 use Rattle.signals.specs.Refusals.{number_of}
 use Rattle.parameters.specs.Range.{every}
-use Rattle.parameters.specs.Table.{value, ruleOf}
+use Rattle.parameters.specs.Table.{value, rule_of}
 use Rattle.parameters.specs.declared.Parameters.{Parameters}
 use Rattle.parameters.specs.declared.Rule.{Rule}
 use Rattle.parameters.specs.declared.Rule.TheVariants.{Unknown, ReadOnly, Word, Free, Pair, Between}
 
 -- v lies in low..high
-abbrev pub isWithin : ℤ → ℤ → ℤ → Bool
-isWithin low high v = le_z low v && le_z v high
+abbrev pub is_within : ℤ → ℤ → ℤ → Bool
+is_within low high v = le_z low v && le_z v high
 
 -- "L < H" where strict, else "L ≤ H"
-abbrev pub inOrder : Bool → ℤ → ℤ → Bool
-inOrder strict low high = if strict then lt_z low high else le_z low high
+abbrev pub in_order : Bool → ℤ → ℤ → Bool
+in_order strict low high = if strict then lt_z low high else le_z low high
 
 -- ---- the refusals that rows name, by their numbers
 
 -- "number outside 1..32 (reads too)"
-abbrev pub unknownRefusal : Rule → Option ℕ
-unknownRefusal (Unknown refusal) = some (number_of refusal)
-unknownRefusal (ReadOnly refusal) = none
-unknownRefusal (Word least most) = none
-unknownRefusal (Free least most) = none
-unknownRefusal (Pair least most high low strict) = none
-unknownRefusal (Between low high) = none
+abbrev pub unknown_refusal : Rule → Option ℕ
+unknown_refusal (Unknown refusal) = some (number_of refusal)
+unknown_refusal (ReadOnly refusal) = none
+unknown_refusal (Word least most) = none
+unknown_refusal (Free least most) = none
+unknown_refusal (Pair least most high low strict) = none
+unknown_refusal (Between low high) = none
 
 -- "read only"
-abbrev pub readOnlyRefusal : Rule → Option ℕ
-readOnlyRefusal (Unknown refusal) = none
-readOnlyRefusal (ReadOnly refusal) = some (number_of refusal)
-readOnlyRefusal (Word least most) = none
-readOnlyRefusal (Free least most) = none
-readOnlyRefusal (Pair least most high low strict) = none
-readOnlyRefusal (Between low high) = none
+abbrev pub read_only_refusal : Rule → Option ℕ
+read_only_refusal (Unknown refusal) = none
+read_only_refusal (ReadOnly refusal) = some (number_of refusal)
+read_only_refusal (Word least most) = none
+read_only_refusal (Free least most) = none
+read_only_refusal (Pair least most high low strict) = none
+read_only_refusal (Between low high) = none
 
 -- ---- what the row of a number asks of a value v, among values by their numbers
 
@@ -44,35 +44,35 @@ readOnlyRefusal (Between low high) = none
 abbrev pub in_range : Rule → (ℕ → ℤ) → ℤ → Bool
 in_range (Unknown refusal) values v = true
 in_range (ReadOnly refusal) values v = true
-in_range (Word least most) values v = isWithin least most v
-in_range (Free least most) values v = isWithin least most v
-in_range (Pair least most high low strict) values v = isWithin least most v
-in_range (Between low high) values v = isWithin (values low) (values high) v
+in_range (Word least most) values v = is_within least most v
+in_range (Free least most) values v = is_within least most v
+in_range (Pair least most high low strict) values v = is_within least most v
+in_range (Between low high) values v = is_within (values low) (values high) v
 
 -- of a pair: a value for the upper one is tested against the stored value of the lower one, and any other against
 -- that of the upper one
 abbrev pub ordered : (ℕ → ℤ) → ℕ → ℕ → Bool → ℕ → ℤ → Bool
-ordered values high low strict n v = if eqb n high then inOrder strict (values low) v else inOrder strict v (values high)
+ordered values high low strict n v = if eqb n high then in_order strict (values low) v else in_order strict v (values high)
 
 -- its pair in order, if it has one
-abbrev pub pairInOrder : Rule → (ℕ → ℤ) → ℕ → ℤ → Bool
-pairInOrder (Unknown refusal) values n v = true
-pairInOrder (ReadOnly refusal) values n v = true
-pairInOrder (Word least most) values n v = true
-pairInOrder (Free least most) values n v = true
-pairInOrder (Pair least most high low strict) values n v = ordered values high low strict n v
-pairInOrder (Between low high) values n v = true
+abbrev pub pair_in_order : Rule → (ℕ → ℤ) → ℕ → ℤ → Bool
+pair_in_order (Unknown refusal) values n v = true
+pair_in_order (ReadOnly refusal) values n v = true
+pair_in_order (Word least most) values n v = true
+pair_in_order (Free least most) values n v = true
+pair_in_order (Pair least most high low strict) values n v = ordered values high low strict n v
+pair_in_order (Between low high) values n v = true
 
 -- the value with the number n keeps its row
 abbrev pub keeps : Rule → (ℕ → ℤ) → ℕ → Bool
-keeps rule values n = in_range rule values (values n) && pairInOrder rule values n (values n)
+keeps rule values n = in_range rule values (values n) && pair_in_order rule values n (values n)
 
 -- of an image's values: all parameters 1 to 23 keep theirs
-unfoldable pub areLegal : Parameters → Bool
-areLegal p = every (λ n. keeps (ruleOf n) (value p) n) 1 23
+unfoldable pub are_legal : Parameters → Bool
+are_legal p = every (λ n. keeps (rule_of n) (value p) n) 1 23
 
 pub record Legal (p : Parameters) : Type 0 where
   pub size : length p.values ≡ 24
   -- the entry that is not used
   pub unused : value p 0 ≡ pos 0
-  pub rules : (n : ℕ) → 1 ≤ n → n ≤ 23 → keeps (ruleOf n) (value p) n ≡ true
+  pub rules : (n : ℕ) → 1 ≤ n → n ≤ 23 → keeps (rule_of n) (value p) n ≡ true

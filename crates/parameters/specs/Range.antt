@@ -11,12 +11,12 @@ unfoldable pub every : (ℕ → Bool) → ℕ → ℕ → Bool
 every test first zero = true
 every test first (suc many) = test first && every test (suc first) many
 
-pub tested-in : (test : ℕ → Bool) (many first n : ℕ) → every test first many ≡ true → first ≤ n → n < first + many → test n ≡ true
+pub tested_in : (test : ℕ → Bool) (many first n : ℕ) → every test first many ≡ true → first ≤ n → n < first + many → test n ≡ true
 unfolding every
-tested-in test zero first n e h l = absurd (omega arith)
-tested-in test (suc many) first n e h l =
+tested_in test zero first n e h l = absurd (omega arith)
+tested_in test (suc many) first n e h l =
     let now = both (test first) (every test (suc first) many) e in
-    ⊎_elim (λ q. subst (λ (m : ℕ). test m ≡ true) q now.0) (λ m. tested-in test many (suc first) n now.1 m (omega arith))
+    ⊎_elim (λ q. subst (λ (m : ℕ). test m ≡ true) q now.0) (λ m. tested_in test many (suc first) n now.1 m (omega arith))
     (eq-or-lt_of_le h)
 
 pub every_of : (test : ℕ → Bool) (many first : ℕ) → ((n : ℕ) → first ≤ n → n < first + many → test n ≡ true) → every test first many ≡ true
@@ -28,21 +28,21 @@ every_of test (suc many) first f =
 -- ---- as a loop goes: from n up to an end
 
 module _ (test : ℕ → Bool) (n end : ℕ) where
-  pub every-next : n < end → test n ≡ true → every test n (end - n) ≡ every test (n + 1) (end - (n + 1))
+  pub every_next : n < end → test n ≡ true → every test n (end - n) ≡ every test (n + 1) (end - (n + 1))
   unfolding every
-  every-next h e =
+  every_next h e =
       let one : end - n ≡ suc (end - (n + 1)) = omega arith in
       let two : n + 1 ≡ suc n = omega arith in
       rw (one, two, e) refl
 
-  pub every-not : n < end → test n ≡ false → every test n (end - n) ≡ false
+  pub every_not : n < end → test n ≡ false → every test n (end - n) ≡ false
   unfolding every
-  every-not h e =
+  every_not h e =
       let one : end - n ≡ suc (end - (n + 1)) = omega arith in
       rw (one, e) refl
 
-  pub every-done : end ≤ n → every test n (end - n) ≡ true
+  pub every_done : end ≤ n → every test n (end - n) ≡ true
   unfolding every
-  every-done h =
+  every_done h =
       let none : end - n ≡ 0 = omega arith in
       rw none refl

@@ -7,19 +7,19 @@ use Rattle.integers.specs.Choice.{if◌then◌else◌, never}
 use Rattle.integers.specs.Listed.{listed, listed_same}
 use Rattle.signals.specs.Refusals.{number_of}
 use Rattle.signals.specs.declared.Refusal.TheVariants as refusal
-use Rattle.parameters.specs.Legal.{unknownRefusal, readOnlyRefusal}
-use Rattle.parameters.specs.Table.{ruleOf, isFrom}
+use Rattle.parameters.specs.Legal.{unknown_refusal, read_only_refusal}
+use Rattle.parameters.specs.Table.{rule_of, is_from}
 use Rattle.parameters.specs.declared.Rule.{Rule}
 use Rattle.parameters.specs.declared.Rule.TheVariants.{Unknown, ReadOnly, Word, Free, Pair, Between}
 
 -- the rules of so many numbers, computed and compared with the first one's by one `refl`
-pub row : (first many n : ℕ) → listed (λ (m : ℕ). ruleOf first) first many ≡ listed ruleOf first many →
-    first ≤ n → n < first + many → ruleOf first ≡ ruleOf n
-row first many n e h l = listed_same (λ (m : ℕ). ruleOf first) ruleOf first many n e h l
+pub row : (first many n : ℕ) → listed (λ (m : ℕ). rule_of first) first many ≡ listed rule_of first many →
+    first ≤ n → n < first + many → rule_of first ≡ rule_of n
+row first many n e h l = listed_same (λ (m : ℕ). rule_of first) rule_of first many n e h l
 
-pub row-beyond : (n : ℕ) → 33 ≤ n → Unknown refusal.Number ≡ ruleOf n
-unfolding ruleOf
-row-beyond n h =
+pub row_beyond : (n : ℕ) → 33 ≤ n → Unknown refusal.Number ≡ rule_of n
+unfolding rule_of
+row_beyond n h =
     simp (
       lt-leb n 2 (omega arith),
       lt-leb n 4 (omega arith),
@@ -57,61 +57,61 @@ row-beyond n h =
 
 -- ---- a number tested for a range of numbers
 
-pub is-from : (n a b : ℕ) → isFrom n a b ≡ true → (a ≤ n) × (n ≤ b)
-is-from n a b e = go (leb a n) refl (leb n b) refl
+pub is_from_lem : (n a b : ℕ) → is_from n a b ≡ true → (a ≤ n) × (n ≤ b)
+is_from_lem n a b e = go (leb a n) refl (leb n b) refl
   where
     go : (s : Bool) → leb a n ≡ s → (t : Bool) → leb n b ≡ t → (a ≤ n) × (n ≤ b)
     go true q true d = (leb-true a n q, leb-true n b d)
     go true q false d = never (sym (rw (q, d) refl) ∙ e)
     go false q t d = never (sym (rw q refl) ∙ e)
 
-pub not-from : (n a b : ℕ) → isFrom n a b ≡ false → (m : ℕ) → a ≤ m → m ≤ b → m ≡ n → ⊥
-not-from n a b e m h l q =
+pub not_from : (n a b : ℕ) → is_from n a b ≡ false → (m : ℕ) → a ≤ m → m ≤ b → m ≡ n → ⊥
+not_from n a b e m h l q =
     let x : leb a n ≡ true = le-leb a n (omega arith) in
     let y : leb n b ≡ true = le-leb n b (omega arith) in
     never (sym e ∙ rw (x, y) refl)
 
 -- ---- which numbers have a parameter, and which of those can be written
 
-pub is_known : (n : ℕ) → 1 ≤ n → n ≤ 32 → unknownRefusal (ruleOf n) ≡ none
-unfolding ruleOf listed
-is_known n least most = listed_same (λ (m : ℕ). unknownRefusal (ruleOf m)) (λ (m : ℕ). none) 1 32 n refl least (omega arith)
+pub is_known : (n : ℕ) → 1 ≤ n → n ≤ 32 → unknown_refusal (rule_of n) ≡ none
+unfolding rule_of listed
+is_known n least most = listed_same (λ (m : ℕ). unknown_refusal (rule_of m)) (λ (m : ℕ). none) 1 32 n refl least (omega arith)
 
 -- "4 number outside 1..32"
-pub unknown-is : (n : ℕ) → unknownRefusal (ruleOf n) ≡ (if eqb n 0 || ltb 32 n then some 4 else none)
-unfolding ruleOf
-unknown-is n = go (eqb n 0) refl (ltb 32 n) refl
+pub unknown_is : (n : ℕ) → unknown_refusal (rule_of n) ≡ (if eqb n 0 || ltb 32 n then some 4 else none)
+unfolding rule_of
+unknown_is n = go (eqb n 0) refl (ltb 32 n) refl
   where
-    go : (a : Bool) → eqb n 0 ≡ a → (b : Bool) → ltb 32 n ≡ b → unknownRefusal (ruleOf n) ≡ (if a || b then some 4 else none)
-    go true e b f = ap (λ (m : ℕ). unknownRefusal (ruleOf m)) (eqb-true n 0 e)
-    go false e true f = ap unknownRefusal (sym (row-beyond n (ltb-true 32 n f)))
+    go : (a : Bool) → eqb n 0 ≡ a → (b : Bool) → ltb 32 n ≡ b → unknown_refusal (rule_of n) ≡ (if a || b then some 4 else none)
+    go true e b f = ap (λ (m : ℕ). unknown_refusal (rule_of m)) (eqb-true n 0 e)
+    go false e true f = ap unknown_refusal (sym (row_beyond n (ltb-true 32 n f)))
     go false e false f = let h = eqb-false n 0 e in is_known n (omega arith) (ltb-false 32 n f)
 
 -- a refusal isn't none
 not_none : {A : Type 0} (k : ℕ) → some k ≡ none → A
 not_none k e = let z : ◌≡◌ {A = ℕ} 0 1 = cc in absurd (omega arith)
 
-pub known : (n : ℕ) → unknownRefusal (ruleOf n) ≡ none → (1 ≤ n) × (n ≤ 32)
-unfolding ruleOf
+pub known : (n : ℕ) → unknown_refusal (rule_of n) ≡ none → (1 ≤ n) × (n ≤ 32)
+unfolding rule_of
 known n e = (go (eqb n 0) refl, here (ltb n 33) refl)
   where
     go : (t : Bool) → eqb n 0 ≡ t → 1 ≤ n
-    go true q = not_none 4 (subst (λ (m : ℕ). unknownRefusal (ruleOf m) ≡ none) (eqb-true n 0 q) e)
+    go true q = not_none 4 (subst (λ (m : ℕ). unknown_refusal (rule_of m) ≡ none) (eqb-true n 0 q) e)
     go false q = let h = eqb-false n 0 q in omega arith
 
     here : (t : Bool) → ltb n 33 ≡ t → n ≤ 32
     here true q = let h = ltb-true n 33 q in omega arith
-    here false q = not_none 4 (ap unknownRefusal (row-beyond n (ltb-false n 33 q)) ∙ e)
+    here false q = not_none 4 (ap unknown_refusal (row_beyond n (ltb-false n 33 q)) ∙ e)
 
 -- "5 read only", of a number that has a parameter: SW to MP
-pub read-only-is : (n : ℕ) → 1 ≤ n → n ≤ 32 → readOnlyRefusal (ruleOf n) ≡ (if ltb 25 n then some 5 else none)
-unfolding ruleOf listed
-read-only-is n least most =
-    listed_same (λ (m : ℕ). readOnlyRefusal (ruleOf m)) (λ (m : ℕ). if ltb 25 m then some 5 else none) 1 32 n refl least (omega arith)
+pub read_only_is : (n : ℕ) → 1 ≤ n → n ≤ 32 → read_only_refusal (rule_of n) ≡ (if ltb 25 n then some 5 else none)
+unfolding rule_of listed
+read_only_is n least most =
+    listed_same (λ (m : ℕ). read_only_refusal (rule_of m)) (λ (m : ℕ). if ltb 25 m then some 5 else none) 1 32 n refl least (omega arith)
 
 -- parameters 1 to 23, MD and DS
-pub settable : (n : ℕ) → unknownRefusal (ruleOf n) ≡ none → readOnlyRefusal (ruleOf n) ≡ none → n ≤ 25
-unfolding ruleOf listed
+pub settable : (n : ℕ) → unknown_refusal (rule_of n) ≡ none → read_only_refusal (rule_of n) ≡ none → n ≤ 25
+unfolding rule_of listed
 settable n e d = go (ltb n 26) refl
   where
     go : (t : Bool) → ltb n 26 ≡ t → n ≤ 25
@@ -119,22 +119,22 @@ settable n e d = go (ltb n 26) refl
     go false q =
         let h = ltb-false n 26 q in
         let k = known n e in
-        not_none 5 (ap readOnlyRefusal (row 26 7 n refl h (omega arith)) ∙ d)
+        not_none 5 (ap read_only_refusal (row 26 7 n refl h (omega arith)) ∙ d)
 
 -- ---- the refusals that rows name are 4 and 5
 
-abbrev pub namesOwn : Rule → Bool
-namesOwn (Unknown refusal) = eqb (number_of refusal) 4
-namesOwn (ReadOnly refusal) = eqb (number_of refusal) 5
-namesOwn (Word least most) = true
-namesOwn (Free least most) = true
-namesOwn (Pair least most high low strict) = true
-namesOwn (Between low high) = true
+abbrev pub names_own : Rule → Bool
+names_own (Unknown refusal) = eqb (number_of refusal) 4
+names_own (ReadOnly refusal) = eqb (number_of refusal) 5
+names_own (Word least most) = true
+names_own (Free least most) = true
+names_own (Pair least most high low strict) = true
+names_own (Between low high) = true
 
-pub names-own : (n : ℕ) → namesOwn (ruleOf n) ≡ true
-unfolding ruleOf listed
-names-own n = go (ltb n 33) refl
+pub names_own_lem : (n : ℕ) → names_own (rule_of n) ≡ true
+unfolding rule_of listed
+names_own_lem n = go (ltb n 33) refl
   where
-    go : (t : Bool) → ltb n 33 ≡ t → namesOwn (ruleOf n) ≡ true
-    go true q = listed_same (λ (m : ℕ). namesOwn (ruleOf m)) (λ (m : ℕ). true) 0 33 n refl (omega arith) (omega (arith, ltb-true n 33 q))
-    go false q = ap namesOwn (sym (row-beyond n (ltb-false n 33 q)))
+    go : (t : Bool) → ltb n 33 ≡ t → names_own (rule_of n) ≡ true
+    go true q = listed_same (λ (m : ℕ). names_own (rule_of m)) (λ (m : ℕ). true) 0 33 n refl (omega arith) (omega (arith, ltb-true n 33 q))
+    go false q = ap names_own (sym (row_beyond n (ltb-false n 33 q)))

@@ -7,15 +7,15 @@ use Rattle.parameters.specs.declared.Rule.{Rule}
 use Rattle.parameters.specs.declared.Rule.TheVariants.{Unknown, ReadOnly, Word, Free, Pair, Between}
 
 -- the parameters with these values, by their numbers
-abbrev pub parametersOf : List ℤ → Parameters
-parametersOf values = record { values = values }
+abbrev pub parameters_of : List ℤ → Parameters
+parameters_of values = record { values = values }
 
 -- the value of the parameter with this number
 unfoldable pub value : Parameters → ℕ → ℤ
 value p number = get_or p.values number (pos 0)
 
-unfoldable pub withValue : Parameters → ℕ → ℤ → Parameters
-withValue p number to = record { values = set p.values number to }
+unfoldable pub with_value : Parameters → ℕ → ℤ → Parameters
+with_value p number to = record { values = set p.values number to }
 
 -- ---- the column "Numbers": the 6360's mnemonics, 1H to 3L with the digit behind
 
@@ -90,29 +90,29 @@ IC p = value p 23
 
 -- ---- the column "Range"
 
-abbrev pub isFrom : ℕ → ℕ → ℕ → Bool
-isFrom n first last = leb first n && leb n last
+abbrev pub is_from : ℕ → ℕ → ℕ → Bool
+is_from n first last = leb first n && leb n last
 
 -- "a parameter number from 1 to 32 chooses the range and the rule": the limits, the pair rule with the numbers of the
 -- upper one and of the lower one, and "4 number outside 1..32 (reads too); 5 read only"
-unfoldable pub ruleOf : ℕ → Rule
-ruleOf n =
-    if isFrom n 1 2 then Pair (neg_ℤ (pos 9999)) (pos 9999) 1 2 true else  -- 1H, 1L: -9999..9999, L < H
-    if isFrom n 3 4 then Pair (neg_ℤ (pos 9999)) (pos 9999) 3 4 true else  -- 2H, 2L: -9999..9999, L < H
-    if isFrom n 5 6 then Pair (neg_ℤ (pos 9999)) (pos 9999) 5 6 true else  -- 3H, 3L: -9999..9999, L < H
-    if isFrom n 7 8 then Pair (pos 1) (pos 9999) 7 8 false else  -- HR, LR: 1..9999, LR ≤ HR
-    if isFrom n 9 10 then Pair (neg_ℤ (pos 9999)) (pos 9999) 9 10 false else  -- HS, LS: -9999..9999, L ≤ H
-    if isFrom n 11 12 then Pair (neg_ℤ (pos 9999)) (pos 9999) 11 12 false else  -- HA, LA: -9999..9999, L ≤ H
-    if isFrom n 13 14 then Free (pos 0) (pos 9999) else  -- HD, LD: 0..9999
-    if isFrom n 15 16 then Pair (pos 0) (pos 9999) 15 16 false else  -- HO, LO: 0..9999, LO ≤ HO
-    if isFrom n 17 17 then Free (pos 1) (pos 9999) else  -- XP: 1..9999
-    if isFrom n 18 19 then Free (pos 0) (pos 9999) else  -- TI, TD: 0..9999
-    if isFrom n 20 20 then Between 10 9 else  -- SL: LS..HS
-    if isFrom n 21 21 then Between 8 7 else  -- RS: LR..HR
-    if isFrom n 22 22 then Free (neg_ℤ (pos 9999)) (pos 9999) else  -- RB: -9999..9999
-    if isFrom n 23 23 then Free (pos 0) (pos 1) else  -- IC: 0..1
-    if isFrom n 24 25 then Word (pos 0) (pos 65535) else  -- MD, DS: 0..65535
-    if isFrom n 26 32 then ReadOnly refusal.ReadOnly else  -- SW, II, OP, SP, PV, ER, MP: read only
+unfoldable pub rule_of : ℕ → Rule
+rule_of n =
+    if is_from n 1 2 then Pair (neg_ℤ (pos 9999)) (pos 9999) 1 2 true else  -- 1H, 1L: -9999..9999, L < H
+    if is_from n 3 4 then Pair (neg_ℤ (pos 9999)) (pos 9999) 3 4 true else  -- 2H, 2L: -9999..9999, L < H
+    if is_from n 5 6 then Pair (neg_ℤ (pos 9999)) (pos 9999) 5 6 true else  -- 3H, 3L: -9999..9999, L < H
+    if is_from n 7 8 then Pair (pos 1) (pos 9999) 7 8 false else  -- HR, LR: 1..9999, LR ≤ HR
+    if is_from n 9 10 then Pair (neg_ℤ (pos 9999)) (pos 9999) 9 10 false else  -- HS, LS: -9999..9999, L ≤ H
+    if is_from n 11 12 then Pair (neg_ℤ (pos 9999)) (pos 9999) 11 12 false else  -- HA, LA: -9999..9999, L ≤ H
+    if is_from n 13 14 then Free (pos 0) (pos 9999) else  -- HD, LD: 0..9999
+    if is_from n 15 16 then Pair (pos 0) (pos 9999) 15 16 false else  -- HO, LO: 0..9999, LO ≤ HO
+    if is_from n 17 17 then Free (pos 1) (pos 9999) else  -- XP: 1..9999
+    if is_from n 18 19 then Free (pos 0) (pos 9999) else  -- TI, TD: 0..9999
+    if is_from n 20 20 then Between 10 9 else  -- SL: LS..HS
+    if is_from n 21 21 then Between 8 7 else  -- RS: LR..HR
+    if is_from n 22 22 then Free (neg_ℤ (pos 9999)) (pos 9999) else  -- RB: -9999..9999
+    if is_from n 23 23 then Free (pos 0) (pos 1) else  -- IC: 0..1
+    if is_from n 24 25 then Word (pos 0) (pos 65535) else  -- MD, DS: 0..65535
+    if is_from n 26 32 then ReadOnly refusal.ReadOnly else  -- SW, II, OP, SP, PV, ER, MP: read only
     Unknown refusal.Number
 
 -- ---- the column "Defaults", after the unused entry 0

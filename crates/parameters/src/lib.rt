@@ -1,6 +1,6 @@
 // Parameters 1 to 23, and the numbers of all 32.
 ghost use Rattle.std.specs.Prelude.{◌≡◌};
-ghost use Rattle.parameters.specs.Table.{parametersOf, value, withValue};
+ghost use Rattle.parameters.specs.Table.{parameters_of, value, with_value};
 
 use signals::Refusal;
 
@@ -110,7 +110,7 @@ pub const ROOT: i64 = 1;
 impl Parameters {
     // Parameters with these values, legal or not. The contract rules out that a value is changed.
     pub fn of(values: [i64; VALUE_COUNT]) -> Parameters
-        ensures { result ≡ parametersOf values }
+        ensures { result ≡ parameters_of values }
     {
         Parameters { values }
     }
@@ -125,7 +125,7 @@ impl Parameters {
 
     // The same but for one value. The contract rules out that another one changes.
     pub fn with(mut self, number: u64, to: i64) -> Parameters
-        ensures { result ≡ withValue self number to }
+        ensures { result ≡ with_value self number to }
     {
         if number <= IC {
             self.values[number as usize] = to;

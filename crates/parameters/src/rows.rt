@@ -2,19 +2,19 @@
 ghost use Rattle.std.specs.Prelude.{◌≡◌};
 ghost use Rattle.signals.specs.Refusals.{number_in};
 ghost use Rattle.parameters.specs.Table.{value};
-ghost use Rattle.parameters.specs.Legal.{unknownRefusal, readOnlyRefusal, isWithin, inOrder, ordered, in_range, pairInOrder};
+ghost use Rattle.parameters.specs.Legal.{unknown_refusal, read_only_refusal, is_within, in_order, ordered, in_range, pair_in_order};
 
 use crate::{Parameters, Rule};
 use signals::Verdict;
 
 fn is_within(low: i64, high: i64, v: i64) -> bool
-    ensures { result ≡ isWithin low high v }
+    ensures { result ≡ is_within low high v }
 {
     integers::not_above(low, v) & integers::not_above(v, high)
 }
 
 fn in_order(strict: bool, low: i64, high: i64) -> bool
-    ensures { result ≡ inOrder strict low high }
+    ensures { result ≡ in_order strict low high }
 {
     if strict {
         integers::less(low, high)
@@ -38,7 +38,7 @@ fn ordered(p: Parameters, high: u64, low: u64, strict: bool, number: u64, v: i64
 impl Rule {
     // The refusal of a number that has no parameter. The contract rules out one for any other row.
     pub fn unknown_verdict(self) -> Verdict
-        ensures { number_in result ≡ unknownRefusal self }
+        ensures { number_in result ≡ unknown_refusal self }
     {
         match self {
             Rule::Unknown(refusal) => Verdict::Refused(refusal),
@@ -52,7 +52,7 @@ impl Rule {
 
     // The refusal of a parameter that can't be written. The contract rules out one for any other row.
     pub fn read_only_verdict(self) -> Verdict
-        ensures { number_in result ≡ readOnlyRefusal self }
+        ensures { number_in result ≡ read_only_refusal self }
     {
         match self {
             Rule::Unknown(_) => Verdict::Accepted,
@@ -81,7 +81,7 @@ impl Rule {
     // Whether v and the stored value of the other one that the row names are in order. The contract rules
     // out the wrong sense, another one than that, and equal ends of a channel.
     pub fn pair_in_order(self, p: Parameters, number: u64, v: i64) -> bool
-        ensures { result ≡ pairInOrder self (value p) number v }
+        ensures { result ≡ pair_in_order self (value p) number v }
     {
         match self {
             Rule::Unknown(_) => true,

@@ -1,13 +1,13 @@
 // What an accepted write of one of the parameters 1 to 23 leaves of them.
 ghost use Rattle.std.specs.Prelude.{◌≡◌};
-ghost use Rattle.parameters.specs.Written.{limitedAnew, written};
+ghost use Rattle.parameters.specs.Written.{limited_anew, written};
 
 use crate::Parameters;
 
 impl Parameters {
     // Limits one value anew to the values of two others. The contract rules out limits that are exchanged.
     pub fn limited_anew(self, number: u64, low: u64, high: u64) -> Parameters
-        ensures { result ≡ limitedAnew self number low high }
+        ensures { result ≡ limited_anew self number low high }
     {
         let least = self.get(low);
         let most = self.get(high);

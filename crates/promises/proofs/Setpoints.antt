@@ -9,113 +9,113 @@ use lib.IntN.{ℤ, pos, nat_abs, ◌+ℤ◌, ◌-ℤ◌, ◌*ℤ◌}
 use Rattle.integers.specs.Choice.{if◌then◌else◌, never}
 use Rattle.integers.specs.Limit.{limited}
 use Rattle.integers.specs.Operations.{number}
-use Rattle.integers.specs.Parts.{above, below, to-≡}
-use Rattle.integers.specs.Rounding.{halfUp, halfUp-nearest, halfUp-up, nearestEven}
-use Rattle.integers.specs.RoundingLaws.{nearestEven-off, nearestEven-even}
-use Rattle.integers.specs.Split.{split-self, split-difference, split-times, size-out}
+use Rattle.integers.specs.Parts.{above, below, to_≡}
+use Rattle.integers.specs.Rounding.{half_up, half_up-nearest, half_up-up, nearest_even}
+use Rattle.integers.specs.RoundingLaws.{nearest_even-off, nearest_even-even}
+use Rattle.integers.specs.Split.{split_self, split_difference, split_times, size_out}
 use Rattle.signals.specs.Bits.{bit}
-use Rattle.signals.specs.Signals.{buttonsOf, adjustmentOf}
+use Rattle.signals.specs.Signals.{buttons_of, adjustment_of}
 use Rattle.signals.specs.declared.Adjustment.TheVariants.{Raise, Lower, Neither}
 use Rattle.signals.specs.declared.Input.{Input}
-use Rattle.modes.specs.Modes.{isAutomatic, isRemote, isRatio, isTrack}
+use Rattle.modes.specs.Modes.{is_automatic, is_remote, is_ratio, is_track}
 use Rattle.modes.specs.declared.Mode.{Mode}
 use Rattle.modes.specs.declared.Mode.TheVariants.{Hold, Track, Forced, Manual, Auto, Remote, Ratio, Fallback}
 use Rattle.scaling.specs.Root as roots
-use Rattle.scaling.specs.Root.{rootOf}
+use Rattle.scaling.specs.Root.{root_of}
 use Rattle.scaling.specs.Scale.{scaled}
 use Rattle.local_setpoint.specs.LocalSetpoint as rules
-use Rattle.local_setpoint.specs.LocalSetpoint.{movedByHand}
-use Rattle.guarantee.specs.Modes.{automaticMode, trackMode}
+use Rattle.local_setpoint.specs.LocalSetpoint.{moved_by_hand}
+use Rattle.guarantee.specs.Modes.{automatic_mode, track_mode}
 use Rattle.promises.specs.Scans.{NearestUp, Scaled, OneScaling, RootOf, NearestEven, OneQuotient, moved}
-use Rattle.promises.specs.Words.{remoteOrRatio, ratioMode}
+use Rattle.promises.specs.Words.{remote_or_ratio, ratio_mode}
 
 -- ---- quotients
 
-pub nearest-up : (n d : ℕ) → 0 < d → NearestUp n d (halfUp n d)
-nearest-up n d h = record { not-above = (halfUp-nearest n d h).not-above; below_next = halfUp-up n d h }
+pub nearest_up : (n d : ℕ) → 0 < d → NearestUp n d (half_up n d)
+nearest_up n d h = record { not_above = (half_up-nearest n d h).not_above; below_next = half_up-up n d h }
 
-pub scaled-is : (low high : ℤ) (sample : ℕ) → Scaled low high sample (scaled low high sample)
+pub scaled_is : (low high : ℤ) (sample : ℕ) → Scaled low high sample (scaled low high sample)
 unfolding scaled
-scaled-is low high sample =
-    record { quotient = halfUp (sample * nat_abs (high -ℤ low)) 10000; nearest = nearest-up _ 10000 (omega arith); above = refl }
+scaled_is low high sample =
+    record { quotient = half_up (sample * nat_abs (high -ℤ low)) 10000; nearest = nearest_up _ 10000 (omega arith); above = refl }
 
 -- two that are nearest, halves up, lie less than one apart
-pub one-scaling : OneScaling
-one-scaling low high sample x y a b =
+pub one_scaling : OneScaling
+one_scaling low high sample x y a b =
     let same : a.quotient ≡ b.quotient =
-    omega (arith, a.nearest.not-above, a.nearest.below_next, b.nearest.not-above, b.nearest.below_next) in
+    omega (arith, a.nearest.not_above, a.nearest.below_next, b.nearest.not_above, b.nearest.below_next) in
     a.above ∙ ap (λ (k : ℕ). low +ℤ pos k) same ∙ sym b.above
 
-pub root-found : (s : ℕ) → s ≤ 10000 → RootOf s (rootOf s)
-root-found s h =
+pub root_found : (s : ℕ) → s ≤ 10000 → RootOf s (root_of s)
+root_found s h =
     let g = roots.root_is s h in
-    let r = rootOf s in
+    let r = root_of s in
     record {
       fits = g.fits;
       greatest = by_contra (suc (10000 * s)) ((r + 1) * (r + 1)) (λ k. absurd (omega (arith, g.greatest (r + 1) (omega arith))));
     }
 
-pub nearest-even : (z : ℤ) (d : ℕ) → 0 < d → NearestEven z d (nearestEven z d)
-nearest-even z d h = record { near = nearestEven-off z d h; even = nearestEven-even z d h }
+pub nearest_even_lem : (z : ℤ) (d : ℕ) → 0 < d → NearestEven z d (nearest_even z d)
+nearest_even_lem z d h = record { near = nearest_even-off z d h; even = nearest_even-even z d h }
 
 -- two that are nearest lie at most one apart, and then both are off by one half, so that both would be even
 module _ (z : ℤ) (d : ℕ) (a b : ℤ) (positive : 0 < d) (h : NearestEven z d a) (k : NearestEven z d b) where
   off : (x : ℤ) → (above x * d + below z ≤ below x * d + above z + nat_abs (x *ℤ pos d -ℤ z)) ×
       (below x * d + above z ≤ above x * d + below z + nat_abs (x *ℤ pos d -ℤ z))
-  off x = size-out (x *ℤ pos d -ℤ z) (split-difference (x *ℤ pos d) z (split-times x d (split-self x)) (split-self z))
+  off x = size_out (x *ℤ pos d -ℤ z) (split_difference (x *ℤ pos d) z (split_times x d (split_self x)) (split_self z))
 
   next : above a + below b < above b + below a → above b + below a ≤ suc (above a + below b)
   next l =
       by_contra (above b + below a) (suc (above a + below b))
       (λ far. absurd (omega (arith, h.near, k.near, off a, off b, mul-le-mul_right d far)))
 
-  not-less : above a + below b < above b + below a → ⊥
-  not-less l =
-      let both-half : (2 * nat_abs (a *ℤ pos d -ℤ z) ≡ d) × (2 * nat_abs (b *ℤ pos d -ℤ z) ≡ d) =
+  not_less : above a + below b < above b + below a → ⊥
+  not_less l =
+      let both_half : (2 * nat_abs (a *ℤ pos d -ℤ z) ≡ d) × (2 * nat_abs (b *ℤ pos d -ℤ z) ≡ d) =
       omega (arith, h.near, k.near, off a, off b, mul-le-mul_right d l) in
-      absurd (omega (arith, next l, h.even both-half.0, k.even both-half.1, number a, number b))
+      absurd (omega (arith, next l, h.even both_half.0, k.even both_half.1, number a, number b))
 
-pub one-quotient : OneQuotient
-one-quotient z d a b positive h k =
-    to-≡ (le_antisymm (by_contra _ _ (not-less z d b a positive k h)) (by_contra _ _ (not-less z d a b positive h k)))
+pub one_quotient : OneQuotient
+one_quotient z d a b positive h k =
+    to_≡ (le_antisymm (by_contra _ _ (not_less z d b a positive k h)) (by_contra _ _ (not_less z d a b positive h k)))
 
 -- ---- steps 4 and 5, of the mode m
 
-pub ratio-is : (m : Mode) → isRatio m ≡ ratioMode (some m)
-ratio-is Hold = refl
-ratio-is Track = refl
-ratio-is Forced = refl
-ratio-is Manual = refl
-ratio-is Auto = refl
-ratio-is Remote = refl
-ratio-is Ratio = refl
-ratio-is Fallback = refl
+pub ratio_is : (m : Mode) → is_ratio m ≡ ratio_mode (some m)
+ratio_is Hold = refl
+ratio_is Track = refl
+ratio_is Forced = refl
+ratio_is Manual = refl
+ratio_is Auto = refl
+ratio_is Remote = refl
+ratio_is Ratio = refl
+ratio_is Fallback = refl
 
-by-choice : (sp raise lower : Bool) (step low high v : ℤ) →
+by_choice : (sp raise lower : Bool) (step low high v : ℤ) →
     (if sp && (raise && not lower) then limited low high (v +ℤ step) else
     if sp && (lower && not raise) then limited low high (v -ℤ step) else v)
     ≡ (if sp && true
     then rules.moved (if raise then (if lower then Neither else Raise) else if lower then Lower else Neither) step low high v
     else v)
-by-choice false raise lower step low high v = refl
-by-choice true true true step low high v = refl
-by-choice true true false step low high v = refl
-by-choice true false true step low high v = refl
-by-choice true false false step low high v = refl
+by_choice false raise lower step low high v = refl
+by_choice true true true step low high v = refl
+by_choice true true false step low high v = refl
+by_choice true false true step low high v = refl
+by_choice true false false step low high v = refl
 
-never-moved : (sp : Bool) (x v : ℤ) → (if sp && false then x else v) ≡ v
-never-moved true x v = refl
-never-moved false x v = refl
+never_moved : (sp : Bool) (x v : ℤ) → (if sp && false then x else v) ≡ v
+never_moved true x v = refl
+never_moved false x v = refl
 
 -- what hands do to a value, in the modes where it is that value that they move
-pub by_hand : (i : Input) (here : Bool) (step low high v : ℤ) →
-    movedByHand i here step low high v ≡ (if here then moved i.buttons step low high v else v)
-unfolding movedByHand buttonsOf adjustmentOf
-by_hand i true step low high v = sym (by-choice (bit i.buttons 3) (bit i.buttons 6) (bit i.buttons 7) step low high v)
-by_hand i false step low high v = never-moved (bit i.buttons 3) _ v
+pub by_hand_lem : (i : Input) (here : Bool) (step low high v : ℤ) →
+    moved_by_hand i here step low high v ≡ (if here then moved i.buttons step low high v else v)
+unfolding moved_by_hand buttons_of adjustment_of
+by_hand_lem i true step low high v = sym (by_choice (bit i.buttons 3) (bit i.buttons 6) (bit i.buttons 7) step low high v)
+by_hand_lem i false step low high v = never_moved (bit i.buttons 3) _ v
 
 -- outside Remote and Ratio
-neither : (m : Mode) → remoteOrRatio (some m) ≡ false → (isRemote m ≡ false) × (isRatio m ≡ false)
+neither : (m : Mode) → remote_or_ratio (some m) ≡ false → (is_remote m ≡ false) × (is_ratio m ≡ false)
 neither Hold e = (refl, refl)
 neither Track e = (refl, refl)
 neither Forced e = (refl, refl)
@@ -125,9 +125,9 @@ neither Remote e = never (sym e)
 neither Ratio e = never (sym e)
 neither Fallback e = (refl, refl)
 
-module _ (m : Mode) (outside : remoteOrRatio (some m) ≡ false) where
-  pub local-one : (remote ratio local : ℤ) → (if isRemote m then remote else if isRatio m then ratio else local) ≡ local
-  local-one remote ratio local = go (isRemote m) (isRatio m) (neither m outside).0 (neither m outside).1
+module _ (m : Mode) (outside : remote_or_ratio (some m) ≡ false) where
+  pub local_one : (remote ratio local : ℤ) → (if is_remote m then remote else if is_ratio m then ratio else local) ≡ local
+  local_one remote ratio local = go (is_remote m) (is_ratio m) (neither m outside).0 (neither m outside).1
     where
       go : (a b : Bool) → a ≡ false → b ≡ false → (if a then remote else if b then ratio else local) ≡ local
       go true b e d = never (sym e)
@@ -135,38 +135,38 @@ module _ (m : Mode) (outside : remoteOrRatio (some m) ≡ false) where
       go false false e d = refl
 
 -- SL after step 4, outside Remote and Ratio; `pushed` is SL moved by hand where hands move it
-pub setpoint-in : (m : Mode) → remoteOrRatio (some m) ≡ false → (follows isopen : Bool) (sl near pushed : ℤ) (hand : Bool → ℤ) →
+pub setpoint_in_lem : (m : Mode) → remote_or_ratio (some m) ≡ false → (follows isopen : Bool) (sl near pushed : ℤ) (hand : Bool → ℤ) →
     hand true ≡ pushed →
-    (if follows && not (isAutomatic m) then (if isopen then sl else near) else hand (not (isRatio m) && not (isRemote m)))
-    ≡ (if not (automaticMode (some m)) && follows then (if isopen then sl else near) else pushed)
-setpoint-in Hold o true isopen sl near pushed hand e = refl
-setpoint-in Hold o false isopen sl near pushed hand e = e
-setpoint-in Track o true isopen sl near pushed hand e = refl
-setpoint-in Track o false isopen sl near pushed hand e = e
-setpoint-in Forced o true isopen sl near pushed hand e = refl
-setpoint-in Forced o false isopen sl near pushed hand e = e
-setpoint-in Manual o true isopen sl near pushed hand e = refl
-setpoint-in Manual o false isopen sl near pushed hand e = e
-setpoint-in Auto o true isopen sl near pushed hand e = e
-setpoint-in Auto o false isopen sl near pushed hand e = e
-setpoint-in Remote o follows isopen sl near pushed hand e = never (sym o)
-setpoint-in Ratio o follows isopen sl near pushed hand e = never (sym o)
-setpoint-in Fallback o true isopen sl near pushed hand e = e
-setpoint-in Fallback o false isopen sl near pushed hand e = e
+    (if follows && not (is_automatic m) then (if isopen then sl else near) else hand (not (is_ratio m) && not (is_remote m)))
+    ≡ (if not (automatic_mode (some m)) && follows then (if isopen then sl else near) else pushed)
+setpoint_in_lem Hold o true isopen sl near pushed hand e = refl
+setpoint_in_lem Hold o false isopen sl near pushed hand e = e
+setpoint_in_lem Track o true isopen sl near pushed hand e = refl
+setpoint_in_lem Track o false isopen sl near pushed hand e = e
+setpoint_in_lem Forced o true isopen sl near pushed hand e = refl
+setpoint_in_lem Forced o false isopen sl near pushed hand e = e
+setpoint_in_lem Manual o true isopen sl near pushed hand e = refl
+setpoint_in_lem Manual o false isopen sl near pushed hand e = e
+setpoint_in_lem Auto o true isopen sl near pushed hand e = e
+setpoint_in_lem Auto o false isopen sl near pushed hand e = e
+setpoint_in_lem Remote o follows isopen sl near pushed hand e = never (sym o)
+setpoint_in_lem Ratio o follows isopen sl near pushed hand e = never (sym o)
+setpoint_in_lem Fallback o true isopen sl near pushed hand e = e
+setpoint_in_lem Fallback o false isopen sl near pushed hand e = e
 
-pub track-is : (m : Mode) → isTrack m ≡ trackMode (some m)
-track-is Hold = refl
-track-is Track = refl
-track-is Forced = refl
-track-is Manual = refl
-track-is Auto = refl
-track-is Remote = refl
-track-is Ratio = refl
-track-is Fallback = refl
+pub track_is : (m : Mode) → is_track m ≡ track_mode (some m)
+track_is Hold = refl
+track_is Track = refl
+track_is Forced = refl
+track_is Manual = refl
+track_is Auto = refl
+track_is Remote = refl
+track_is Ratio = refl
+track_is Fallback = refl
 
 -- the mode in an option
-pub same-mode : (m n : Mode) → some m ≡ some n → m ≡ n
-same-mode m n e = ap (λ (o : Option Mode). inside o m) e
+pub same_mode : (m n : Mode) → some m ≡ some n → m ≡ n
+same_mode m n e = ap (λ (o : Option Mode). inside o m) e
   where
     inside : Option Mode → Mode → Mode
     inside Option.none other = other

@@ -7,22 +7,22 @@ use lib.Dec.{ltb}
 use borrow.Author.Tests.{ne_eqb, lt-ltb, ltb-true, ltb-false}
 use Rattle.integers.specs.Listed.{listed, listed_same}
 use Rattle.signals.specs.declared.Refusal.TheVariants as refusal
-use Rattle.parameters.specs.RuleLaws.{row-beyond}
-use Rattle.parameters.specs.Table.{ruleOf}
+use Rattle.parameters.specs.RuleLaws.{row_beyond}
+use Rattle.parameters.specs.Table.{rule_of}
 use Rattle.parameters.specs.declared.Rule.TheVariants.{Unknown}
-use Rattle.promises.specs.Table.{least, most, rowFor, TableOfRules}
+use Rattle.promises.specs.Table.{least, most, row_for, TableOfRules}
 
-beyond : (n : ℕ) → 33 ≤ n → Unknown refusal.Number ≡ rowFor n
-unfolding rowFor
+beyond : (n : ℕ) → 33 ≤ n → Unknown refusal.Number ≡ row_for n
+unfolding row_for
 beyond n h = rw (ne_eqb n 0 (λ e. omega arith), lt-ltb 32 n (omega arith)) refl
 
-row_is : (n : ℕ) → ruleOf n ≡ rowFor n
-unfolding ruleOf rowFor listed least most
+row_is : (n : ℕ) → rule_of n ≡ row_for n
+unfolding rule_of row_for listed least most
 row_is n = go (ltb n 33) refl
   where
-    go : (t : Bool) → ltb n 33 ≡ t → ruleOf n ≡ rowFor n
-    go true e = listed_same ruleOf rowFor 0 33 n refl (omega arith) (omega (arith, ltb-true n 33 e))
-    go false e = let h = ltb-false n 33 e in sym (row-beyond n h) ∙ beyond n h
+    go : (t : Bool) → ltb n 33 ≡ t → rule_of n ≡ row_for n
+    go true e = listed_same rule_of row_for 0 33 n refl (omega arith) (omega (arith, ltb-true n 33 e))
+    go false e = let h = ltb-false n 33 e in sym (row_beyond n h) ∙ beyond n h
 
-pub table-of-rules : TableOfRules
-table-of-rules n r e = e ∙ row_is n
+pub table_of_rules : TableOfRules
+table_of_rules n r e = e ∙ row_is n

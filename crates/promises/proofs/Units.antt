@@ -6,17 +6,17 @@ use native.Mathlib.Omega.{arith}
 use lib.IntN.{ℤ, pos, ◌*ℤ◌}
 use lib.Signed.{◌≤ℤ◌, lt_z}
 use Rattle.integers.specs.Choice.{if◌then◌else◌}
-use Rattle.integers.specs.Limit.{limited, at_least, at_most, limited-same}
+use Rattle.integers.specs.Limit.{limited, at_least, at_most, limited_same}
 use Rattle.integers.specs.Operations.{product}
 use Rattle.integers.specs.Parts.{integers}
 use Rattle.parameters.specs.Legal.{Legal}
 use Rattle.parameters.specs.LegalLaws.{ranges}
 use Rattle.parameters.specs.Table.{LO, HO}
 use Rattle.parameters.specs.declared.Parameters.{Parameters}
-use Rattle.terms.specs.Fraction.{storedUnits, limitedStored}
+use Rattle.terms.specs.Fraction.{stored_units, limited_stored}
 
-scaled-less : (a b : ℤ) → lt_z (a *ℤ pos 65536) (b *ℤ pos 65536) ≡ lt_z a b
-scaled-less a b = go (lt_z a b) refl
+scaled_less : (a b : ℤ) → lt_z (a *ℤ pos 65536) (b *ℤ pos 65536) ≡ lt_z a b
+scaled_less a b = go (lt_z a b) refl
   where
     go : (t : Bool) → lt_z a b ≡ t → lt_z (a *ℤ pos 65536) (b *ℤ pos 65536) ≡ lt_z a b
     go true e = rw e (omega (arith, integers, e, product a (pos 65536), product b (pos 65536)))
@@ -26,23 +26,23 @@ pulled : (t : Bool) (a b : ℤ) → (if t then a *ℤ pos 65536 else b *ℤ pos 
 pulled true a b = refl
 pulled false a b = refl
 
-units-limited : (low high x : ℤ) → limitedStored low high (storedUnits x) ≡ limited low high x *ℤ pos 65536
-unfolding limitedStored storedUnits limited at_least at_most
-units-limited low high x =
+units_limited : (low high x : ℤ) → limited_stored low high (stored_units x) ≡ limited low high x *ℤ pos 65536
+unfolding limited_stored stored_units limited at_least at_most
+units_limited low high x =
     let z = if lt_z x low then low else x in
-    rw (scaled-less x low, pulled (lt_z x low) low x, scaled-less high z, pulled (lt_z high z) high z) refl
+    rw (scaled_less x low, pulled (lt_z x low) low x, scaled_less high z, pulled (lt_z high z) high z) refl
 
 -- minimum lies within the limits, and OP is limited
-pub to-output : (p : Parameters) → Legal p → (on inverted : Bool) (op : ℕ) →
-    limitedStored (LO p) (HO p) (storedUnits (if on then (if inverted then HO p else LO p) else pos op))
+pub to_output : (p : Parameters) → Legal p → (on inverted : Bool) (op : ℕ) →
+    limited_stored (LO p) (HO p) (stored_units (if on then (if inverted then HO p else LO p) else pos op))
     ≡ (if on then (if inverted then HO p else LO p) else limited (LO p) (HO p) (pos op)) *ℤ pos 65536
-to-output p legal on inverted op = let order = (ranges p legal).outputs.order in go on inverted order
+to_output p legal on inverted op = let order = (ranges p legal).outputs.order in go on inverted order
   where
     go : (a b : Bool) → LO p ≤ℤ HO p →
-        limitedStored (LO p) (HO p) (storedUnits (if a then (if b then HO p else LO p) else pos op))
+        limited_stored (LO p) (HO p) (stored_units (if a then (if b then HO p else LO p) else pos op))
         ≡ (if a then (if b then HO p else LO p) else limited (LO p) (HO p) (pos op)) *ℤ pos 65536
     go true true h =
-        units-limited (LO p) (HO p) (HO p) ∙ ap (λ (z : ℤ). z *ℤ pos 65536) (limited-same (LO p) (HO p) (HO p) h (omega (arith, integers)))
+        units_limited (LO p) (HO p) (HO p) ∙ ap (λ (z : ℤ). z *ℤ pos 65536) (limited_same (LO p) (HO p) (HO p) h (omega (arith, integers)))
     go true false h =
-        units-limited (LO p) (HO p) (LO p) ∙ ap (λ (z : ℤ). z *ℤ pos 65536) (limited-same (LO p) (HO p) (LO p) (omega (arith, integers)) h)
-    go false b h = units-limited (LO p) (HO p) (pos op)
+        units_limited (LO p) (HO p) (LO p) ∙ ap (λ (z : ℤ). z *ℤ pos 65536) (limited_same (LO p) (HO p) (LO p) (omega (arith, integers)) h)
+    go false b h = units_limited (LO p) (HO p) (pos op)

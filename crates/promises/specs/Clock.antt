@@ -9,7 +9,7 @@ use Rattle.controller.specs.Valid.{Valid}
 use Rattle.controller.specs.declared.Answer.TheVariants.{Accepted}
 use Rattle.controller.specs.declared.Controller.{Controller}
 use Rattle.controller.specs.declared.ScanResult.{ScanResult}
-use Rattle.guarantee.specs.Clock.{afterGap}
+use Rattle.guarantee.specs.Clock.{after_gap}
 use Rattle.guarantee.specs.Linked.{ScanEnsures}
 
 -- the same controller, but that it remembers these earlier PVs and SP, and no reading
@@ -34,14 +34,14 @@ remembering h d =
 abbrev pub GapForgets : Type 0
 GapForgets =
     (d : Controller) (i : Input) (r : ScanResult) (v : ScanValues) → ScanEnsures d i r → r.answer ≡ Accepted v →
-    afterGap d.core.clock i.milliseconds ≡ true → ScanEnsures (remembering Nothing d) i r
+    after_gap d.core.clock i.milliseconds ≡ true → ScanEnsures (remembering Nothing d) i r
 
 -- "From 30 to 42 ms is an ordinary scan.": what an accepted scan after no gap returns is what the contract gives for
 -- the same controller with its earlier PVs and SP and no reading
 abbrev pub OrdinaryRemembers : Type 0
 OrdinaryRemembers =
     (d : Controller) (i : Input) (r : ScanResult) (v : ScanValues) → ScanEnsures d i r → r.answer ≡ Accepted v →
-    afterGap d.core.clock i.milliseconds ≡ false → ScanEnsures (remembering d.core.history d) i r
+    after_gap d.core.clock i.milliseconds ≡ false → ScanEnsures (remembering d.core.history d) i r
 
 -- both are controllers that a scan can be made of
 abbrev pub StaysValid : Type 0

@@ -25,7 +25,7 @@ pub record ScannedIn (mode : Mode) (d : Controller) (i : Input) (r : ScanResult)
   pub made : ScanEnsures d i r
   pub values : ScanValues
   pub accepted : r.answer ≡ Accepted values
-  pub in-mode : values.mode ≡ mode
+  pub in_mode_lem : values.mode ≡ mode
 
 -- what the sentence asks of the two scans; whatever else the inputs bring, the sensors, the other buttons, the other
 -- channels and the clock among it, is free
@@ -33,14 +33,14 @@ pub record FallsBack (d : Controller) (i j : Input) (r q : ScanResult) (trim : �
   -- "a Fall-back scan straight after a Remote one", "no call comes between": the second scan is made of the controller
   -- that the first has returned
   pub remote : ScannedIn Remote d i r
-  pub fall-back : ScannedIn Fallback r.controller j q
+  pub fall_back : ScannedIn Fallback r.controller j q
   -- "SP less trim lies within the limits": LS is parameter 10, HS 9
   pub channel3 : ℤ
-  pub trim-of : Trim d.core r.controller.core i channel3 trim
-  pub not-below : value d.core.parameters 10 ≤ℤ (r.controller.core.readings.sp -ℤ trim)
-  pub not-above : (r.controller.core.readings.sp -ℤ trim) ≤ℤ value d.core.parameters 9
+  pub trim_of_lem : Trim d.core r.controller.core i channel3 trim
+  pub not_below : value d.core.parameters 10 ≤ℤ (r.controller.core.readings.sp -ℤ trim)
+  pub not_above : (r.controller.core.readings.sp -ℤ trim) ≤ℤ value d.core.parameters 9
   -- "channel 3 is the same": scaled to the same, as the same sample is
-  pub same-channel3 : Scaled (value d.core.parameters 6) (value d.core.parameters 5) j.sample3 channel3
+  pub same_channel3 : Scaled (value d.core.parameters 6) (value d.core.parameters 5) j.sample3 channel3
   -- "neither Raise nor Lower is pressed": button bits 6 and 7
   pub no_raise : bit j.buttons 6 ≡ false
   pub no_lower : bit j.buttons 7 ≡ false
@@ -50,9 +50,9 @@ pub record FallsBack (d : Controller) (i j : Input) (r q : ScanResult) (trim : �
 pub record SameSetpoint (word : ℕ) (calls : Calls) (i j : Input) (r q : ScanResult) : Type 0 where
   pub same : q.controller.core.readings.sp ≡ r.controller.core.readings.sp
   pub read_first : (a : ReadAnswer) → ReadEnsures r.controller 29 a → a ≡ Value r.controller.core.readings.sp
-  pub read-second : (a : ReadAnswer) → ReadEnsures q.controller 29 a → a ≡ Value r.controller.core.readings.sp
-  pub exact-first : (exact word (calls then scan i)).core.readings.sp ≡ r.controller.core.readings.sp
-  pub exact-second : (exact word (calls then scan i then scan j)).core.readings.sp ≡ r.controller.core.readings.sp
+  pub read_second : (a : ReadAnswer) → ReadEnsures q.controller 29 a → a ≡ Value r.controller.core.readings.sp
+  pub exact_first : (exact word (calls then scan i)).core.readings.sp ≡ r.controller.core.readings.sp
+  pub exact_second : (exact word (calls then scan i then scan j)).core.readings.sp ≡ r.controller.core.readings.sp
 
 -- of every controller that calls lead to
 abbrev pub SetpointStays : Type 0
@@ -70,5 +70,5 @@ pub record FallBackExample (trim sp : ℤ) : Type 0 where
   pub j : Input
   pub r : ScanResult
   pub q : ScanResult
-  pub falls-back : FallsBack d i j r q trim
+  pub falls_back : FallsBack d i j r q trim
   pub setpoint : r.controller.core.readings.sp ≡ sp

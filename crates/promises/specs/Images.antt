@@ -13,11 +13,11 @@ use Rattle.parameters.specs.Table.{value}
 use Rattle.controller.specs.Answers.{Response}
 use Rattle.controller.specs.declared.CallResult.{CallResult}
 use Rattle.controller.specs.declared.Controller.{Controller}
-use Rattle.guarantee.specs.Bytes.{word_at, sumRight}
+use Rattle.guarantee.specs.Bytes.{word_at, sum_right}
 use Rattle.guarantee.specs.Claim.{OwnOutput}
 use Rattle.guarantee.specs.Exact.{Calls}
 use Rattle.guarantee.specs.Linked.{SaveEnsures, RestartEnsures, Slice, Lifetime, Linked}
-use Rattle.promises.specs.Restarts.{Accepts, headersRight, sound, RestartState}
+use Rattle.promises.specs.Restarts.{Accepts, headers_right, sound, RestartState}
 
 -- ---- the bytes of a saved image
 
@@ -26,25 +26,25 @@ abbrev pub word_for : ℤ → ℕ
 word_for v = if lt_z v (pos 0) then 65536 - nat_abs v else nat_abs v
 
 -- "0 M, 1 A, 2 R"
-abbrev pub codeFor : Request → ℕ
-codeFor Manual = 0
-codeFor Auto = 1
-codeFor Remote = 2
+abbrev pub code_for : Request → ℕ
+code_for Manual = 0
+code_for Auto = 1
+code_for Remote = 2
 
 -- parameter 1 at byte 3, and every five bytes the next; OP, which is our own, at 118; request, fault
 -- and 44h at 123, 127 and 131: "bits 0, 1 user bits 1, 2, bit 2 MD bit 4"
 pub record SavedBytes (c : Controller) (image : List ℕ) : Type 0 where
   pub size : length image ≡ 137
-  pub headers : headersRight image ≡ true
+  pub headers : headers_right image ≡ true
   pub parameters : (n : ℕ) → n < 23 → word_at image (5 * n + 3) ≡ word_for (value c.core.parameters (n + 1))
   pub electrical : ℕ
   pub own : OwnOutput c (word_at image 118) electrical
-  pub request : get_or image 123 0 ≡ codeFor c.core.conditions.request
+  pub request : get_or image 123 0 ≡ code_for c.core.conditions.request
   pub fault : get_or image 127 0 ≡ (if c.core.conditions.fault then 1 else 0)
   pub userbits : get_or image 131 0
       ≡ (if c.core.userbits.user1 then 1 else 0) + (if c.core.userbits.user2 then 2 else 0)
       + (if c.core.userbits.measuredpower then 4 else 0)
-  pub sum : sumRight image ≡ true
+  pub sum : sum_right image ≡ true
 
 -- "bytes past the 137 stay"
 abbrev pub SaveEncodes : Type 0

@@ -4,19 +4,19 @@
 -- `without-right` of demand 3 (guarantee).
 use Rattle.std.specs.Prelude.{◌≡◌, Bool, ℕ, ◌≤◌, ℤ}
 use Rattle.std.proofs.Math.Option.{none}
-use Rattle.signals.specs.Refusals.{refusedBy}
+use Rattle.signals.specs.Refusals.{refused_by}
 use Rattle.signals.specs.declared.Verdict.{Verdict}
 use Rattle.rights.specs.declared.Writer.{Writer}
 use Rattle.rights.specs.declared.Writer.TheVariants.{Engineer}
 use Rattle.rights.proofs.Writer.may_write.Reads as may-write-reads
-use Rattle.controller.specs.Answers.{Response, number, acceptance, replyOfVerdict, responseOfVerdict}
-use Rattle.controller.specs.Scan.{refusedOr, responseFrom}
-use Rattle.controller.specs.Write.{commonTests, writeAccepted}
+use Rattle.controller.specs.Answers.{Response, number, acceptance, reply_of_verdict, response_of_verdict}
+use Rattle.controller.specs.Scan.{refused_or, response_from}
+use Rattle.controller.specs.Write.{common_tests, write_accepted}
 use Rattle.controller.specs.declared.CallResult.{CallResult}
 use Rattle.controller.specs.declared.Controller.{Controller}
 use Rattle.guarantee.specs.Linked.{WriteEnsures, AccessEnsures}
-use Rattle.guarantee.specs.Rights.{is_of, accessOr}
-use Rattle.promises.specs.Refusals.{refusalIn}
+use Rattle.guarantee.specs.Rights.{is_of, access_or}
+use Rattle.promises.specs.Refusals.{refusal_in}
 
 -- ---- what a host is told before it offers a field for editing
 
@@ -29,13 +29,13 @@ TableOfRights = (w : Writer) (n : ℕ) (r : Bool) → MayWriteEnsures w n r → 
 
 pub record Foretold (d : Controller) (w : Writer) (n : ℕ) (told : Verdict) : Type 0 where
   -- 4, 19, 20 or 5, in this order
-  pub refusal : refusalIn (replyOfVerdict told) ≡ accessOr d.core.conditions.pins w n none
+  pub refusal : refusal_in (reply_of_verdict told) ≡ access_or d.core.conditions.pins w n none
   -- a refusal is the one that a write of any value gets
-  pub refused : (k : ℕ) → replyOfVerdict told ≡ number k → (v : ℤ) (r : CallResult) → WriteEnsures d w n v r →
-      replyOfVerdict r.verdict ≡ number k
+  pub refused : (k : ℕ) → reply_of_verdict told ≡ number k → (v : ℤ) (r : CallResult) → WriteEnsures d w n v r →
+      reply_of_verdict r.verdict ≡ number k
   -- otherwise a write is refused with 6 to 11, if at all
-  pub free : replyOfVerdict told ≡ acceptance → (v : ℤ) (r : CallResult) (k : ℕ) → WriteEnsures d w n v r →
-      replyOfVerdict r.verdict ≡ number k → (6 ≤ k) × (k ≤ 11)
+  pub free : reply_of_verdict told ≡ acceptance → (v : ℤ) (r : CallResult) (k : ℕ) → WriteEnsures d w n v r →
+      reply_of_verdict r.verdict ≡ number k → (6 ≤ k) × (k ≤ 11)
 
 -- of any controller, reached by calls or not; there is such an answer (`access-exists`). A write of a valid one has a
 -- result (`write-exists`)
@@ -45,9 +45,9 @@ AccessForetells = (d : Controller) (w : Writer) (n : ℕ) (told : Verdict) → A
 -- ---- the engineer
 
 -- the write of before this request, which named no writer: by document 01's tests alone
-unfoldable pub formerWrite : Controller → ℕ → ℤ → Response
-formerWrite d n v = responseFrom d (refusedOr (refusedBy (commonTests d.core n v)) d.core (writeAccepted d.core n v))
+unfoldable pub former_write : Controller → ℕ → ℤ → Response
+former_write d n v = response_from d (refused_or (refused_by (common_tests d.core n v)) d.core (write_accepted d.core n v))
 
 abbrev pub EngineerWrites : Type 0
 EngineerWrites =
-    (d : Controller) (n : ℕ) (v : ℤ) (r : CallResult) → WriteEnsures d Engineer n v r → responseOfVerdict r ≡ formerWrite d n v
+    (d : Controller) (n : ℕ) (v : ℤ) (r : CallResult) → WriteEnsures d Engineer n v r → response_of_verdict r ≡ former_write d n v

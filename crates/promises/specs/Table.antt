@@ -35,8 +35,8 @@ most values n =
 
 -- "L < H" of the channel ranges, "LR ≤ HR", "L ≤ H" of the setpoint limits and absolute alarms, "LO ≤ HO": whether
 -- the pair that the number n belongs to, if to any, is in order among these values
-unfoldable pub inOrder : (ℕ → ℤ) → ℕ → Bool
-inOrder values n =
+unfoldable pub in_order : (ℕ → ℤ) → ℕ → Bool
+in_order values n =
     if among n (1 ∷ 2 ∷ []) then lt_z (values 2) (values 1) else
     if among n (3 ∷ 4 ∷ []) then lt_z (values 4) (values 3) else
     if among n (5 ∷ 6 ∷ []) then lt_z (values 6) (values 5) else
@@ -65,8 +65,8 @@ upper n = if eqb (n % 2) 1 then n else n - 1
 
 -- "4 number outside 1..32", "5 read only"; MD and DS; SL between LS and HS, RS between LR and HR; the pairs, of which
 -- those of the channel ranges are strictly in order; all others by their range alone
-unfoldable pub rowFor : ℕ → Rule
-rowFor n =
+unfoldable pub row_for : ℕ → Rule
+row_for n =
     let low = least (λ k. pos 0) n in
     let high = most (λ k. pos 0) n in
     if eqb n 0 || ltb 32 n then Unknown refusal.Number else
@@ -80,4 +80,4 @@ abbrev pub RuleEnsures : ℕ → Rule → Type 0
 RuleEnsures n r = rule-reads.Post tt (n, tt) r (n, tt)
 
 abbrev pub TableOfRules : Type 0
-TableOfRules = (n : ℕ) (r : Rule) → RuleEnsures n r → r ≡ rowFor n
+TableOfRules = (n : ℕ) (r : Rule) → RuleEnsures n r → r ≡ row_for n

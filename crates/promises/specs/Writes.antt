@@ -13,8 +13,8 @@ use Rattle.controller.specs.declared.CallResult.{CallResult}
 use Rattle.controller.specs.declared.Controller.{Controller}
 use Rattle.controller.specs.declared.Core.{Core}
 use Rattle.guarantee.specs.Linked.{WriteEnsures}
-use Rattle.guarantee.specs.Modes.{modeIn, automaticMode, manualOrForced}
-use Rattle.promises.specs.RefusalCauses.{writeRefusal}
+use Rattle.guarantee.specs.Modes.{mode_in, automatic_mode, manual_or_forced}
+use Rattle.promises.specs.RefusalCauses.{write_refusal}
 
 -- "of these only scans and restarts change any"; no sentence lets a write touch SW, the earlier PVs and SP or the last
 -- reading
@@ -45,7 +45,7 @@ pub record WriteEffect (before now : Core) (n : ℕ) (v : ℤ) : Type 0 where
       if bit (nat_abs v) 13 then Manual else
       if bit (nat_abs v) 12 then Auto else Remote)
   pub fault : now.conditions.fault ≡ (if eqb n 24 then before.conditions.fault && bit (nat_abs v) 8 else before.conditions.fault)
-  pub measured-power : now.userbits.measuredpower ≡ (if eqb n 24 then bit (nat_abs v) 4 else before.userbits.measuredpower)
+  pub measured_power_lem : now.userbits.measuredpower ≡ (if eqb n 24 then bit (nat_abs v) 4 else before.userbits.measuredpower)
   -- "DS takes bits 7 and 6.": "7, 6 user bits 2, 1"; DS is number 25
   pub user1 : now.userbits.user1 ≡ (if eqb n 25 then bit (nat_abs v) 6 else before.userbits.user1)
   pub user2 : now.userbits.user2 ≡ (if eqb n 25 then bit (nat_abs v) 7 else before.userbits.user2)
@@ -53,9 +53,9 @@ pub record WriteEffect (before now : Core) (n : ℕ) (v : ℤ) : Type 0 where
 
 -- "and HO or LO limits the output unless the mode is Hold or Track": numbers 15 and 16; a unit is 65,536 of the
 -- stored output
-unfoldable pub expectedOutput : Controller → Core → ℕ → ℤ
-expectedOutput d now n =
-    if (eqb n 15 || eqb n 16) && (manualOrForced (modeIn d.core) || automaticMode (modeIn d.core))
+unfoldable pub expected_output : Controller → Core → ℕ → ℤ
+expected_output d now n =
+    if (eqb n 15 || eqb n 16) && (manual_or_forced (mode_in d.core) || automatic_mode (mode_in d.core))
     then limited (value now.parameters 16 *ℤ pos 65536) (value now.parameters 15 *ℤ pos 65536) d.output
     else d.output
 
@@ -63,5 +63,5 @@ expectedOutput d now n =
 abbrev pub WriteEffects : Type 0
 WriteEffects =
     (d : Controller) (w : Writer) (n : ℕ) (v : ℤ) (r : CallResult) → Valid d → WriteEnsures d w n v r →
-    writeRefusal d.core w n v ≡ none →
-    WriteEffect d.core r.controller.core n v × (r.controller.output ≡ expectedOutput d r.controller.core n)
+    write_refusal d.core w n v ≡ none →
+    WriteEffect d.core r.controller.core n v × (r.controller.output ≡ expected_output d r.controller.core n)

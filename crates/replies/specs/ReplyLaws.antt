@@ -6,23 +6,23 @@ use Rattle.signals.specs.declared.clock.ClockReading.{ClockReading}
 use Rattle.signals.specs.declared.clock.ClockReading.TheVariants.{None, At}
 use Rattle.answers.specs.declared.ScanValues.{ScanValues}
 use Rattle.sheet.specs.declared.Sheet.{Sheet}
-use Rattle.numerals.specs.DigitLaws.{hexadecimal-length}
-use Rattle.numerals.specs.Shortest.{digits-few, decimal-few}
-use Rattle.formatting.specs.Buffer.{buffer, appendAll}
-use Rattle.formatting.specs.Laws.{replaced, append-room}
-use Rattle.drum_lines.specs.BitsText.{bits-length}
-use Rattle.sheet_lines.specs.Appended.{sum-length}
-use Rattle.sheet_lines.specs.ModeLaws.{word-length}
-use Rattle.sheet_lines.specs.SheetText.{sheetText}
-use Rattle.replies.specs.Replies.{spaced, wordsText, answerText, valueText, clockText, imageText, lineText, refusedText}
-use Rattle.replies.specs.Replies.{drumText, sampleText, runText, replyText, replyLine}
+use Rattle.numerals.specs.DigitLaws.{hexadecimal_length}
+use Rattle.numerals.specs.Shortest.{digits_few, decimal_few}
+use Rattle.formatting.specs.Buffer.{buffer, append_all}
+use Rattle.formatting.specs.Laws.{replaced, append_room}
+use Rattle.drum_lines.specs.BitsText.{bits_length}
+use Rattle.sheet_lines.specs.Appended.{sum_length}
+use Rattle.sheet_lines.specs.ModeLaws.{word_length}
+use Rattle.sheet_lines.specs.SheetText.{sheet_text}
+use Rattle.replies.specs.Replies.{spaced, words_text, answer_text, value_text, clock_text, image_text, line_text, refused_text}
+use Rattle.replies.specs.Replies.{drum_text, sample_text, run_text, reply_text, reply_line}
 use Rattle.replies.specs.declared.Reply.{Reply}
 use Rattle.replies.specs.declared.Reply.TheVariants.{Accepted, Value, Answer, Clock, Image, Line}
 use Rattle.replies.specs.declared.Reply.TheVariants.{WholeSheet, Full, InvalidSheet, Number, Drum, Sample, Run, Refused, Error}
 
-spaced-length : (n : ℕ) → n < 65536 → length (spaced n) ≤ 6
+spaced_length : (n : ℕ) → n < 65536 → length (spaced n) ≤ 6
 unfolding spaced
-spaced-length n h = let d = digits-few n 5 (omega arith) (omega arith) in omega arith
+spaced_length n h = let d = digits_few n 5 (omega arith) (omega arith) in omega arith
 
 -- ---- a reply's line
 
@@ -55,7 +55,7 @@ InRange (Value v) sheet = nat_abs v ≤ 2147483648
 InRange (Clock reading) sheet = ReadingRange reading
 InRange (Refused n) sheet = n < 256
 InRange (Line count) sheet = count < 18446744073709551616
-InRange WholeSheet sheet = length (sheetText sheet.values) ≤ 308
+InRange WholeSheet sheet = length (sheet_text sheet.values) ≤ 308
 InRange Accepted sheet = Unit {0}
 InRange Image sheet = Unit {0}
 InRange Full sheet = Unit {0}
@@ -66,74 +66,74 @@ InRange (Sample sample) sheet = sample < 65536
 InRange (Run turns number bits) sheet = RunRange turns number
 InRange Error sheet = Unit {0}
 
-words-length : (v : ScanValues) → WordsRange v → length (wordsText v) ≤ 28
-unfolding wordsText
-words-length v h =
-    let a = spaced-length v.md h.md in
-    let b = spaced-length v.ds h.ds in
-    let c = spaced-length v.op h.op in
-    let d = spaced-length v.electrical h.electrical in
+words_length : (v : ScanValues) → WordsRange v → length (words_text v) ≤ 28
+unfolding words_text
+words_length v h =
+    let a = spaced_length v.md h.md in
+    let b = spaced_length v.ds h.ds in
+    let c = spaced_length v.op h.op in
+    let d = spaced_length v.electrical h.electrical in
     simp length-append (omega arith)
 
-clock-length : (reading : ClockReading) → ReadingRange reading → length (clockText reading) ≤ 26
-unfolding clockText spaced
-clock-length None h = omega arith
-clock-length (At milliseconds) h =
-    let d = digits-few milliseconds 20 (omega arith) (omega arith) in simp length-append (omega arith)
+clock_length : (reading : ClockReading) → ReadingRange reading → length (clock_text reading) ≤ 26
+unfolding clock_text spaced
+clock_length None h = omega arith
+clock_length (At milliseconds) h =
+    let d = digits_few milliseconds 20 (omega arith) (omega arith) in simp length-append (omega arith)
 
-line-length : (count : ℕ) (saved : List ℕ) → count < 18446744073709551616 → length saved ≤ 346 → length (lineText count saved) ≤ 719
-unfolding lineText spaced
-line-length count saved h size =
-    let d = digits-few count 20 (omega arith) (omega arith) in
-    simp length-append (omega (arith, hexadecimal-length (take count saved), length-take count saved))
+line_length_lem : (count : ℕ) (saved : List ℕ) → count < 18446744073709551616 → length saved ≤ 346 → length (line_text count saved) ≤ 719
+unfolding line_text spaced
+line_length_lem count saved h size =
+    let d = digits_few count 20 (omega arith) (omega arith) in
+    simp length-append (omega (arith, hexadecimal_length (take count saved), length-take count saved))
 
-run_length : (turns number bits : ℕ) → RunRange turns number → length (runText turns number bits) ≤ 32
-unfolding runText
+run_length : (turns number bits : ℕ) → RunRange turns number → length (run_text turns number bits) ≤ 32
+unfolding run_text
 run_length turns number bits h =
-    let t = spaced-length turns h.done in
-    let n = spaced-length number (omega (arith, h.refusal)) in
-    simp length-append (omega (arith, bits-length bits))
+    let t = spaced_length turns h.done in
+    let n = spaced_length number (omega (arith, h.refusal)) in
+    simp length-append (omega (arith, bits_length bits))
 
-text-length : (reply : Reply) (saved : List ℕ) (sheet : Sheet) → InRange reply sheet → length saved ≤ 346 →
-    length (replyText reply saved sheet) ≤ 719
-unfolding replyText answerText valueText imageText drumText sampleText refusedText
-text-length (Answer v) saved sheet h size =
-    let w = words-length v h.words in
-    let m = word-length v.mode in
-    let p = decimal-few 10 v.pv (omega arith) (omega arith) in
+text_length : (reply : Reply) (saved : List ℕ) (sheet : Sheet) → InRange reply sheet → length saved ≤ 346 →
+    length (reply_text reply saved sheet) ≤ 719
+unfolding reply_text answer_text value_text image_text drum_text sample_text refused_text
+text_length (Answer v) saved sheet h size =
+    let w = words_length v h.words in
+    let m = word_length v.mode in
+    let p = decimal_few 10 v.pv (omega arith) (omega arith) in
     simp length-append (omega arith)
-text-length (Value v) saved sheet h size = let d = decimal-few 10 v (omega arith) (omega arith) in simp length-append (omega arith)
-text-length (Clock reading) saved sheet h size = let d = clock-length reading h in omega arith
-text-length (Refused n) saved sheet h size = let d = spaced-length n (omega arith) in simp length-append (omega arith)
-text-length WholeSheet saved sheet h size = omega arith
-text-length (Line count) saved sheet h size = line-length count saved h size
-text-length Accepted saved sheet h size = omega arith
-text-length Image saved sheet h size =
-    simp length-append (omega (arith, hexadecimal-length (take 137 saved), length-take 137 saved))
-text-length Full saved sheet h size = omega arith
-text-length InvalidSheet saved sheet h size = omega arith
-text-length (Number v) saved sheet h size = omega (arith, sum-length v h)
-text-length (Drum bits) saved sheet h size = simp length-append (omega (arith, bits-length bits))
-text-length (Sample sample) saved sheet h size = let d = spaced-length sample h in simp length-append (omega arith)
-text-length (Run turns number bits) saved sheet h size = omega (arith, run_length turns number bits h)
-text-length Error saved sheet h size = omega arith
+text_length (Value v) saved sheet h size = let d = decimal_few 10 v (omega arith) (omega arith) in simp length-append (omega arith)
+text_length (Clock reading) saved sheet h size = let d = clock_length reading h in omega arith
+text_length (Refused n) saved sheet h size = let d = spaced_length n (omega arith) in simp length-append (omega arith)
+text_length WholeSheet saved sheet h size = omega arith
+text_length (Line count) saved sheet h size = line_length_lem count saved h size
+text_length Accepted saved sheet h size = omega arith
+text_length Image saved sheet h size =
+    simp length-append (omega (arith, hexadecimal_length (take 137 saved), length-take 137 saved))
+text_length Full saved sheet h size = omega arith
+text_length InvalidSheet saved sheet h size = omega arith
+text_length (Number v) saved sheet h size = omega (arith, sum_length v h)
+text_length (Drum bits) saved sheet h size = simp length-append (omega (arith, bits_length bits))
+text_length (Sample sample) saved sheet h size = let d = spaced_length sample h in simp length-append (omega arith)
+text_length (Run turns number bits) saved sheet h size = omega (arith, run_length turns number bits h)
+text_length Error saved sheet h size = omega arith
 
-pub reply-length : (reply : Reply) (saved : List ℕ) (sheet : Sheet) → InRange reply sheet → length saved ≤ 346 →
-    length (replyLine reply saved sheet) ≤ 720
-unfolding replyLine
-reply-length reply saved sheet h size = let t = text-length reply saved sheet h size in simp length-append (omega arith)
+pub reply_length : (reply : Reply) (saved : List ℕ) (sheet : Sheet) → InRange reply sheet → length saved ≤ 346 →
+    length (reply_line reply saved sheet) ≤ 720
+unfolding reply_line
+reply_length reply saved sheet h size = let t = text_length reply saved sheet h size in simp length-append (omega arith)
 
 -- the line stands whole behind the bytes used, and no other byte has changed
 module _ (reply : Reply) (saved : List ℕ) (sheet : Sheet) (out : List ℕ) (used : ℕ) where
-  pub reply-fits : InRange reply sheet → length saved ≤ 346 → used ≤ 64000 → 65536 ≤ length out →
-      appendAll (buffer out used) (replyLine reply saved sheet)
-      ≡ buffer (replaced used (replyLine reply saved sheet) out) (used + length (replyLine reply saved sheet))
-  reply-fits r short few size =
-      append-room (replyLine reply saved sheet) out used (omega (arith, reply-length reply saved sheet r short))
+  pub reply_fits : InRange reply sheet → length saved ≤ 346 → used ≤ 64000 → 65536 ≤ length out →
+      append_all (buffer out used) (reply_line reply saved sheet)
+      ≡ buffer (replaced used (reply_line reply saved sheet) out) (used + length (reply_line reply saved sheet))
+  reply_fits r short few size =
+      append_room (reply_line reply saved sheet) out used (omega (arith, reply_length reply saved sheet r short))
 
 -- ---- for the proofs of functions
 
 -- a value of 32 bits
-pub value-most : (v : ℤ) → mag v < 2147483648 → nat_abs v ≤ 2147483648
-value-most (pos n) h = omega arith
-value-most (negsuc n) h = omega arith
+pub value_most : (v : ℤ) → mag v < 2147483648 → nat_abs v ≤ 2147483648
+value_most (pos n) h = omega arith
+value_most (negsuc n) h = omega arith

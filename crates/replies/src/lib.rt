@@ -1,10 +1,10 @@
 // What answers a command, and its line, appended to the output.
 ghost use Rattle.std.specs.Prelude.{◌≡◌, take};
 ghost use Rattle.numerals.specs.Numerals.{hexadecimal};
-ghost use Rattle.formatting.specs.Buffer.{buffer, appendAll};
+ghost use Rattle.formatting.specs.Buffer.{buffer, append_all};
 ghost use Rattle.replies.specs.ReplyLaws.{WordsRange, AnswerRange, ReadingRange, RunRange, InRange};
-ghost use Rattle.replies.specs.Replies.{spaced, wordsText, answerText, refusedText, valueText, clockText, imageText};
-ghost use Rattle.replies.specs.Replies.{lineText, drumText, sampleText, runText, replyText, replyLine};
+ghost use Rattle.replies.specs.Replies.{spaced, words_text, answer_text, refused_text, value_text, clock_text, image_text};
+ghost use Rattle.replies.specs.Replies.{line_text, drum_text, sample_text, run_text, reply_text, reply_line};
 
 use answers::ScanValues;
 use sheet::Sheet;
@@ -43,7 +43,7 @@ pub enum Reply {
 
 // A blank and a number.
 fn append_spaced(out: &mut [u8], used: usize, number: u64) -> usize
-    ensures { buffer out.new result ≡ appendAll (buffer out.old used) (spaced number) }
+    ensures { buffer out.new result ≡ append_all (buffer out.old used) (spaced number) }
 {
     let end = formatting::append_byte(out, used, b' ');
     formatting::append_decimal(out, end, number)
@@ -51,7 +51,7 @@ fn append_spaced(out: &mut [u8], used: usize, number: u64) -> usize
 
 // The words of an answer. The contract rules out two that are exchanged.
 fn append_words(out: &mut [u8], used: usize, values: ScanValues) -> usize
-    ensures { (buffer out.new result ≡ appendAll (buffer out.old used) (wordsText values)) × WordsRange values }
+    ensures { (buffer out.new result ≡ append_all (buffer out.old used) (words_text values)) × WordsRange values }
 {
     let name = formatting::append_bytes(out, used, b"scan");
     let one = append_spaced(out, name, values.md as u64);
@@ -62,7 +62,7 @@ fn append_words(out: &mut [u8], used: usize, values: ScanValues) -> usize
 
 // What an accepted scan answers. The contract rules out another mode's word, and a sign of PV that is lost.
 fn append_answer(out: &mut [u8], used: usize, values: ScanValues) -> usize
-    ensures { (buffer out.new result ≡ appendAll (buffer out.old used) (answerText values)) × AnswerRange values }
+    ensures { (buffer out.new result ≡ append_all (buffer out.old used) (answer_text values)) × AnswerRange values }
 {
     let words = append_words(out, used, values);
     let blank = formatting::append_byte(out, words, b' ');
@@ -74,7 +74,7 @@ fn append_answer(out: &mut [u8], used: usize, values: ScanValues) -> usize
 
 // A refusal and its number.
 fn append_refused(out: &mut [u8], used: usize, number: u8) -> usize
-    ensures { buffer out.new result ≡ appendAll (buffer out.old used) (refusedText number) }
+    ensures { buffer out.new result ≡ append_all (buffer out.old used) (refused_text number) }
 {
     let name = formatting::append_bytes(out, used, b"refused");
     append_spaced(out, name, number as u64)
@@ -82,7 +82,7 @@ fn append_refused(out: &mut [u8], used: usize, number: u8) -> usize
 
 // A parameter's value. The contract rules out a sign that is lost.
 fn append_value(out: &mut [u8], used: usize, v: i32) -> usize
-    ensures { buffer out.new result ≡ appendAll (buffer out.old used) (valueText v) }
+    ensures { buffer out.new result ≡ append_all (buffer out.old used) (value_text v) }
 {
     let name = formatting::append_bytes(out, used, b"value ");
     formatting::append_signed(out, name, integers::wide(v))
@@ -90,7 +90,7 @@ fn append_value(out: &mut [u8], used: usize, v: i32) -> usize
 
 // A reading of the clock. The contract rules out a number where there is no reading.
 fn append_clock(out: &mut [u8], used: usize, reading: ClockReading) -> usize
-    ensures { (buffer out.new result ≡ appendAll (buffer out.old used) (clockText reading))
+    ensures { (buffer out.new result ≡ append_all (buffer out.old used) (clock_text reading))
         × ReadingRange reading }
 {
     match reading {
@@ -104,7 +104,7 @@ fn append_clock(out: &mut [u8], used: usize, reading: ClockReading) -> usize
 
 // The first bytes of a buffer, so many, or all where there are fewer. The contract rules out one byte more.
 fn append_front(out: &mut [u8], used: usize, bytes: &[u8], count: usize) -> usize
-    ensures { buffer out.new result ≡ appendAll (buffer out.old used)
+    ensures { buffer out.new result ≡ append_all (buffer out.old used)
         (hexadecimal (take count bytes.now)) }
 {
     if bytes.len() < count {
@@ -115,7 +115,7 @@ fn append_front(out: &mut [u8], used: usize, bytes: &[u8], count: usize) -> usiz
 
 // The image that was saved: the first 137 bytes.
 fn append_image(out: &mut [u8], used: usize, saved: &[u8]) -> usize
-    ensures { buffer out.new result ≡ appendAll (buffer out.old used) (imageText saved.now) }
+    ensures { buffer out.new result ≡ append_all (buffer out.old used) (image_text saved.now) }
 {
     let name = formatting::append_bytes(out, used, b"image ");
     append_front(out, name, saved, 137)
@@ -123,7 +123,7 @@ fn append_image(out: &mut [u8], used: usize, saved: &[u8]) -> usize
 
 // The terminal's reply: its length and its bytes. The contract rules out a length that isn't that of the bytes.
 fn append_line(out: &mut [u8], used: usize, count: usize, saved: &[u8]) -> usize
-    ensures { buffer out.new result ≡ appendAll (buffer out.old used) (lineText count saved.now) }
+    ensures { buffer out.new result ≡ append_all (buffer out.old used) (line_text count saved.now) }
 {
     let name = formatting::append_bytes(out, used, b"reply");
     let number = append_spaced(out, name, count as u64);
@@ -133,7 +133,7 @@ fn append_line(out: &mut [u8], used: usize, count: usize, saved: &[u8]) -> usize
 
 // The drum after a step. The contract rules out other bits.
 fn append_drum(out: &mut [u8], used: usize, bits: u64) -> usize
-    ensures { buffer out.new result ≡ appendAll (buffer out.old used) (drumText bits) }
+    ensures { buffer out.new result ≡ append_all (buffer out.old used) (drum_text bits) }
 {
     let name = formatting::append_bytes(out, used, b"drum ");
     drum_lines::print::append_bits(out, name, bits)
@@ -141,7 +141,7 @@ fn append_drum(out: &mut [u8], used: usize, bits: u64) -> usize
 
 // What the drum offers.
 fn append_sample(out: &mut [u8], used: usize, sample: u16) -> usize
-    ensures { buffer out.new result ≡ appendAll (buffer out.old used) (sampleText sample) }
+    ensures { buffer out.new result ≡ append_all (buffer out.old used) (sample_text sample) }
 {
     let name = formatting::append_bytes(out, used, b"sample");
     append_spaced(out, name, sample as u64)
@@ -149,7 +149,7 @@ fn append_sample(out: &mut [u8], used: usize, sample: u16) -> usize
 
 // What a run did. The contract rules out that the turns and the number are exchanged.
 fn append_run(out: &mut [u8], used: usize, turns: u16, number: u8, bits: u64) -> usize
-    ensures { (buffer out.new result ≡ appendAll (buffer out.old used) (runText turns number bits))
+    ensures { (buffer out.new result ≡ append_all (buffer out.old used) (run_text turns number bits))
         × RunRange turns number }
 {
     let name = formatting::append_bytes(out, used, b"run");
@@ -162,8 +162,8 @@ fn append_run(out: &mut [u8], used: usize, turns: u16, number: u8, bits: u64) ->
 // What a reply's line has before its end. The contract also says that the reply's numbers are such as its types hold,
 // so that a caller knows how long the line is.
 fn append_text(out: &mut [u8], used: usize, reply: Reply, saved: &[u8], sheet: Sheet) -> usize
-    ensures { (buffer out.new result ≡ appendAll (buffer out.old used)
-        (replyText reply saved.now sheet)) × InRange reply sheet }
+    ensures { (buffer out.new result ≡ append_all (buffer out.old used)
+        (reply_text reply saved.now sheet)) × InRange reply sheet }
 {
     match reply {
         Reply::Accepted => formatting::append_bytes(out, used, b"ok"),
@@ -187,8 +187,8 @@ fn append_text(out: &mut [u8], used: usize, reply: Reply, saved: &[u8], sheet: S
 // The line of a reply; `saved` is the buffer that a save or the terminal wrote into. The contract rules out the line of
 // another reply, and one with no end.
 pub fn append_reply(out: &mut [u8], used: usize, reply: Reply, saved: &[u8], sheet: Sheet) -> usize
-    ensures { (buffer out.new result ≡ appendAll (buffer out.old used)
-        (replyLine reply saved.now sheet)) × InRange reply sheet }
+    ensures { (buffer out.new result ≡ append_all (buffer out.old used)
+        (reply_line reply saved.now sheet)) × InRange reply sheet }
 {
     let end = append_text(out, used, reply, saved, sheet);
     formatting::append_byte(out, end, b'\n')

@@ -1,7 +1,7 @@
 // Document 02, request 6: who may write which parameter.
 ghost use Rattle.std.specs.Prelude.{◌≡◌};
-ghost use Rattle.signals.specs.Refusals.{number_in, refusedBy};
-ghost use Rattle.rights.specs.Rights.{may_write, needsPin, pinTests, rightTests, accessTests};
+ghost use Rattle.signals.specs.Refusals.{number_in, refused_by};
+ghost use Rattle.rights.specs.Rights.{may_write, needs_pin, pin_tests, right_tests, access_tests};
 
 use parameters::{DS, MD, RB, RS, Rule, SL};
 use signals::{Refusal, Verdict};
@@ -37,7 +37,7 @@ impl Writer {
     // Whether the right is there only while the Computer pin is at 1. The contract rules out a computer that needs no
     // pin, and any other writer who does.
     fn needs_pin(self) -> bool
-        ensures { result ≡ needsPin self }
+        ensures { result ≡ needs_pin self }
     {
         match self {
             Writer::Operator => false,
@@ -48,7 +48,7 @@ impl Writer {
 
     // Refusal 19, by the stored pin byte.
     fn pin_verdict(self, pins: u8) -> Verdict
-        ensures { number_in result ≡ refusedBy (pinTests self pins) }
+        ensures { number_in result ≡ refused_by (pin_tests self pins) }
     {
         let needed = self.needs_pin();
         let present = signals::computer_pin(pins);
@@ -60,7 +60,7 @@ impl Writer {
 
     // Refusal 20.
     fn right_verdict(self, number: u64) -> Verdict
-        ensures { number_in result ≡ refusedBy (rightTests self number) }
+        ensures { number_in result ≡ refused_by (right_tests self number) }
     {
         if self.may_write(number) {
             return Verdict::Accepted;
@@ -73,7 +73,7 @@ impl Writer {
 // byte: refusals 4, 19, 20 and 5, in this order. The contract rules out a refusal for another cause, one that is
 // forgotten, and a later one where an earlier one applies.
 pub fn access_verdict(rule: Rule, writer: Writer, pins: u8, number: u64) -> Verdict
-    ensures { number_in result ≡ refusedBy (accessTests rule writer pins number) }
+    ensures { number_in result ≡ refused_by (access_tests rule writer pins number) }
 {
     let unknown = rule.unknown_verdict();
     let pin = writer.pin_verdict(pins);

@@ -22,44 +22,44 @@ number_in opd_unit = 0
 number_in (ptr_const f) = 0
 
 -- the number that is assigned
-abbrev valueIn : Rv → ℕ
-valueIn (rv_opd x) = number_in x
-valueIn (op1 o x) = 0
-valueIn (op2 o x y) = 0
-valueIn (addr_of p) = 0
-valueIn (aggregate xs) = 0
-valueIn (repeat x n) = 0
+abbrev value_in : Rv → ℕ
+value_in (rv_opd x) = number_in x
+value_in (op1 o x) = 0
+value_in (op2 o x y) = 0
+value_in (addr_of p) = 0
+value_in (aggregate xs) = 0
+value_in (repeat x n) = 0
 
 -- the number that an arm assigns
-abbrev entryIn : Body → ℕ
-entryIn (assign p v) = valueIn v
-entryIn skip = 0
-entryIn (seq a b) = 0
-entryIn (block b) = 0
-entryIn (loop b) = 0
-entryIn (cond c a b) = 0
-entryIn (switch c arms) = 0
-entryIn (exit n) = 0
-entryIn return = 0
-entryIn (call f xs d) = 0
+abbrev entry_in : Body → ℕ
+entry_in (assign p v) = value_in v
+entry_in skip = 0
+entry_in (seq a b) = 0
+entry_in (block b) = 0
+entry_in (loop b) = 0
+entry_in (cond c a b) = 0
+entry_in (switch c arms) = 0
+entry_in (exit n) = 0
+entry_in return = 0
+entry_in (call f xs d) = 0
 
-abbrev pub entriesOf : Arms → List ℕ
-entriesOf (arm keys body others) = entryIn body ∷ entriesOf others
-entriesOf (default body) = []
-entriesOf no_default = []
+abbrev pub entries_of : Arms → List ℕ
+entries_of (arm keys body others) = entry_in body ∷ entries_of others
+entries_of (default body) = []
+entries_of no_default = []
 
 -- the arms of a switch
-abbrev pub armsIn : Body → Arms
-armsIn (switch c arms) = arms
-armsIn skip = no_default
-armsIn (seq a b) = no_default
-armsIn (assign p v) = no_default
-armsIn (block b) = no_default
-armsIn (loop b) = no_default
-armsIn (cond c a b) = no_default
-armsIn (exit n) = no_default
-armsIn return = no_default
-armsIn (call f xs d) = no_default
+abbrev pub arms_in : Body → Arms
+arms_in (switch c arms) = arms
+arms_in skip = no_default
+arms_in (seq a b) = no_default
+arms_in (assign p v) = no_default
+arms_in (block b) = no_default
+arms_in (loop b) = no_default
+arms_in (cond c a b) = no_default
+arms_in (exit n) = no_default
+arms_in return = no_default
+arms_in (call f xs d) = no_default
 
 -- numbers from 1024 on have a form of their own
 abbrev pub literal : Bool → ℕ → Opd

@@ -6,18 +6,18 @@ use Prim.Native.Nat.{ℕ, suc, ◌+◌, ◌*◌}
 use lib.Dec.{leb, ltb}
 use borrow.Author.Tests.{leb-true, ltb-true}
 use Rattle.integers.specs.Choice.{both}
-use Rattle.scaling.specs.Root.{Greatest, root-from}
+use Rattle.scaling.specs.Root.{Greatest, root_from}
 
 -- "the greatest whole number whose square isn't above 10000 times its place": its square isn't, the next number's is
-abbrev pub isRoot : ℕ → ℕ → Bool
-isRoot place r = leb (r * r) (10000 * place) && ltb (10000 * place) ((r + 1) * (r + 1))
+abbrev pub is_root : ℕ → ℕ → Bool
+is_root place r = leb (r * r) (10000 * place) && ltb (10000 * place) ((r + 1) * (r + 1))
 
 -- each entry is the root of its place; the places are counted on from the first entry's
-abbrev pub areRoots : ℕ → List ℕ → Bool
-areRoots place [] = true
-areRoots place (r ∷ others) = isRoot place r && areRoots (suc place) others
+abbrev pub are_roots : ℕ → List ℕ → Bool
+are_roots place [] = true
+are_roots place (r ∷ others) = is_root place r && are_roots (suc place) others
 
-pub root-at : (place r : ℕ) → isRoot place r ≡ true → Greatest (10000 * place) r
-root-at place r e =
+pub root_at : (place r : ℕ) → is_root place r ≡ true → Greatest (10000 * place) r
+root_at place r e =
     let tests = both (leb (r * r) (10000 * place)) (ltb (10000 * place) ((r + 1) * (r + 1))) e in
-    root-from (leb-true (r * r) (10000 * place) tests.0) (ltb-true (10000 * place) ((r + 1) * (r + 1)) tests.1)
+    root_from (leb-true (r * r) (10000 * place) tests.0) (ltb-true (10000 * place) ((r + 1) * (r + 1)) tests.1)

@@ -1,9 +1,9 @@
 // Document 01's scaling of samples: a channel's range, the root of channel 1, and the quotients of a ratio setpoint.
 ghost use Rattle.std.specs.Prelude.{◌≡◌, ◌≤◌, pos, ◌*ℤ◌};
-ghost use Rattle.integers.specs.Rounding.{nearestEven};
+ghost use Rattle.integers.specs.Rounding.{nearest_even};
 ghost use Rattle.scaling.specs.Scale.{scaled, ChannelRange};
-ghost use Rattle.scaling.specs.Root.{rootOf};
-ghost use Rattle.scaling.specs.Ratio.{ratioQuotient, inverseQuotient, RatioRange, QuotientRange};
+ghost use Rattle.scaling.specs.Root.{root_of};
+ghost use Rattle.scaling.specs.Ratio.{ratio_quotient, inverse_quotient, RatioRange, QuotientRange};
 
 mod roots;
 
@@ -20,7 +20,7 @@ pub fn scale(low: i64, high: i64, sample: u16) -> i64
 // The greatest whole r with r × r ≤ 10000 × sample, read from the table. The contract rules out one less and one more.
 pub fn root(sample: u16) -> u16
     requires { sample ≤ 10000 }
-    ensures { result ≡ rootOf sample }
+    ensures { result ≡ root_of sample }
 {
     roots::entry(sample)
 }
@@ -29,7 +29,7 @@ pub fn root(sample: u16) -> u16
 // zero, or toward it, whatever its neighbours are.
 fn quotient(q: i64, m: u64, d: u64) -> i64
     requires { QuotientRange q m d }
-    ensures { result ≡ nearestEven (q *ℤ pos m) d }
+    ensures { result ≡ nearest_even (q *ℤ pos m) d }
 {
     let size = integers::nearest_even(integers::magnitude(q) * m, d);
     integers::signed(integers::negative(q), size)
@@ -39,7 +39,7 @@ fn quotient(q: i64, m: u64, d: u64) -> i64
 // divisor exchanged.
 pub fn ratio(q: i64, s: u64) -> i64
     requires { RatioRange q s }
-    ensures { result ≡ ratioQuotient q s }
+    ensures { result ≡ ratio_quotient q s }
 {
     quotient(q, 100, s)
 }
@@ -47,7 +47,7 @@ pub fn ratio(q: i64, s: u64) -> i64
 // q × s / 100, nearest, halves to even: the quotient with S2.3 ON. The contract rules out what that of `ratio` does.
 pub fn inverse_ratio(q: i64, s: u64) -> i64
     requires { RatioRange q s }
-    ensures { result ≡ inverseQuotient q s }
+    ensures { result ≡ inverse_quotient q s }
 {
     quotient(q, s, 100)
 }

@@ -5,10 +5,10 @@ ghost use Rattle.scaling.specs.Ratio.{RatioRange};
 ghost use Rattle.scaling.specs.Scale.{scaled, ChannelRange};
 ghost use Rattle.parameters.specs.Legal.{Legal};
 ghost use Rattle.parameters.specs.Table.{value};
-ghost use Rattle.setpoints.specs.Computation.{computed, lowAlarm, highAlarm};
+ghost use Rattle.setpoints.specs.Computation.{computed, low_alarm, high_alarm};
 ghost use Rattle.setpoints.specs.ComputationLaws.{SampleRange};
-ghost use Rattle.setpoints.specs.Setpoints.{firstSample, processVariable, thirdChannel, trimOf, localSetpoint};
-ghost use Rattle.setpoints.specs.Setpoints.{remoteSetpoint, quotient_of, ratioSetpoint, setpointIn, measuredPower};
+ghost use Rattle.setpoints.specs.Setpoints.{first_sample, process_variable, third_channel, trim_of, local_setpoint};
+ghost use Rattle.setpoints.specs.Setpoints.{remote_setpoint, quotient_of, ratio_setpoint, setpoint_in, measured_power};
 
 use modes::Mode;
 use parameters::Parameters;
@@ -45,7 +45,7 @@ fn channel(p: Parameters, low: u64, high: u64, sample: u16) -> i64
 
 fn first_sample(p: Parameters, sample: u16) -> u16
     requires { sample ≤ 10000 }
-    ensures { (result ≡ firstSample p sample) × (result ≤ 10000) }
+    ensures { (result ≡ first_sample p sample) × (result ≤ 10000) }
 {
     let ic = p.get(parameters::IC);
     let rooted = integers::magnitude(ic) == ROOT;
@@ -58,7 +58,7 @@ fn first_sample(p: Parameters, sample: u16) -> u16
 
 fn process_variable(p: Parameters, input: Input) -> i64
     requires { Legal p × SampleRange input }
-    ensures { result ≡ processVariable p input }
+    ensures { result ≡ process_variable p input }
 {
     let sample = first_sample(p, input.sample1);
     let low = p.get(parameters::L1);
@@ -69,14 +69,14 @@ fn process_variable(p: Parameters, input: Input) -> i64
 
 fn third_channel(p: Parameters, input: Input) -> i64
     requires { Legal p × SampleRange input }
-    ensures { result ≡ thirdChannel p input }
+    ensures { result ≡ third_channel p input }
 {
     channel(p, parameters::L3, parameters::H3, input.sample3)
 }
 
 fn trim_of(p: Parameters, measuredpower: bool, mode: Mode, input: Input) -> i64
     requires { Legal p × SampleRange input }
-    ensures { result ≡ trimOf p measuredpower mode input }
+    ensures { result ≡ trim_of p measuredpower mode input }
 {
     let third = third_channel(p, input);
     let track = modes::is_track(mode);
@@ -85,7 +85,7 @@ fn trim_of(p: Parameters, measuredpower: bool, mode: Mode, input: Input) -> i64
 
 fn local_setpoint(sl: i64, ratioswitch: bool, trim: i64) -> i64
     requires { Small sl × Small trim }
-    ensures { result ≡ localSetpoint sl ratioswitch trim }
+    ensures { result ≡ local_setpoint sl ratioswitch trim }
 {
     let added = integers::choose(ratioswitch, 0, trim);
     integers::plus(sl, added)
@@ -93,7 +93,7 @@ fn local_setpoint(sl: i64, ratioswitch: bool, trim: i64) -> i64
 
 fn remote_setpoint(p: Parameters, trim: i64, input: Input) -> i64
     requires { Legal p × SampleRange input × Small trim }
-    ensures { result ≡ remoteSetpoint p trim input }
+    ensures { result ≡ remote_setpoint p trim input }
 {
     let second = channel(p, parameters::L1, parameters::H1, input.sample2);
     integers::plus(second, trim)
@@ -112,7 +112,7 @@ fn ratio_quotient(inverse: bool, q: i64, s: u64) -> i64
 
 fn ratio_setpoint(p: Parameters, inverse: bool, rs: i64, trim: i64, input: Input) -> i64
     requires { Legal p × SampleRange input × Small rs × Small trim }
-    ensures { result ≡ ratioSetpoint p inverse rs trim input }
+    ensures { result ≡ ratio_setpoint p inverse rs trim input }
 {
     let q = channel(p, parameters::L2, parameters::H2, input.sample2);
     let low = p.get(parameters::LR);
@@ -135,7 +135,7 @@ fn setpoint_in(
     input: Input,
 ) -> i64
     requires { Legal p × SampleRange input × Small sl × Small rs × Small trim }
-    ensures { result ≡ setpointIn p s mode sl rs trim input }
+    ensures { result ≡ setpoint_in p s mode sl rs trim input }
 {
     let remote = modes::is_remote(mode);
     let ratio = modes::is_ratio(mode);
@@ -150,7 +150,7 @@ fn setpoint_in(
 
 fn measured_power(p: Parameters, measuredpower: bool, input: Input) -> i64
     requires { Legal p × SampleRange input }
-    ensures { result ≡ measuredPower p measuredpower input }
+    ensures { result ≡ measured_power p measuredpower input }
 {
     let third = third_channel(p, input);
     integers::choose(measuredpower, third, 0)
@@ -188,7 +188,7 @@ pub fn compute(
 // The contract rules out ≤ for <, and one test of the two.
 pub fn low_alarm(p: Parameters, r: Readings) -> bool
     requires { Legal p }
-    ensures { result ≡ lowAlarm p r }
+    ensures { result ≡ low_alarm p r }
 {
     let la = p.get(parameters::LA);
     let ld = p.get(parameters::LD);
@@ -200,7 +200,7 @@ pub fn low_alarm(p: Parameters, r: Readings) -> bool
 
 // The same for the high alarm.
 pub fn high_alarm(p: Parameters, r: Readings) -> bool
-    ensures { result ≡ highAlarm p r }
+    ensures { result ≡ high_alarm p r }
 {
     let ha = p.get(parameters::HA);
     let hd = p.get(parameters::HD);

@@ -1,7 +1,7 @@
 // The settings that the values of an image hold, and whether these are legal but for the parameters.
 ghost use Rattle.std.specs.Prelude.{◌≡◌, ◌≤◌};
-ghost use Rattle.settings.specs.Settings.{requestIn, userBitsIn, parameterIn, parametersIn};
-ghost use Rattle.settings.specs.Settings.{settingsIn, isSumRight, areOthersLegal, legalUserBits};
+ghost use Rattle.settings.specs.Settings.{request_in, user_bits_in, parameter_in, parameters_in};
+ghost use Rattle.settings.specs.Settings.{settings_in, is_sum_right, are_others_legal, legal_user_bits};
 
 use crate::Settings;
 use modes::Request;
@@ -9,7 +9,7 @@ use parameters::Parameters;
 use words::UserBits;
 
 fn request_in(value: u16) -> Request
-    ensures { result ≡ requestIn value }
+    ensures { result ≡ request_in value }
 {
     match value {
         crate::MANUAL => Request::Manual,
@@ -19,7 +19,7 @@ fn request_in(value: u16) -> Request
 }
 
 fn user_bits_in(value: u16) -> UserBits
-    ensures { result ≡ userBitsIn value }
+    ensures { result ≡ user_bits_in value }
 {
     UserBits {
         user1: signals::bit(value, crate::USER1),
@@ -31,7 +31,7 @@ fn user_bits_in(value: u16) -> UserBits
 // User bits and MD bit 4 under a wrong sumcheck: an illegal 44h is 0. The contract rules out that some
 // of its bits are kept.
 pub fn legal_user_bits(values: [u16; fields::FIELD_COUNT]) -> UserBits
-    ensures { result ≡ legalUserBits values }
+    ensures { result ≡ legal_user_bits values }
 {
     let value = values[fields::USER_BITS];
     if value <= crate::USER_BITS_MOST {
@@ -44,7 +44,7 @@ pub fn legal_user_bits(values: [u16; fields::FIELD_COUNT]) -> UserBits
 // The value of the parameter with this number; 0 for the entry that is not used.
 fn parameter_in(values: [u16; fields::FIELD_COUNT], number: usize) -> i64
     requires { number ≤ 23 }
-    ensures { result ≡ parameterIn values number }
+    ensures { result ≡ parameter_in values number }
 {
     if number == 0 {
         return 0;
@@ -54,7 +54,7 @@ fn parameter_in(values: [u16; fields::FIELD_COUNT], number: usize) -> i64
 
 // The contract rules out a parameter that is taken from another one's field.
 pub fn parameters_in(values: [u16; fields::FIELD_COUNT]) -> Parameters
-    ensures { result ≡ parametersIn values }
+    ensures { result ≡ parameters_in values }
 {
     let mut decoded: [i64; parameters::VALUE_COUNT] = [0; parameters::VALUE_COUNT];
     let mut number: usize = 0;
@@ -68,7 +68,7 @@ pub fn parameters_in(values: [u16; fields::FIELD_COUNT]) -> Parameters
 
 // The contract rules out a setting that is taken from another one's field.
 pub fn settings_in(values: [u16; fields::FIELD_COUNT]) -> Settings
-    ensures { result ≡ settingsIn values }
+    ensures { result ≡ settings_in values }
 {
     let parameters = parameters_in(values);
     let request = request_in(values[fields::REQUEST]);
@@ -84,7 +84,7 @@ pub fn settings_in(values: [u16; fields::FIELD_COUNT]) -> Settings
 
 // The contract rules out a sum over fewer values than all earlier ones.
 pub fn is_sum_right(values: [u16; fields::FIELD_COUNT]) -> bool
-    ensures { result ≡ isSumRight values }
+    ensures { result ≡ is_sum_right values }
 {
     values[fields::SUMCHECK] == fields::sumcheck(values)
 }
@@ -92,7 +92,7 @@ pub fn is_sum_right(values: [u16; fields::FIELD_COUNT]) -> bool
 // Whether OP, request, fault and 44h are legal. The contract rules out a fault with another request
 // than Manual, and ends that are off by one.
 pub fn are_others_legal(values: [u16; fields::FIELD_COUNT]) -> bool
-    ensures { result ≡ areOthersLegal values }
+    ensures { result ≡ are_others_legal values }
 {
     let op = values[fields::OP] <= parameters::OP_MOST;
     let request = values[fields::REQUEST] <= crate::REMOTE;

@@ -1,9 +1,9 @@
 // The settings that an image holds, as the values of its fields, and back.
 ghost use Rattle.std.specs.Prelude.{◌≡◌, ◌≤◌};
-ghost use Rattle.signals.specs.Refusals.{number_in, refusedBy};
-ghost use Rattle.fields.specs.Fields.{withSumcheck, saveTests, savedIn};
+ghost use Rattle.signals.specs.Refusals.{number_in, refused_by};
+ghost use Rattle.fields.specs.Fields.{with_sumcheck, save_tests, saved_in};
 ghost use Rattle.parameters.specs.Legal.{Legal};
-ghost use Rattle.settings.specs.Settings.{requestNumber, faultNumber, userBitsNumber, value_at, values_of, image_of};
+ghost use Rattle.settings.specs.Settings.{request_number, fault_number, user_bits_number, value_at, values_of, image_of};
 
 use modes::Request;
 use parameters::Parameters;
@@ -46,7 +46,7 @@ pub struct Settings {
 }
 
 fn request_number(request: Request) -> u16
-    ensures { result ≡ requestNumber request }
+    ensures { result ≡ request_number request }
 {
     match request {
         Request::Manual => MANUAL,
@@ -56,13 +56,13 @@ fn request_number(request: Request) -> u16
 }
 
 fn fault_number(fault: bool) -> u16
-    ensures { result ≡ faultNumber fault }
+    ensures { result ≡ fault_number fault }
 {
     if fault { FAULT_SET } else { FAULT_CLEAR }
 }
 
 fn user_bits_number(userbits: UserBits) -> u16
-    ensures { result ≡ userBitsNumber userbits }
+    ensures { result ≡ user_bits_number userbits }
 {
     words::weight(userbits.user1, 1 << USER1)
         + words::weight(userbits.user2, 1 << USER2)
@@ -90,7 +90,7 @@ impl Settings {
     // The values of all fields, the sumcheck behind them.
     fn values(self) -> [u16; fields::FIELD_COUNT]
         requires { Legal self.parameters }
-        ensures { result ≡ withSumcheck (values_of self) }
+        ensures { result ≡ with_sumcheck (values_of self) }
     {
         let mut values: [u16; fields::FIELD_COUNT] = [0; fields::FIELD_COUNT];
         let mut place: usize = 0;
@@ -104,8 +104,8 @@ impl Settings {
     // Encodes the image in the caller's buffer. The contract gives the verdict and every byte of the buffer.
     pub fn save(self, buffer: &mut [u8]) -> Verdict
         requires { Legal self.parameters }
-        ensures { (number_in result ≡ refusedBy (saveTests buffer.old))
-            × (buffer.new ≡ savedIn (image_of self) buffer.old) }
+        ensures { (number_in result ≡ refused_by (save_tests buffer.old))
+            × (buffer.new ≡ saved_in (image_of self) buffer.old) }
     {
         let values = self.values();
         fields::save(values, buffer)

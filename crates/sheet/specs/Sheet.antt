@@ -28,8 +28,8 @@ place_of mode.Remote = 5
 place_of mode.Ratio = 6
 place_of mode.Fallback = 7
 
-unfoldable pub scansIn : SheetValues → Mode → ℕ
-scansIn v m = get_or v.modes (place_of m) 0
+unfoldable pub scans_in : SheetValues → Mode → ℕ
+scans_in v m = get_or v.modes (place_of m) 0
 
 -- one more of a mode
 unfoldable pub counted : List ℕ → Mode → List ℕ
@@ -37,28 +37,28 @@ counted counts m = set counts (place_of m) (get_or counts (place_of m) 0 + 1)
 
 -- ---- "the greatest and least PV with the number of the scan where each came first (none on an empty sheet)"
 
-abbrev pub isBeyond : Bound → ℤ → ℤ → Bool
-isBeyond Greatest pv other = lt_z other pv
-isBeyond Least pv other = lt_z pv other
+abbrev pub is_beyond : Bound → ℤ → ℤ → Bool
+is_beyond Greatest pv other = lt_z other pv
+is_beyond Least pv other = lt_z pv other
 
 -- after a scan with this PV and number: an equal PV leaves the number, since the earlier one came first
-abbrev pub extremeAfter : Bound → Extreme → ℤ → ℕ → Extreme
-extremeAfter bound None pv number = First (record { pv = pv; number = number })
-extremeAfter bound (First first) pv number =
-    First (if isBeyond bound pv first.pv then record { pv = pv; number = number } else first)
+abbrev pub extreme_after : Bound → Extreme → ℤ → ℕ → Extreme
+extreme_after bound None pv number = First (record { pv = pv; number = number })
+extreme_after bound (First first) pv number =
+    First (if is_beyond bound pv first.pv then record { pv = pv; number = number } else first)
 
 -- ---- "scans with either alarm or both": DS bit 1 is 0 for the low alarm, bit 0 for the high one
 
-abbrev pub hasAlarm : ℕ → Bool
-hasAlarm ds = not (bit ds 0) || not (bit ds 1)
+abbrev pub has_alarm : ℕ → Bool
+has_alarm ds = not (bit ds 0) || not (bit ds 1)
 
-unfoldable pub alarmsAfter : ℕ → ℕ → ℕ
-alarmsAfter alarms ds = if hasAlarm ds then alarms + 1 else alarms
+unfoldable pub alarms_after : ℕ → ℕ → ℕ
+alarms_after alarms ds = if has_alarm ds then alarms + 1 else alarms
 
 -- ---- the sheet
 
-unfoldable pub emptySheet : Sheet
-emptySheet =
+unfoldable pub empty_sheet : Sheet
+empty_sheet =
     record {
       values = record {
         scans = 0;
@@ -78,9 +78,9 @@ taken v a =
     record {
       scans = number;
       modes = counted v.modes a.mode;
-      greatest = extremeAfter Greatest v.greatest a.pv number;
-      least = extremeAfter Least v.least a.pv number;
-      alarms = alarmsAfter v.alarms a.ds;
+      greatest = extreme_after Greatest v.greatest a.pv number;
+      least = extreme_after Least v.least a.pv number;
+      alarms = alarms_after v.alarms a.ds;
       sumpv = v.sumpv +ℤ a.pv;
       sumop = v.sumop +ℤ pos a.op;
     }

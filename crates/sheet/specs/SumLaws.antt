@@ -54,10 +54,10 @@ passed Least here other s x more earlier h k =
     omega (arith, integers, sum s x, raised here other more earlier, raised x other (suc more) more, mul-le-mul_right more step)
 
 -- one that becomes the other extreme: then `last` are short of this one, where `earlier` were
-pub other-passed : (b : Bound) (here other s x : ℤ) (more earlier last : ℕ) →
+pub other_passed : (b : Bound) (here other s x : ℤ) (more earlier last : ℕ) →
     Within b s (reach b here other more earlier) → Within b (reach b (pos 0) other 0 earlier) (reach b (pos 0) here 0 last) →
     Within b (s +ℤ x) (reach b here x (suc more) last)
-other-passed Greatest here other s x more earlier last h k =
+other_passed Greatest here other s x more earlier last h k =
     omega (
       arith,
       integers,
@@ -67,7 +67,7 @@ other-passed Greatest here other s x more earlier last h k =
       lowered (pos 0) other 0 earlier,
       lowered (pos 0) here 0 last,
     )
-other-passed Least here other s x more earlier last h k =
+other_passed Least here other s x more earlier last h k =
     omega (
       arith,
       integers,
@@ -88,47 +88,47 @@ pub record Held (pv : ℤ) : Type 0 where
 pub held_by : (pv : ℤ) → mag pv < 2147483648 → Held pv
 held_by pv h = record { least = omega (arith, integers, known pv); most = omega (arith, integers, known pv) }
 
-most-above : (pv : ℤ) → Held pv → above pv ≤ 2147483647
-most-above pv h = omega (arith, integers, h.most)
+most_above : (pv : ℤ) → Held pv → above pv ≤ 2147483647
+most_above pv h = omega (arith, integers, h.most)
 
-most-below : (pv : ℤ) → Held pv → below pv ≤ 2147483648
-most-below pv h = omega (arith, integers, h.least)
+most_below : (pv : ℤ) → Held pv → below pv ≤ 2147483648
+most_below pv h = omega (arith, integers, h.least)
 
-pub held-size : (pv : ℤ) → Held pv → nat_abs pv ≤ 2147483648
-held-size pv h = omega (arith, integers, h.least, h.most, number pv, apart pv)
+pub held_size : (pv : ℤ) → Held pv → nat_abs pv ≤ 2147483648
+held_size pv h = omega (arith, integers, h.least, h.most, number pv, apart pv)
 
 -- a number that is p - q, by a balance as above
 balanced : (z : ℤ) (p q n : ℕ) → above z + q ≡ below z + p → p ≤ n + q → q ≤ n + p → nat_abs z ≤ n
 balanced z p q n e h k = omega (arith, number z, apart z)
 
 -- a bound, where it is one: with none short of the extreme, or with the other extreme inside it
-pub reach-fits : (b : Bound) (here other : ℤ) (more earlier : ℕ) → earlier ≤ more → Held here → Held other →
+pub reach_fits : (b : Bound) (here other : ℤ) (more earlier : ℕ) → earlier ≤ more → Held here → Held other →
     (earlier ≡ 0) ⊎ Inside b other here → nat_abs (reach b here other more earlier) ≤ 2147483648 * suc more
-reach-fits Greatest here other more earlier e h k short =
+reach_fits Greatest here other more earlier e h k short =
     balanced (reach Greatest here other more earlier) (above here * more + above other) (below here * more + below other + earlier)
     (2147483648 * suc more) (lowered here other more earlier)
-    (let most = mul-le-mul_right more (most-above here h) in omega (arith, most-above other k))
-    (below-most short)
+    (let most = mul-le-mul_right more (most_above here h) in omega (arith, most_above other k))
+    (below_most short)
   where
-    below-most : (earlier ≡ 0) ⊎ Inside Greatest other here →
+    below_most : (earlier ≡ 0) ⊎ Inside Greatest other here →
         below here * more + below other + earlier ≤ 2147483648 * suc more + (above here * more + above other)
-    below-most (inl none) = let most = mul-le-mul_right more (most-below here h) in omega (arith, most-below other k)
-    below-most (inr inside) =
-        let less : below here ≤ 2147483647 = omega (arith, integers, most-below other k, apart here, apart other) in
+    below_most (inl none) = let most = mul-le-mul_right more (most_below here h) in omega (arith, most_below other k)
+    below_most (inr inside) =
+        let less : below here ≤ 2147483647 = omega (arith, integers, most_below other k, apart here, apart other) in
         let most = mul-le-mul_right more less in
-        omega (arith, most-below other k)
-reach-fits Least here other more earlier e h k short =
+        omega (arith, most_below other k)
+reach_fits Least here other more earlier e h k short =
     balanced (reach Least here other more earlier) (above here * more + above other + earlier) (below here * more + below other)
     (2147483648 * suc more) (raised here other more earlier)
-    (let most = mul-le-mul_right more (most-above here h) in omega (arith, most-above other k))
-    (let most = mul-le-mul_right more (most-below here h) in omega (arith, most-below other k))
+    (let most = mul-le-mul_right more (most_above here h) in omega (arith, most_above other k))
+    (let most = mul-le-mul_right more (most_below here h) in omega (arith, most_below other k))
 
 -- a sum between the two bounds
 pub sum_fits : (most least s : ℤ) (more first last : ℕ) → Held most → Held least → s ≤ℤ reach Greatest most least more first →
     reach Least least most more last ≤ℤ s → nat_abs s ≤ 2147483648 * suc more
 sum_fits most least s more first last h k upper lower =
-    let above_most = mul-le-mul_right more (most-above most h) in
-    let below-most = mul-le-mul_right more (most-below least k) in
+    let above_most = mul-le-mul_right more (most_above most h) in
+    let below_most = mul-le-mul_right more (most_below least k) in
     balanced s (above s) (below s) (2147483648 * suc more) (omega arith)
-    (omega (arith, integers, lowered most least more first, most-above least k, upper))
-    (omega (arith, integers, raised least most more last, most-below most h, lower))
+    (omega (arith, integers, lowered most least more first, most_above least k, upper))
+    (omega (arith, integers, raised least most more last, most_below most h, lower))

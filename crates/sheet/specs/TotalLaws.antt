@@ -6,15 +6,15 @@ use Rattle.modes.specs.declared.Mode.TheVariants as mode
 use Rattle.sheet.specs.Sheet.{place_of}
 use Rattle.sheet.specs.Valid.{total}
 
-pub place-few : (m : Mode) → place_of m < 8
-place-few mode.Hold = omega arith
-place-few mode.Track = omega arith
-place-few mode.Forced = omega arith
-place-few mode.Manual = omega arith
-place-few mode.Auto = omega arith
-place-few mode.Remote = omega arith
-place-few mode.Ratio = omega arith
-place-few mode.Fallback = omega arith
+pub place_few : (m : Mode) → place_of m < 8
+place_few mode.Hold = omega arith
+place_few mode.Track = omega arith
+place_few mode.Forced = omega arith
+place_few mode.Manual = omega arith
+place_few mode.Auto = omega arith
+place_few mode.Remote = omega arith
+place_few mode.Ratio = omega arith
+place_few mode.Fallback = omega arith
 
 pub count_most : (ns : List ℕ) (k : ℕ) → get_or ns k 0 ≤ total ns
 unfolding total
@@ -22,18 +22,18 @@ count_most [] k = omega arith
 count_most (n ∷ ns) zero = omega arith
 count_most (n ∷ ns) (suc k) = let h = count_most ns k in omega arith
 
-pub total-more : (ns : List ℕ) (k : ℕ) → k < length ns → total (set ns k (get_or ns k 0 + 1)) ≡ total ns + 1
+pub total_more : (ns : List ℕ) (k : ℕ) → k < length ns → total (set ns k (get_or ns k 0 + 1)) ≡ total ns + 1
 unfolding total
-total-more [] k h = absurd (omega arith)
-total-more (n ∷ ns) zero h = omega arith
-total-more (n ∷ ns) (suc k) h = let e = total-more ns k (omega arith) in omega arith
+total_more [] k h = absurd (omega arith)
+total_more (n ∷ ns) zero h = omega arith
+total_more (n ∷ ns) (suc k) h = let e = total_more ns k (omega arith) in omega arith
 
-next-count : (ns : List ℕ) (k : ℕ) → total (drop k ns) ≡ get_or ns k 0 + total (drop (suc k) ns)
+next_count : (ns : List ℕ) (k : ℕ) → total (drop k ns) ≡ get_or ns k 0 + total (drop (suc k) ns)
 unfolding total
-next-count [] zero = refl
-next-count [] (suc k) = refl
-next-count (n ∷ ns) zero = refl
-next-count (n ∷ ns) (suc k) = next-count ns k
+next_count [] zero = refl
+next_count [] (suc k) = refl
+next_count (n ∷ ns) zero = refl
+next_count (n ∷ ns) (suc k) = next_count ns k
 
 none_left : (ns : List ℕ) (k : ℕ) → length ns ≡ k → total (drop k ns) ≡ 0
 unfolding total
@@ -43,18 +43,18 @@ none_left (n ∷ ns) zero e = absurd (omega arith)
 none_left (n ∷ ns) (suc k) e = none_left ns k (omega arith)
 
 -- of as many counts as there are modes, in the order in which they are added up
-pub total-eight : (ns : List ℕ) → length ns ≡ 8 →
+pub total_eight : (ns : List ℕ) → length ns ≡ 8 →
     total ns ≡ get_or ns 0 0 + get_or ns 1 0 + get_or ns 2 0 + get_or ns 3 0 + get_or ns 4 0 + get_or ns 5 0 + get_or ns 6 0 + get_or ns 7 0
-total-eight ns size =
+total_eight ns size =
     omega (
       arith,
-      next-count ns 0,
-      next-count ns 1,
-      next-count ns 2,
-      next-count ns 3,
-      next-count ns 4,
-      next-count ns 5,
-      next-count ns 6,
-      next-count ns 7,
+      next_count ns 0,
+      next_count ns 1,
+      next_count ns 2,
+      next_count ns 3,
+      next_count ns 4,
+      next_count ns 5,
+      next_count ns 6,
+      next_count ns 7,
       none_left ns 8 size,
     )

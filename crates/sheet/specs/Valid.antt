@@ -4,7 +4,7 @@
 use Rattle.std.specs.Prelude.{◌≡◌, Bool, true, false, not, ◌&&◌, ◌||◌, List, [], ◌∷◌, ℕ, ◌+◌, ◌-◌, ◌*◌, eqb, leb, ltb, ℤ, pos, neg_ℤ, ◌+ℤ◌, ◌-ℤ◌, ◌*ℤ◌, length}
 use Rattle.std.specs.Int.Signed.{le_z, lt_z}
 use Rattle.integers.specs.Choice.{if◌then◌else◌}
-use Rattle.sheet.specs.Sheet.{emptySheet}
+use Rattle.sheet.specs.Sheet.{empty_sheet}
 use Rattle.sheet.specs.declared.Bound.{Bound}
 use Rattle.sheet.specs.declared.Bound.TheVariants.{Greatest, Least}
 use Rattle.sheet.specs.declared.Extreme.{Extreme}
@@ -18,43 +18,43 @@ use Rattle.sheet.specs.declared.Validity.TheVariants as validity
 -- ---- PV
 
 -- the number of a scan of the sheet, and a PV, which has 32 bits
-unfoldable pub isOccurrence : ℕ → Occurrence → Bool
-isOccurrence scans first =
+unfoldable pub is_occurrence : ℕ → Occurrence → Bool
+is_occurrence scans first =
     leb 1 first.number && leb first.number scans &&
     le_z (neg_ℤ (pos 2147483648)) first.pv && le_z first.pv (pos 2147483647)
 
 -- Where the least PV lies below the greatest, each came first at a number of its own, and the first scan of all is one
 -- of the two, or had a PV between them. Otherwise all are equal, and both came first at number 1
-unfoldable pub inOrder : Occurrence → Occurrence → Bool
-inOrder greatest least =
+unfoldable pub in_order : Occurrence → Occurrence → Bool
+in_order greatest least =
     if lt_z least.pv greatest.pv then
     not (eqb greatest.number least.number) &&
     ((eqb greatest.number 1 || eqb least.number 1) || lt_z (least.pv +ℤ pos 1) greatest.pv)
     else (le_z least.pv greatest.pv && eqb greatest.number 1 && eqb least.number 1)
 
 -- how many scans stand before number `here`, the one at `other` left out
-unfoldable pub scansBefore : ℕ → ℕ → ℕ
-scansBefore here other = if ltb other here then here - 2 else here - 1
+unfoldable pub scans_before : ℕ → ℕ → ℕ
+scans_before here other = if ltb other here then here - 2 else here - 1
 
 -- The greatest sum: all scans have the greatest PV but for one that has the least; and those before the first of the
 -- greatest PV are below it, by 1. The least sum likewise
-unfoldable pub sumBound : Bound → ℕ → Occurrence → Occurrence → ℤ
-sumBound Greatest scans here other =
-    (here.pv *ℤ pos (scans - 1)) +ℤ other.pv -ℤ pos (scansBefore here.number other.number)
-sumBound Least scans here other =
-    (here.pv *ℤ pos (scans - 1)) +ℤ other.pv +ℤ pos (scansBefore here.number other.number)
+unfoldable pub sum_bound : Bound → ℕ → Occurrence → Occurrence → ℤ
+sum_bound Greatest scans here other =
+    (here.pv *ℤ pos (scans - 1)) +ℤ other.pv -ℤ pos (scans_before here.number other.number)
+sum_bound Least scans here other =
+    (here.pv *ℤ pos (scans - 1)) +ℤ other.pv +ℤ pos (scans_before here.number other.number)
 
-unfoldable pub isPossible : ℕ → Occurrence → Occurrence → ℤ → Bool
-isPossible scans greatest least sum =
-    isOccurrence scans greatest && isOccurrence scans least && inOrder greatest least &&
-    (le_z (sumBound Least scans least greatest) sum && le_z sum (sumBound Greatest scans greatest least))
+unfoldable pub is_possible : ℕ → Occurrence → Occurrence → ℤ → Bool
+is_possible scans greatest least sum =
+    is_occurrence scans greatest && is_occurrence scans least && in_order greatest least &&
+    (le_z (sum_bound Least scans least greatest) sum && le_z sum (sum_bound Greatest scans greatest least))
 
 -- "none on an empty sheet"
-abbrev pub areExtremes : ℕ → Extreme → Extreme → ℤ → Bool
-areExtremes scans None None sum = eqb scans 0 && le_z (pos 0) sum && le_z sum (pos 0)
-areExtremes scans None (First least) sum = false
-areExtremes scans (First greatest) None sum = false
-areExtremes scans (First greatest) (First least) sum = isPossible scans greatest least sum
+abbrev pub are_extremes : ℕ → Extreme → Extreme → ℤ → Bool
+are_extremes scans None None sum = eqb scans 0 && le_z (pos 0) sum && le_z sum (pos 0)
+are_extremes scans None (First least) sum = false
+are_extremes scans (First greatest) None sum = false
+are_extremes scans (First greatest) (First least) sum = is_possible scans greatest least sum
 
 -- ---- the other values
 
@@ -64,19 +64,19 @@ total [] = 0
 total (n ∷ ns) = n + total ns
 
 -- an answer's OP has 16 bits
-abbrev pub isSumOP : ℕ → ℤ → Bool
-isSumOP scans sum = le_z (pos 0) sum && le_z sum (pos (65535 * scans))
+abbrev pub is_sum_op : ℕ → ℤ → Bool
+is_sum_op scans sum = le_z (pos 0) sum && le_z sum (pos (65535 * scans))
 
-unfoldable pub isValid : SheetValues → Bool
-isValid v =
+unfoldable pub is_valid : SheetValues → Bool
+is_valid v =
     leb v.scans 4294967295 && eqb (length v.modes) 8 && eqb (total v.modes) v.scans && leb v.alarms v.scans &&
-    areExtremes v.scans v.greatest v.least v.sumpv && isSumOP v.scans v.sumop
+    are_extremes v.scans v.greatest v.least v.sumpv && is_sum_op v.scans v.sumop
 
 pub record Valid (s : Sheet) : Type 0 where
-  pub tested : isValid s.values ≡ true
+  pub tested : is_valid s.values ≡ true
 
 -- what isn't valid is refused, and an empty sheet stands in its place
-unfoldable pub keptSheet : SheetValues → KeptResult
-keptSheet v =
-    if isValid v then record { sheet = record { values = v }; validity = validity.Valid } else
-    record { sheet = emptySheet; validity = validity.Invalid }
+unfoldable pub kept_sheet : SheetValues → KeptResult
+kept_sheet v =
+    if is_valid v then record { sheet = record { values = v }; validity = validity.Valid } else
+    record { sheet = empty_sheet; validity = validity.Invalid }

@@ -2,8 +2,8 @@
 // an answer's types hold.
 ghost use Rattle.std.specs.Prelude.{◌≡◌, true, ◌+◌, ◌≤◌, ◌<◌};
 ghost use Rattle.sheet.specs.ExtremeLaws.{Bounded};
-ghost use Rattle.sheet.specs.Valid.{total, scansBefore, sumBound, isOccurrence, inOrder, isPossible};
-ghost use Rattle.sheet.specs.Valid.{areExtremes, isSumOP, isValid, Valid, keptSheet};
+ghost use Rattle.sheet.specs.Valid.{total, scans_before, sum_bound, is_occurrence, in_order, is_possible};
+ghost use Rattle.sheet.specs.Valid.{are_extremes, is_sum_op, is_valid, Valid, kept_sheet};
 
 use crate::{Bound, Extreme, KeptResult, Occurrence, Sheet, SheetValues, Validity};
 
@@ -29,7 +29,7 @@ fn total(counts: [u32; 8]) -> u64
 // How many scans stand before number `here`, the one at `other` left out.
 fn scans_before(here: u32, other: u32) -> u32
     requires { (1 ≤ here) × (1 ≤ other) }
-    ensures { result ≡ scansBefore here other }
+    ensures { result ≡ scans_before here other }
 {
     if other < here { here - 2 } else { here - 1 }
 }
@@ -37,7 +37,7 @@ fn scans_before(here: u32, other: u32) -> u32
 // The greatest or the least sum that scans can give, with these extremes: `here` is the one of that bound.
 fn sum_bound(bound: Bound, scans: u32, here: Occurrence, other: Occurrence) -> i64
     requires { Bounded bound scans here other × (scans ≤ 4294967295) }
-    ensures { result ≡ sumBound bound scans here other }
+    ensures { result ≡ sum_bound bound scans here other }
 {
     let all = integers::times(integers::wide(here.pv), (scans - 1) as u64);
     let sum = integers::sum(all, integers::wide(other.pv));
@@ -49,13 +49,13 @@ fn sum_bound(bound: Bound, scans: u32, here: Occurrence, other: Occurrence) -> i
 }
 
 fn is_occurrence(scans: u32, first: Occurrence) -> bool
-    ensures { result ≡ isOccurrence scans first }
+    ensures { result ≡ is_occurrence scans first }
 {
     (1 <= first.number) & (first.number <= scans)
 }
 
 fn in_order(greatest: Occurrence, least: Occurrence) -> bool
-    ensures { result ≡ inOrder greatest least }
+    ensures { result ≡ in_order greatest least }
 {
     let at = greatest.number;
     let other = least.number;
@@ -69,7 +69,7 @@ fn in_order(greatest: Occurrence, least: Occurrence) -> bool
 }
 
 fn is_possible(scans: u32, greatest: Occurrence, least: Occurrence, sum: i64) -> bool
-    ensures { result ≡ isPossible scans greatest least sum }
+    ensures { result ≡ is_possible scans greatest least sum }
 {
     if is_occurrence(scans, greatest) & is_occurrence(scans, least) & in_order(greatest, least) {
         let low = sum_bound(Bound::Least, scans, least, greatest);
@@ -80,7 +80,7 @@ fn is_possible(scans: u32, greatest: Occurrence, least: Occurrence, sum: i64) ->
 }
 
 fn are_extremes(scans: u32, greatest: Extreme, least: Extreme, sum: i64) -> bool
-    ensures { result ≡ areExtremes scans greatest least sum }
+    ensures { result ≡ are_extremes scans greatest least sum }
 {
     match greatest {
         Extreme::None => match least {
@@ -97,14 +97,14 @@ fn are_extremes(scans: u32, greatest: Extreme, least: Extreme, sum: i64) -> bool
 }
 
 fn is_sum_op(scans: u32, sum: i64) -> bool
-    ensures { result ≡ isSumOP scans sum }
+    ensures { result ≡ is_sum_op scans sum }
 {
     integers::not_above(0, sum) & integers::not_above(sum, (MOST_OP * scans as u64) as i64)
 }
 
 // The contract rules out values that no answers give, and the refusal of values that some do.
 fn is_valid(values: SheetValues) -> bool
-    ensures { result ≡ isValid values }
+    ensures { result ≡ is_valid values }
 {
     let scans = values.scans;
     let modes = values.modes;
@@ -121,7 +121,7 @@ impl Sheet {
     // The sheet with these values, if it is a valid one. The contract rules out that anything of an invalid one is
     // taken, and a sheet that the next call could not take.
     pub fn kept(values: SheetValues) -> KeptResult
-        ensures { (result ≡ keptSheet values) × Valid result.sheet }
+        ensures { (result ≡ kept_sheet values) × Valid result.sheet }
     {
         if is_valid(values) {
             return KeptResult {

@@ -1,9 +1,9 @@
 // The drying sheet of a lot, document 02, request 1: what the answers of accepted scans give, one entered after
 // another.
 ghost use Rattle.std.specs.Prelude.{◌≡◌, true, ◌<◌};
-ghost use Rattle.sheet.specs.Sheet.{place_of, isBeyond, extremeAfter, hasAlarm, alarmsAfter, emptySheet};
+ghost use Rattle.sheet.specs.Sheet.{place_of, is_beyond, extreme_after, has_alarm, alarms_after, empty_sheet};
 ghost use Rattle.sheet.specs.Sheet.{taken, entered};
-ghost use Rattle.sheet.specs.Valid.{isValid, Valid};
+ghost use Rattle.sheet.specs.Valid.{is_valid, Valid};
 
 use answers::ScanValues;
 use modes::Mode;
@@ -105,7 +105,7 @@ fn place(mode: Mode) -> usize
 
 // Whether a PV lies beyond another. The contract rules out an equal one.
 fn is_beyond(bound: Bound, pv: i32, other: i32) -> bool
-    ensures { result ≡ isBeyond bound pv other }
+    ensures { result ≡ is_beyond bound pv other }
 {
     match bound {
         Bound::Greatest => other < pv,
@@ -115,7 +115,7 @@ fn is_beyond(bound: Bound, pv: i32, other: i32) -> bool
 
 // An extreme after one more scan. The contract rules out that a later equal PV moves the number.
 fn extreme_after(bound: Bound, extreme: Extreme, pv: i32, number: u32) -> Extreme
-    ensures { result ≡ extremeAfter bound extreme pv number }
+    ensures { result ≡ extreme_after bound extreme pv number }
 {
     match extreme {
         Extreme::None => Extreme::First(Occurrence { pv, number }),
@@ -131,14 +131,14 @@ fn extreme_after(bound: Bound, extreme: Extreme, pv: i32, number: u32) -> Extrem
 
 // "scans with either alarm or both". The contract rules out that only one of them counts, and battery or cause as one.
 fn has_alarm(ds: u16) -> bool
-    ensures { result ≡ hasAlarm ds }
+    ensures { result ≡ has_alarm ds }
 {
     !signals::bit(ds, 0) | !signals::bit(ds, 1)
 }
 
 fn alarms_after(alarms: u32, ds: u16) -> u32
     requires { alarms < 4294967295 }
-    ensures { result ≡ alarmsAfter alarms ds }
+    ensures { result ≡ alarms_after alarms ds }
 {
     if has_alarm(ds) { alarms + 1 } else { alarms }
 }
@@ -146,8 +146,8 @@ fn alarms_after(alarms: u32, ds: u16) -> u32
 impl SheetValues {
     // What the sheet holds with one more answer. The contract also says that this can be a sheet's values again.
     fn with(self, answer: ScanValues) -> SheetValues
-        requires { (self.scans < 4294967295) × (isValid self ≡ true) }
-        ensures { (result ≡ taken self answer) × (isValid result ≡ true) }
+        requires { (self.scans < 4294967295) × (is_valid self ≡ true) }
+        ensures { (result ≡ taken self answer) × (is_valid result ≡ true) }
     {
         let number = self.scans + 1;
         let pv = answer.pv;
@@ -172,7 +172,7 @@ impl SheetValues {
 impl Sheet {
     // A sheet that no answer was entered in.
     pub fn empty() -> Sheet
-        ensures { (result ≡ emptySheet) × Valid result }
+        ensures { (result ≡ empty_sheet) × Valid result }
     {
         Sheet {
             values: SheetValues {

@@ -1,6 +1,6 @@
 // What a sheet hands out. Each contract rules out that a value is another's.
 ghost use Rattle.std.specs.Prelude.{◌≡◌};
-ghost use Rattle.sheet.specs.Sheet.{scansIn};
+ghost use Rattle.sheet.specs.Sheet.{scans_in};
 
 use crate::{Extreme, Mean, Sheet, SheetValues};
 use modes::Mode;
@@ -21,7 +21,7 @@ impl Sheet {
     }
 
     pub fn scans_in(self, mode: Mode) -> u32
-        ensures { result ≡ scansIn self.values mode }
+        ensures { result ≡ scans_in self.values mode }
     {
         let values = self.values;
         let modes = values.modes;

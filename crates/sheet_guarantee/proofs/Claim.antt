@@ -9,10 +9,10 @@ use lib.ListN.{get_or}
 use borrow.Author.Tests.{leb-true, leb-false, eq-eqb, ne_eqb}
 use Rattle.integers.specs.Choice.{if◌then◌else◌, by_cases, never}
 use Rattle.answers.specs.declared.ScanValues.{ScanValues}
-use Rattle.sheet.specs.EnteredLaws.{parts, empty-valid, entered-valid}
+use Rattle.sheet.specs.EnteredLaws.{parts, empty_valid, entered_valid}
 use Rattle.sheet.specs.Sheet as rules
-use Rattle.sheet.specs.Sheet.{scansIn, emptySheet}
-use Rattle.sheet.specs.Valid.{Valid, keptSheet, isValid}
+use Rattle.sheet.specs.Sheet.{scans_in, empty_sheet}
+use Rattle.sheet.specs.Valid.{Valid, kept_sheet, is_valid}
 use Rattle.sheet.specs.declared.Validity.{Validity}
 use Rattle.sheet.specs.declared.EnterResult.{EnterResult}
 use Rattle.sheet.specs.declared.Entry.{Entry}
@@ -23,12 +23,12 @@ use Rattle.sheet.specs.declared.SheetValues.{SheetValues}
 use Rattle.sheet.specs.declared.KeptResult.{KeptResult}
 use Rattle.sheet.specs.declared.Validity.TheVariants as validity
 use Rattle.sheet.specs.declared.Mean.{Mean}
-use Rattle.sheet_guarantee.specs.Claim.{FullExactly, no-entry, and-entry, Results, Always}
+use Rattle.sheet_guarantee.specs.Claim.{FullExactly, no_entry, and_entry, Results, Always}
 use Rattle.sheet_guarantee.specs.Claim.{AlwaysLinked}
 use Rattle.sheet_guarantee.specs.Linked.{Linked, started, entered, kept, refused, taken_of}
 use Rattle.sheet_guarantee.specs.Meaning.{Answers, none, ◌then◌, many, IsExtreme, Gives}
 use Rattle.sheet_guarantee.proofs.Unique.{answerable}
-use Rattle.sheet_guarantee.proofs.Step.{place_is, empty-gives, taken-gives}
+use Rattle.sheet_guarantee.proofs.Step.{place_is, empty_gives, taken_gives}
 
 -- ---- what an answer does to a sheet
 
@@ -47,9 +47,9 @@ next ys = if eqb (many ys) 4294967295 then Full else Taken
 abbrev Entered : Answers → List Entry → ScanValues → EnterResult → Type 0
 Entered xs es a r = (r.entry ≡ next (taken_of xs es)) × Gives (taken_of (xs then a) (r.entry ∷ es)) r.sheet.values
 
-one_more : (xs : Answers) (es : List Entry) (s : Sheet) (a : ScanValues) → Holds (taken_of xs es) s → Entered xs es a (rules.entered s a)
+one_more_lem : (xs : Answers) (es : List Entry) (s : Sheet) (a : ScanValues) → Holds (taken_of xs es) s → Entered xs es a (rules.entered s a)
 unfolding rules.entered
-one_more xs es s a h =
+one_more_lem xs es s a h =
     let ys = taken_of xs es in
     let scans = s.values.scans in
     let many_is = h.gives.scans in
@@ -59,82 +59,82 @@ one_more xs es s a h =
     (rw (eq-eqb (many ys) 4294967295 full) refl, h.gives))
     (λ e.
     let room : many ys ≡ 4294967295 → ⊥ = λ q. omega (arith, leb-false 4294967295 scans e, many_is, q) in
-    (rw (ne_eqb (many ys) 4294967295 room) refl, taken-gives ys s.values a h.gives))
+    (rw (ne_eqb (many ys) 4294967295 room) refl, taken_gives ys s.values a h.gives))
 
 -- a full sheet is left as it was
 abbrev Stays : Sheet → EnterResult → Type 0
 Stays s r = r.entry ≡ Full → r.sheet ≡ s
 
 apart : Taken ≡ Full → ⊥
-apart e = let z : ◌≡◌ {A = Bool} false true = ap is-full e in never z
+apart e = let z : ◌≡◌ {A = Bool} false true = ap is_full e in never z
   where
-    is-full : Entry → Bool
-    is-full Taken = false
-    is-full Full = true
+    is_full : Entry → Bool
+    is_full Taken = false
+    is_full Full = true
 
-full-stays : (s : Sheet) (a : ScanValues) → Stays s (rules.entered s a)
+full_stays : (s : Sheet) (a : ScanValues) → Stays s (rules.entered s a)
 unfolding rules.entered
-full-stays s a = by_cases (Stays s) (leb 4294967295 s.values.scans) _ _ (λ e. λ q. refl) (λ e. λ q. absurd (apart q))
+full_stays s a = by_cases (Stays s) (leb 4294967295 s.values.scans) _ _ (λ e. λ q. refl) (λ e. λ q. absurd (apart q))
 
 -- values that were kept of a valid sheet give it again
-same-again : (s : Sheet) → Valid s → keptSheet s.values ≡ record { sheet = s; validity = validity.Valid }
-unfolding keptSheet
-same-again s v = rw v.tested refl
+same_again : (s : Sheet) → Valid s → kept_sheet s.values ≡ record { sheet = s; validity = validity.Valid }
+unfolding kept_sheet
+same_again s v = rw v.tested refl
 
-kept-is : (s : Sheet) (v : SheetValues) (r : KeptResult) → Valid s → v ≡ s.values → r ≡ keptSheet v →
+kept_is : (s : Sheet) (v : SheetValues) (r : KeptResult) → Valid s → v ≡ s.values → r ≡ kept_sheet v →
     r ≡ record { sheet = s; validity = validity.Valid }
-kept-is s v r valid e q = q ∙ ap keptSheet e ∙ same-again s valid
+kept_is s v r valid e q = q ∙ ap kept_sheet e ∙ same_again s valid
 
 -- values that were refused leave an empty sheet
 abbrev EmptyIfInvalid : KeptResult → Type 0
-EmptyIfInvalid r = r.validity ≡ validity.Invalid → r.sheet ≡ emptySheet
+EmptyIfInvalid r = r.validity ≡ validity.Invalid → r.sheet ≡ empty_sheet
 
 differs : validity.Valid ≡ validity.Invalid → ⊥
-differs e = let z : ◌≡◌ {A = Bool} false true = ap is-invalid e in never z
+differs e = let z : ◌≡◌ {A = Bool} false true = ap is_invalid e in never z
   where
-    is-invalid : Validity → Bool
-    is-invalid validity.Valid = false
-    is-invalid validity.Invalid = true
+    is_invalid : Validity → Bool
+    is_invalid validity.Valid = false
+    is_invalid validity.Invalid = true
 
-empty-again : (v : SheetValues) → EmptyIfInvalid (keptSheet v)
-unfolding keptSheet
-empty-again v = by_cases EmptyIfInvalid (isValid v) _ _ (λ e. λ q. absurd (differs q)) (λ e. λ q. refl)
+empty_again : (v : SheetValues) → EmptyIfInvalid (kept_sheet v)
+unfolding kept_sheet
+empty_again v = by_cases EmptyIfInvalid (is_valid v) _ _ (λ e. λ q. absurd (differs q)) (λ e. λ q. refl)
 
 -- ---- after every list
 
 holds : {xs : Answers} {es : List Entry} {s : Sheet} → Linked xs es s → Holds (taken_of xs es) s
 holds (started r e) =
-    record { gives = subst (λ (s : Sheet). Gives none s.values) (sym e.0) empty-gives; valid = e.1 }
+    record { gives = subst (λ (s : Sheet). Gives none s.values) (sym e.0) empty_gives; valid = e.1 }
 holds (entered {xs} {es} {s} a r l e) =
-    record { gives = (subst (Entered xs es a) (sym e.0) (one_more xs es s a (holds l))).1; valid = e.1 }
+    record { gives = (subst (Entered xs es a) (sym e.0) (one_more_lem xs es s a (holds l))).1; valid = e.1 }
 holds (kept {xs} {es} {s} v r l d e) =
-    let same = kept-is s v r (holds l).valid d e.0 in
+    let same = kept_is s v r (holds l).valid d e.0 in
     subst (Holds (taken_of xs es)) (sym (ap (λ (r : KeptResult). r.sheet) same)) (holds l)
 holds (refused v r e i) =
-    let none_in = subst EmptyIfInvalid (sym e.0) (empty-again v) i in
-    record { gives = subst (λ (s : Sheet). Gives none s.values) (sym none_in) empty-gives; valid = e.1 }
+    let none_in = subst EmptyIfInvalid (sym e.0) (empty_again v) i in
+    record { gives = subst (λ (s : Sheet). Gives none s.values) (sym none_in) empty_gives; valid = e.1 }
 
-full-exactly : {xs : Answers} {es : List Entry} {s : Sheet} → Linked xs es s → FullExactly xs es
-full-exactly (started r e) = no-entry
-full-exactly (entered {xs} {es} {s} a r l e) =
-    and-entry (full-exactly l) (subst (Entered xs es a) (sym e.0) (one_more xs es s a (holds l))).0
-full-exactly (kept v r l d e) = full-exactly l
-full-exactly (refused v r e i) = no-entry
+full_exactly : {xs : Answers} {es : List Entry} {s : Sheet} → Linked xs es s → FullExactly xs es
+full_exactly (started r e) = no_entry
+full_exactly (entered {xs} {es} {s} a r l e) =
+    and_entry (full_exactly l) (subst (Entered xs es a) (sym e.0) (one_more_lem xs es s a (holds l))).0
+full_exactly (kept v r l d e) = full_exactly l
+full_exactly (refused v r e i) = no_entry
 
 results : (ys : Answers) (s : Sheet) → Holds ys s → Results ys s
-unfolding scansIn
+unfolding scans_in
 results ys s h =
     let g = h.gives in
     record {
       scans = λ r e. e ∙ g.scans;
-      in-mode = λ m r e. e ∙ ap (λ (k : ℕ). get_or s.values.modes k 0) (place_is m) ∙ g.modes m;
+      in_mode_lem = λ m r e. e ∙ ap (λ (k : ℕ). get_or s.values.modes k 0) (place_is m) ∙ g.modes m;
       greatest = λ r e. subst (IsExtreme Greatest ys) (sym e) g.greatest;
       least = λ r e. subst (IsExtreme Least ys) (sym e) g.least;
-      with-alarm = λ r e. e ∙ g.alarms;
-      sum-pv = λ r e. e ∙ g.sum-pv;
-      sum-op = λ r e. e ∙ g.sum-op;
-      mean-pv = λ r e. (ap (λ (m : Mean). m.sum) e ∙ g.sum-pv, ap (λ (m : Mean). m.count) e ∙ g.scans);
-      mean-op = λ r e. (ap (λ (m : Mean). m.sum) e ∙ g.sum-op, ap (λ (m : Mean). m.count) e ∙ g.scans);
+      with_alarm = λ r e. e ∙ g.alarms;
+      sum_pv_lem = λ r e. e ∙ g.sum_pv_lem;
+      sum_op_lem = λ r e. e ∙ g.sum_op_lem;
+      mean_pv = λ r e. (ap (λ (m : Mean). m.sum) e ∙ g.sum_pv_lem, ap (λ (m : Mean). m.count) e ∙ g.scans);
+      mean_op = λ r e. (ap (λ (m : Mean). m.sum) e ∙ g.sum_op_lem, ap (λ (m : Mean). m.count) e ∙ g.scans);
       values = λ r e. subst (Gives ys) (sym e) g;
     }
 
@@ -143,36 +143,36 @@ always xs es s l =
     let h = holds l in
     record {
       results = results (taken_of xs es) s h;
-      full-exactly = full-exactly l;
-      taken-most = few (taken_of xs es) s h;
-      kept_again = λ v r d e. kept-is s v r h.valid d e.0;
-      full-stays = λ a r e. subst (Stays s) (sym e.0) (full-stays s a);
+      full_exactly = full_exactly l;
+      taken_most = few (taken_of xs es) s h;
+      kept_again = λ v r d e. kept_is s v r h.valid d e.0;
+      full_stays = λ a r e. subst (Stays s) (sym e.0) (full_stays s a);
       ready = record {
-        empty-ready = tt;
-        enter-ready = λ a. h.valid;
-        kept-ready = λ v. tt;
-        values-ready = tt;
-        scans-ready = tt;
-        scans-in-ready = λ m. tt;
-        greatest-ready = tt;
-        least-ready = tt;
-        alarm-ready = tt;
-        sum-pv-ready = tt;
-        sum-op-ready = tt;
-        mean-pv-ready = tt;
-        mean-op-ready = tt;
+        empty_ready = tt;
+        enter_ready = λ a. h.valid;
+        kept_ready = λ v. tt;
+        values_ready = tt;
+        scans_ready = tt;
+        scans_in_ready = λ m. tt;
+        greatest_ready = tt;
+        least_ready = tt;
+        alarm_ready = tt;
+        sum_pv_ready = tt;
+        sum_op_ready = tt;
+        mean_pv_ready = tt;
+        mean_op_ready = tt;
       };
     }
 
 -- ---- such a sheet exists for every list
 
-pub always-linked : AlwaysLinked
-always-linked none h = record { entries = []; last = emptySheet; chain = started emptySheet (refl, empty-valid) }
-always-linked (xs then a) h =
-    let c = always-linked xs h.0 in
+pub always_linked : AlwaysLinked
+always_linked none h = record { entries = []; last = empty_sheet; chain = started empty_sheet (refl, empty_valid) }
+always_linked (xs then a) h =
+    let c = always_linked xs h.0 in
     let r = rules.entered c.last a in
     record {
       entries = r.entry ∷ c.entries;
       last = r.sheet;
-      chain = entered a r c.chain (refl, entered-valid c.last a (holds c.chain).valid (answerable a h.1));
+      chain = entered a r c.chain (refl, entered_valid c.last a (holds c.chain).valid (answerable a h.1));
     }

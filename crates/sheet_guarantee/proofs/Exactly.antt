@@ -13,11 +13,11 @@ use Rattle.integers.specs.Parts.{integers}
 use Rattle.answers.specs.declared.ScanValues.{ScanValues}
 use Rattle.sheet.specs.EnteredLaws.{Parts, parts}
 use Rattle.sheet.specs.ExtremeLaws as laws
-use Rattle.sheet.specs.ExtremeLaws.{order-turned}
+use Rattle.sheet.specs.ExtremeLaws.{order_turned}
 use Rattle.sheet.specs.SumLaws.{Inside}
-use Rattle.sheet.specs.Valid.{areExtremes, isValid, keptSheet}
+use Rattle.sheet.specs.Valid.{are_extremes, is_valid, kept_sheet}
 use Rattle.sheet.specs.TotalLaws.{count_most}
-use Rattle.sheet.specs.ValidLaws.{possible-of, no-scan}
+use Rattle.sheet.specs.ValidLaws.{possible_of, no_scan}
 use Rattle.sheet.specs.declared.Bound.{Bound}
 use Rattle.sheet.specs.declared.Bound.TheVariants.{Greatest, Least}
 use Rattle.sheet.specs.declared.Extreme.{Extreme}
@@ -30,18 +30,18 @@ use Rattle.sheet.specs.declared.Validity.TheVariants.{Valid, Invalid}
 use Rattle.sheet_guarantee.specs.Claim.{Possible, KeptExactly}
 use Rattle.sheet_guarantee.specs.Meaning.{Answers, none, ◌then◌, many, Numbered, latest, earlier, rank}
 use Rattle.sheet_guarantee.specs.Meaning.{NotBeyond, IsFirst, IsExtreme, of_none, of_some}
-use Rattle.sheet_guarantee.proofs.Ends.{end, ends-are}
-use Rattle.sheet_guarantee.proofs.Room.{end-within, end_short, end-at}
+use Rattle.sheet_guarantee.proofs.Ends.{end, ends_are}
+use Rattle.sheet_guarantee.proofs.Room.{end_within, end_short, end_at}
 use Rattle.sheet_guarantee.proofs.Filled.{fill}
-use Rattle.sheet_guarantee.proofs.Unique.{possible-valid}
+use Rattle.sheet_guarantee.proofs.Unique.{possible_valid}
 
 -- an answer with each number
 record Found (xs : Answers) (n : ℕ) : Type 0 where
   answer : ScanValues
   stands : Numbered xs n answer
 
-found-later : (xs : Answers) (a : ScanValues) (n : ℕ) → (n ≤ many xs → Found xs n) → n ≤ many xs + 1 → Found (xs then a) n
-found-later xs a n before t = go (eqb n (many xs + 1)) refl
+found_later : (xs : Answers) (a : ScanValues) (n : ℕ) → (n ≤ many xs → Found xs n) → n ≤ many xs + 1 → Found (xs then a) n
+found_later xs a n before t = go (eqb n (many xs + 1)) refl
   where
     go : (b : Bool) → eqb n (many xs + 1) ≡ b → Found (xs then a) n
     go true e = subst (Found (xs then a)) (sym (eqb-true n (many xs + 1) e)) (record { answer = a; stands = latest })
@@ -50,7 +50,7 @@ found-later xs a n before t = go (eqb n (many xs + 1)) refl
 
 found : (xs : Answers) (n : ℕ) → 1 ≤ n → n ≤ many xs → Found xs n
 found none n f t = absurd (omega arith)
-found (xs then a) n f t = found-later xs a n (λ h. found xs n f h) t
+found (xs then a) n f t = found_later xs a n (λ h. found xs n f h) t
 
 from_one : {xs : Answers} {n : ℕ} {a : ScanValues} → Numbered xs n a → 1 ≤ n
 from_one latest = omega arith
@@ -62,47 +62,47 @@ between_ends : (b : Bound) (pv extreme end : ℤ) → NotBeyond b pv end → Not
 between_ends Greatest pv extreme end h k = omega (arith, integers, h, k)
 between_ends Least pv extreme end h k = omega (arith, integers, h, k)
 
-short-of : (b : Bound) (pv extreme end : ℤ) → NotBeyond b pv end → Inside b end extreme → pv ≡ extreme → ⊥
-short-of Greatest pv extreme end h k e = omega (arith, integers, h, k, e)
-short-of Least pv extreme end h k e = omega (arith, integers, h, k, e)
+short_of : (b : Bound) (pv extreme end : ℤ) → NotBeyond b pv end → Inside b end extreme → pv ≡ extreme → ⊥
+short_of Greatest pv extreme end h k e = omega (arith, integers, h, k, e)
+short_of Least pv extreme end h k e = omega (arith, integers, h, k, e)
 
-same-pv : (b : Bound) (pv extreme : ℤ) → NotBeyond b pv extreme → NotBeyond (laws.opposite b) pv extreme → pv ≡ extreme
-same-pv Greatest pv extreme h k = omega (arith, integers, h, k)
-same-pv Least pv extreme h k = omega (arith, integers, h, k)
+same_pv : (b : Bound) (pv extreme : ℤ) → NotBeyond b pv extreme → NotBeyond (laws.opposite b) pv extreme → pv ≡ extreme
+same_pv Greatest pv extreme h k = omega (arith, integers, h, k)
+same_pv Least pv extreme h k = omega (arith, integers, h, k)
 
 module _ (b : Bound) (here other : Occurrence) (xs : Answers) (o : laws.Order b here other) (from : 1 ≤ here.number)
     (to : here.number ≤ many xs)
     (placed : (n : ℕ) (a : ScanValues) → Numbered xs n a →
     NotBeyond b a.pv (end b here other n) × NotBeyond (laws.opposite b) a.pv (end (laws.opposite b) other here n)) where
   within : (n : ℕ) (a : ScanValues) → Numbered xs n a → NotBeyond b a.pv here.pv
-  within n a h = between_ends b a.pv here.pv (end b here other n) (placed n a h).0 (end-within b here other o n)
+  within n a h = between_ends b a.pv here.pv (end b here other n) (placed n a h).0 (end_within b here other o n)
 
-  not-before : (n : ℕ) (a : ScanValues) → Numbered xs n a → a.pv ≡ here.pv → here.number ≤ n
-  not-before n a h e = go (ltb n here.number) refl
+  not_before : (n : ℕ) (a : ScanValues) → Numbered xs n a → a.pv ≡ here.pv → here.number ≤ n
+  not_before n a h e = go (ltb n here.number) refl
     where
       go : (t : Bool) → ltb n here.number ≡ t → here.number ≤ n
       go true d =
-          absurd (short-of b a.pv here.pv (end b here other n) (placed n a h).0
+          absurd (short_of b a.pv here.pv (end b here other n) (placed n a h).0
           (end_short b here other o n (from_one h) (ltb-true n here.number d)) e)
       go false d = ltb-false n here.number d
 
-  is-first : IsFirst b xs here
-  is-first =
+  is_first : IsFirst b xs here
+  is_first =
       let f = found xs here.number from to in
-      let here_end = subst (NotBeyond (laws.opposite b) f.answer.pv) (end-at (laws.opposite b) other here)
+      let here_end = subst (NotBeyond (laws.opposite b) f.answer.pv) (end_at (laws.opposite b) other here)
       (placed here.number f.answer f.stands).1 in
       record {
         answer = f.answer;
         stands = f.stands;
-        its-pv = same-pv b f.answer.pv here.pv (within here.number f.answer f.stands) here_end;
+        its_pv = same_pv b f.answer.pv here.pv (within here.number f.answer f.stands) here_end;
         not_beyond = within;
-        not-before = not-before;
+        not_before = not_before;
       }
 
 -- ---- the answers of a valid sheet
 
-op-size : (z : ℤ) → pos 0 ≤ℤ z → z ≡ pos (nat_abs z)
-op-size z h = omega (arith, integers, number z)
+op_size : (z : ℤ) → pos 0 ≤ℤ z → z ≡ pos (nat_abs z)
+op_size z h = omega (arith, integers, number z)
 
 module _ (v : SheetValues) (p : Parts v) where
   op : ℕ
@@ -113,29 +113,29 @@ module _ (v : SheetValues) (p : Parts v) where
       laws.Possible Greatest more g l v.sumpv → Possible v
   unfolding op
   filled more g l k d e q =
-      let f = fill g l q.order q.here-held q.other-held (suc more) v.modes v.alarms op v.sumpv p.size (p.counts ∙ k)
-      (omega (arith, p.alarms)) (omega (arith, integers, number v.sumop, p.op-most, p.op-least))
+      let f = fill g l q.order q.here_held q.other_held (suc more) v.modes v.alarms op v.sumpv p.size (p.counts ∙ k)
+      (omega (arith, p.alarms)) (omega (arith, integers, number v.sumop, p.op_most, p.op_least))
       (subst (λ (z : ℤ). z ≤ℤ v.sumpv)
-      (sym (ends-are Least l g more q.other_from q.other-to q.here-from q.here-to)) q.sum-other)
+      (sym (ends_are Least l g more q.other_from q.other_to q.here_from q.here_to)) q.sum_other)
       (subst (λ (z : ℤ). v.sumpv ≤ℤ z)
-      (sym (ends-are Greatest g l more q.here-from q.here-to q.other_from q.other-to)) q.sum-here) in
+      (sym (ends_are Greatest g l more q.here_from q.here_to q.other_from q.other_to)) q.sum_here) in
       record {
         answers = f.answers;
-        in-types = f.in-types;
-        few = omega (arith, f.many-are, p.scans);
+        in_types = f.in_types;
+        few = omega (arith, f.many_are, p.scans);
         gives = record {
-          scans = k ∙ sym f.many-are;
+          scans = k ∙ sym f.many_are;
           size = p.size;
           modes = f.modes;
           greatest = subst (IsExtreme Greatest f.answers) (sym d)
-              (of_some (is-first Greatest g l f.answers q.order q.here-from (omega (arith, f.many-are, q.here-to))
+              (of_some (is_first Greatest g l f.answers q.order q.here_from (omega (arith, f.many_are, q.here_to))
               (λ n a h. ((f.placed n a h).1, (f.placed n a h).0))));
           least = subst (IsExtreme Least f.answers) (sym e)
-              (of_some (is-first Least l g f.answers (order-turned Greatest g l q.order) q.other_from
-              (omega (arith, f.many-are, q.other-to)) (λ n a h. ((f.placed n a h).0, (f.placed n a h).1))));
-          alarms = f.alarms-are;
-          sum-pv = f.pv-is;
-          sum-op = op-size v.sumop p.op-least ∙ ap pos f.op-is;
+              (of_some (is_first Least l g f.answers (order_turned Greatest g l q.order) q.other_from
+              (omega (arith, f.many_are, q.other_to)) (λ n a h. ((f.placed n a h).0, (f.placed n a h).1))));
+          alarms = f.alarms_are;
+          sum_pv_lem = f.pv_is;
+          sum_op_lem = op_size v.sumop p.op_least ∙ ap pos f.op_is;
         };
       }
 
@@ -144,7 +144,7 @@ module _ (v : SheetValues) (p : Parts v) where
   empty k d e q =
       record {
         answers = none;
-        in-types = tt;
+        in_types = tt;
         few = omega arith;
         gives = record {
           scans = k;
@@ -153,43 +153,43 @@ module _ (v : SheetValues) (p : Parts v) where
           greatest = subst (IsExtreme Greatest none) (sym d) of_none;
           least = subst (IsExtreme Least none) (sym e) of_none;
           alarms = omega (arith, p.alarms);
-          sum-pv = q;
-          sum-op = omega (arith, integers, p.op-least, p.op-most);
+          sum_pv_lem = q;
+          sum_op_lem = omega (arith, integers, p.op_least, p.op_most);
         };
       }
 
-  by-extremes : (scans : ℕ) (g l : Extreme) (s : ℤ) → v.scans ≡ scans → v.greatest ≡ g → v.least ≡ l → v.sumpv ≡ s →
-      areExtremes scans g l s ≡ true → Possible v
-  by-extremes scans None None s k d e q t =
+  by_extremes : (scans : ℕ) (g l : Extreme) (s : ℤ) → v.scans ≡ scans → v.greatest ≡ g → v.least ≡ l → v.sumpv ≡ s →
+      are_extremes scans g l s ≡ true → Possible v
+  by_extremes scans None None s k d e q t =
       let a = both (eqb scans 0 && le_z (pos 0) s) (le_z s (pos 0)) t in
       let b = both (eqb scans 0) (le_z (pos 0) s) a.0 in
       empty (k ∙ eqb-true scans 0 b.0) d e (q ∙ omega (arith, integers, a.1, b.1))
-  by-extremes scans None (First l) s k d e q t = never t
-  by-extremes scans (First g) None s k d e q t = never t
-  by-extremes zero (First g) (First l) s k d e q t = absurd (no-scan g l s t)
-  by-extremes (suc more) (First g) (First l) s k d e q t =
-      filled more g l k d e (subst (laws.Possible Greatest more g l) (sym q) (possible-of more g l s t))
+  by_extremes scans None (First l) s k d e q t = never t
+  by_extremes scans (First g) None s k d e q t = never t
+  by_extremes zero (First g) (First l) s k d e q t = absurd (no_scan g l s t)
+  by_extremes (suc more) (First g) (First l) s k d e q t =
+      filled more g l k d e (subst (laws.Possible Greatest more g l) (sym q) (possible_of more g l s t))
 
-  pub some-answers : Possible v
-  some-answers = by-extremes v.scans v.greatest v.least v.sumpv refl refl refl refl p.extremes
+  pub some_answers : Possible v
+  some_answers = by_extremes v.scans v.greatest v.least v.sumpv refl refl refl refl p.extremes
 
 -- ---- over the contract
 
 differs : Invalid ≡ Valid → ⊥
-differs e = let z : ◌≡◌ {A = Bool} false true = ap is-valid e in never z
+differs e = let z : ◌≡◌ {A = Bool} false true = ap is_valid_lem e in never z
   where
-    is-valid : Validity → Bool
-    is-valid Valid = true
-    is-valid Invalid = false
+    is_valid_lem : Validity → Bool
+    is_valid_lem Valid = true
+    is_valid_lem Invalid = false
 
 abbrev Exactly : SheetValues → KeptResult → Type 0
 Exactly v r = (r.validity ≡ Valid → Possible v × (r.sheet.values ≡ v)) × (Possible v → r.validity ≡ Valid)
 
-exactly : (v : SheetValues) → Exactly v (keptSheet v)
-unfolding keptSheet
+exactly : (v : SheetValues) → Exactly v (kept_sheet v)
+unfolding kept_sheet
 exactly v =
-    by_cases (Exactly v) (isValid v) _ _ (λ e. (λ q. (some-answers v (parts v e), refl), λ p. refl))
-    (λ e. (λ q. absurd (differs q), λ p. never (sym e ∙ possible-valid v p)))
+    by_cases (Exactly v) (is_valid v) _ _ (λ e. (λ q. (some_answers v (parts v e), refl), λ p. refl))
+    (λ e. (λ q. absurd (differs q), λ p. never (sym e ∙ possible_valid v p)))
 
-pub kept-exactly : KeptExactly
-kept-exactly v r e = subst (Exactly v) (sym e.0) (exactly v)
+pub kept_exactly : KeptExactly
+kept_exactly v r e = subst (Exactly v) (sym e.0) (exactly v)

@@ -19,9 +19,9 @@ use Rattle.sheet.specs.declared.Occurrence.{Occurrence}
 use Rattle.sheet_guarantee.specs.Meaning.{NotBeyond}
 use Rattle.sheet_guarantee.proofs.Ends.{inner, end, ends}
 
-pub end-within : (b : Bound) (here other : Occurrence) → Order b here other → (n : ℕ) → NotBeyond b (end b here other n) here.pv
+pub end_within : (b : Bound) (here other : Occurrence) → Order b here other → (n : ℕ) → NotBeyond b (end b here other n) here.pv
 unfolding end
-end-within b here other o n =
+end_within b here other o n =
     by_cases (λ (z : ℤ). NotBeyond b z here.pv) (eqb n other.number) _ _ (λ e. extreme b o)
     (λ e. by_cases (λ (z : ℤ). NotBeyond b z here.pv) (ltb n here.number) _ _ (λ u. inside b) (λ u. itself b))
   where
@@ -56,33 +56,33 @@ end_short b here other o n f h =
     inside Least = omega (arith, integers, sum here.pv (pos 1))
 
 -- at the first of the other extreme nothing else is left
-pub end-at : (b : Bound) (here other : Occurrence) → end b here other other.number ≡ other.pv
+pub end_at : (b : Bound) (here other : Occurrence) → end b here other other.number ≡ other.pv
 unfolding end
-end-at b here other = rw (eq-eqb other.number other.number refl) refl
+end_at b here other = rw (eq-eqb other.number other.number refl) refl
 
 module _ (g l : Occurrence) (o : Order Greatest g l) (n : ℕ) (f : 1 ≤ n) where
-  both-short : Order Greatest g l → n < g.number → n < l.number → (l.pv +ℤ pos 1) ≤ℤ (g.pv -ℤ pos 1)
-  both-short (different i d (at_here e)) h k = absurd (omega arith)
-  both-short (different i d (at_other e)) h k = absurd (omega arith)
-  both-short (different i d (between pv u v)) h k = omega (arith, integers, sum l.pv (pos 1), difference g.pv (pos 1), u, v)
-  both-short (equal e u v) h k = absurd (omega arith)
+  both_short : Order Greatest g l → n < g.number → n < l.number → (l.pv +ℤ pos 1) ≤ℤ (g.pv -ℤ pos 1)
+  both_short (different i d (at_here e)) h k = absurd (omega arith)
+  both_short (different i d (at_other e)) h k = absurd (omega arith)
+  both_short (different i d (between pv u v)) h k = omega (arith, integers, sum l.pv (pos 1), difference g.pv (pos 1), u, v)
+  both_short (equal e u v) h k = absurd (omega arith)
 
   apart : Order Greatest g l → (n < g.number) ⊎ (n < l.number) → l.pv <ℤ g.pv
   apart (different i d first) h = i
   apart (equal e u v) (inl h) = absurd (omega arith)
   apart (equal e u v) (inr h) = absurd (omega arith)
 
-  in_order : Order Greatest g l → l.pv ≤ℤ g.pv
-  in_order (different i d first) = omega (arith, integers, i)
-  in_order (equal e u v) = omega (arith, integers, e)
+  in_order_lem : Order Greatest g l → l.pv ≤ℤ g.pv
+  in_order_lem (different i d first) = omega (arith, integers, i)
+  in_order_lem (equal e u v) = omega (arith, integers, e)
 
   together : Order Greatest g l → n ≡ g.number → n ≡ l.number → g.pv ≤ℤ l.pv
   together (different i d first) e u = absurd (d (sym e ∙ u))
   together (equal q v w) e u = omega (arith, integers, q)
 
-  pub ends-ordered : end Least l g n ≤ℤ end Greatest g l n
+  pub ends_ordered : end Least l g n ≤ℤ end Greatest g l n
   unfolding end
-  ends-ordered =
+  ends_ordered =
       go (eqb n g.number) (ltb n l.number) (eqb n l.number) (ltb n g.number) refl refl refl refl
     where
       go : (here below there above : Bool) → eqb n g.number ≡ here → ltb n l.number ≡ below → eqb n l.number ≡ there →
@@ -96,18 +96,18 @@ module _ (g l : Occurrence) (o : Order Greatest g l) (n : ℕ) (f : 1 ≤ n) whe
       go false true true above a b c d =
           let e = eqb-true n l.number c in let u = ltb-true n l.number b in absurd (omega arith)
       go false false true above a b c d = omega (arith, integers)
-      go false true false true a b c d = both-short o (ltb-true n g.number d) (ltb-true n l.number b)
+      go false true false true a b c d = both_short o (ltb-true n g.number d) (ltb-true n l.number b)
       go false true false false a b c d =
           omega (arith, integers, sum l.pv (pos 1), apart o (inr (ltb-true n l.number b)))
       go false false false true a b c d =
           omega (arith, integers, difference g.pv (pos 1), apart o (inl (ltb-true n g.number d)))
-      go false false false false a b c d = in_order o
+      go false false false false a b c d = in_order_lem o
 
 -- so the sums are in order too
-pub sums-ordered : (g l : Occurrence) → Order Greatest g l → (k : ℕ) → ends Least l g k ≤ℤ ends Greatest g l k
+pub sums_ordered : (g l : Occurrence) → Order Greatest g l → (k : ℕ) → ends Least l g k ≤ℤ ends Greatest g l k
 unfolding ends
-sums-ordered g l o zero = omega (arith, integers)
-sums-ordered g l o (suc k) =
+sums_ordered g l o zero = omega (arith, integers)
+sums_ordered g l o (suc k) =
     let a = ends Least l g k in
     let b = ends Greatest g l k in
     omega (
@@ -115,6 +115,6 @@ sums-ordered g l o (suc k) =
       integers,
       sum a (end Least l g (suc k)),
       sum b (end Greatest g l (suc k)),
-      sums-ordered g l o k,
-      ends-ordered g l o (suc k) (omega arith),
+      sums_ordered g l o k,
+      ends_ordered g l o (suc k) (omega arith),
     )

@@ -10,9 +10,9 @@ use Rattle.integers.specs.Parts.{integers}
 use Rattle.modes.specs.declared.Mode.{Mode}
 use Rattle.modes.specs.declared.Mode.TheVariants.{Hold, Track, Forced, Manual, Auto, Remote, Ratio, Fallback}
 use Rattle.answers.specs.declared.ScanValues.{ScanValues}
-use Rattle.sheet.specs.EnteredLaws.{Answerable, empty-valid, taken-valid}
-use Rattle.sheet.specs.Sheet.{emptySheet, taken}
-use Rattle.sheet.specs.Valid.{isValid}
+use Rattle.sheet.specs.EnteredLaws.{Answerable, empty_valid, taken_valid}
+use Rattle.sheet.specs.Sheet.{empty_sheet, taken}
+use Rattle.sheet.specs.Valid.{is_valid}
 use Rattle.sheet.specs.SumLaws.{Held}
 use Rattle.sheet.specs.declared.Bound.{Bound}
 use Rattle.sheet.specs.declared.Bound.TheVariants.{Greatest, Least}
@@ -23,7 +23,7 @@ use Rattle.sheet.specs.declared.SheetValues.{SheetValues}
 use Rattle.sheet_guarantee.specs.Claim.{InTypes, AllInTypes, Possible}
 use Rattle.sheet_guarantee.specs.Meaning.{Answers, none, ◌then◌, many, rank, NotBeyond}
 use Rattle.sheet_guarantee.specs.Meaning.{IsFirst, IsExtreme, of_none, of_some, Gives}
-use Rattle.sheet_guarantee.proofs.Step.{never-numbered, empty-gives, taken-gives}
+use Rattle.sheet_guarantee.proofs.Step.{never_numbered, empty_gives, taken_gives}
 
 -- ---- counts
 
@@ -51,47 +51,47 @@ at_place (suc (suc (suc (suc (suc (suc zero)))))) h = record { mode = Ratio; is 
 at_place (suc (suc (suc (suc (suc (suc (suc zero))))))) h = record { mode = Fallback; is = refl }
 at_place (suc (suc (suc (suc (suc (suc (suc (suc k)))))))) h = absurd (omega arith)
 
-same-modes : (xs : Answers) (v w : SheetValues) → Gives xs v → Gives xs w → v.modes ≡ w.modes
-same-modes xs v w g h =
+same_modes : (xs : Answers) (v w : SheetValues) → Gives xs v → Gives xs w → v.modes ≡ w.modes
+same_modes xs v w g h =
     same_lists v.modes w.modes (g.size ∙ sym h.size) (λ k l.
     let m = at_place k (omega (arith, g.size)) in
     subst (λ (n : ℕ). get_or v.modes n 0 ≡ get_or w.modes n 0) m.is (g.modes m.mode ∙ sym (h.modes m.mode)))
 
 -- ---- extremes
 
-same-pv : (b : Bound) (x y : ℤ) → NotBeyond b x y → NotBeyond b y x → x ≡ y
-same-pv Greatest x y h k = omega (arith, integers, h, k)
-same-pv Least x y h k = omega (arith, integers, h, k)
+same_pv : (b : Bound) (x y : ℤ) → NotBeyond b x y → NotBeyond b y x → x ≡ y
+same_pv Greatest x y h k = omega (arith, integers, h, k)
+same_pv Least x y h k = omega (arith, integers, h, k)
 
 same_first : (b : Bound) (xs : Answers) (o p : Occurrence) → IsFirst b xs o → IsFirst b xs p → o ≡ p
 same_first b xs o p f g =
     let below : NotBeyond b o.pv p.pv =
-    subst (λ (z : ℤ). NotBeyond b z p.pv) f.its-pv (g.not_beyond o.number f.answer f.stands) in
+    subst (λ (z : ℤ). NotBeyond b z p.pv) f.its_pv (g.not_beyond o.number f.answer f.stands) in
     let over : NotBeyond b p.pv o.pv =
-    subst (λ (z : ℤ). NotBeyond b z o.pv) g.its-pv (f.not_beyond p.number g.answer g.stands) in
-    let pv : o.pv ≡ p.pv = same-pv b o.pv p.pv below over in
-    let later : o.number ≤ p.number = f.not-before p.number g.answer g.stands (g.its-pv ∙ sym pv) in
-    let sooner : p.number ≤ o.number = g.not-before o.number f.answer f.stands (f.its-pv ∙ pv) in
+    subst (λ (z : ℤ). NotBeyond b z o.pv) g.its_pv (f.not_beyond p.number g.answer g.stands) in
+    let pv : o.pv ≡ p.pv = same_pv b o.pv p.pv below over in
+    let later : o.number ≤ p.number = f.not_before p.number g.answer g.stands (g.its_pv ∙ sym pv) in
+    let sooner : p.number ≤ o.number = g.not_before o.number f.answer f.stands (f.its_pv ∙ pv) in
     let number : o.number ≡ p.number = omega arith in
     same o p pv number
   where
     same : (o p : Occurrence) → o.pv ≡ p.pv → o.number ≡ p.number → o ≡ p
     same o p e d = ap (λ (z : ℤ). record { pv = z; number = o.number }) e ∙ ap (λ (n : ℕ). record { pv = p.pv; number = n }) d
 
-same-extreme : (b : Bound) (xs : Answers) (d e : Extreme) → IsExtreme b xs d → IsExtreme b xs e → d ≡ e
-same-extreme b none None None of_none of_none = refl
-same-extreme b none None (First p) of_none (of_some g) = never-numbered g.stands
-same-extreme b none (First o) None (of_some f) of_none = never-numbered f.stands
-same-extreme b xs (First o) (First p) (of_some f) (of_some g) = ap First (same_first b xs o p f g)
+same_extreme : (b : Bound) (xs : Answers) (d e : Extreme) → IsExtreme b xs d → IsExtreme b xs e → d ≡ e
+same_extreme b none None None of_none of_none = refl
+same_extreme b none None (First p) of_none (of_some g) = never_numbered g.stands
+same_extreme b none (First o) None (of_some f) of_none = never_numbered f.stands
+same_extreme b xs (First o) (First p) (of_some f) (of_some g) = ap First (same_first b xs o p f g)
 
 -- ---- the whole
 
-pub one-sheet : (xs : Answers) (v w : SheetValues) → Gives xs v → Gives xs w → v ≡ w
-one-sheet xs v w g h =
-    same v w (g.scans ∙ sym h.scans) (same-modes xs v w g h)
-    (same-extreme Greatest xs v.greatest w.greatest g.greatest h.greatest)
-    (same-extreme Least xs v.least w.least g.least h.least) (g.alarms ∙ sym h.alarms) (g.sum-pv ∙ sym h.sum-pv)
-    (g.sum-op ∙ sym h.sum-op)
+pub one_sheet : (xs : Answers) (v w : SheetValues) → Gives xs v → Gives xs w → v ≡ w
+one_sheet xs v w g h =
+    same v w (g.scans ∙ sym h.scans) (same_modes xs v w g h)
+    (same_extreme Greatest xs v.greatest w.greatest g.greatest h.greatest)
+    (same_extreme Least xs v.least w.least g.least h.least) (g.alarms ∙ sym h.alarms) (g.sum_pv_lem ∙ sym h.sum_pv_lem)
+    (g.sum_op_lem ∙ sym h.sum_op_lem)
   where
     same : (v w : SheetValues) → v.scans ≡ w.scans → v.modes ≡ w.modes → v.greatest ≡ w.greatest → v.least ≡ w.least →
         v.alarms ≡ w.alarms → v.sumpv ≡ w.sumpv → v.sumop ≡ w.sumop → v ≡ w
@@ -99,25 +99,25 @@ one-sheet xs v w g h =
 
 -- the values that entering leads to, while there is room
 values_of : Answers → SheetValues
-values_of none = emptySheet.values
+values_of none = empty_sheet.values
 values_of (xs then a) = taken (values_of xs) a
 
-values-given : (xs : Answers) → Gives xs (values_of xs)
+values_given : (xs : Answers) → Gives xs (values_of xs)
 unfolding values_of
-values-given none = empty-gives
-values-given (xs then a) = taken-gives xs (values_of xs) a (values-given xs)
+values_given none = empty_gives
+values_given (xs then a) = taken_gives xs (values_of xs) a (values_given xs)
 
 -- values that the types of an answer hold are such as the sheet's laws ask for
 pub answerable : (a : ScanValues) → InTypes a → Answerable a
-answerable a h = let held : Held a.pv = record { least = h.pv-least; most = h.pv-most } in record { pv = held; op = h.op }
+answerable a h = let held : Held a.pv = record { least = h.pv_least; most = h.pv_most } in record { pv = held; op = h.op }
 
-values-valid : (xs : Answers) → AllInTypes xs → many xs ≤ 4294967295 → isValid (values_of xs) ≡ true
+values_valid : (xs : Answers) → AllInTypes xs → many xs ≤ 4294967295 → is_valid (values_of xs) ≡ true
 unfolding values_of
-values-valid none h few = empty-valid.tested
-values-valid (xs then a) h few =
-    taken-valid (values_of xs) a (values-valid xs h.0 (omega arith)) (omega (arith, (values-given xs).scans)) (answerable a h.1)
+values_valid none h few = empty_valid.tested
+values_valid (xs then a) h few =
+    taken_valid (values_of xs) a (values_valid xs h.0 (omega arith)) (omega (arith, (values_given xs).scans)) (answerable a h.1)
 
-pub possible-valid : (v : SheetValues) → Possible v → isValid v ≡ true
-possible-valid v p =
-    subst (λ (w : SheetValues). isValid w ≡ true) (one-sheet p.answers _ v (values-given p.answers) p.gives)
-    (values-valid p.answers p.in-types p.few)
+pub possible_valid : (v : SheetValues) → Possible v → is_valid v ≡ true
+possible_valid v p =
+    subst (λ (w : SheetValues). is_valid w ≡ true) (one_sheet p.answers _ v (values_given p.answers) p.gives)
+    (values_valid p.answers p.in_types p.few)

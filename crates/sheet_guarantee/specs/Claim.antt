@@ -15,40 +15,40 @@ use Rattle.sheet.specs.declared.Validity.TheVariants.{Valid}
 use Rattle.sheet.specs.declared.Mean.{Mean}
 use Rattle.sheet_guarantee.specs.Linked as linked
 use Rattle.sheet_guarantee.specs.Linked.{Linked, taken_of}
-use Rattle.sheet_guarantee.specs.Meaning.{Answers, none, ◌then◌, many, howMany, isIn, isAlarmed, sumPV, sumOP, IsExtreme, Gives}
+use Rattle.sheet_guarantee.specs.Meaning.{Answers, none, ◌then◌, many, how_many, is_in, is_alarmed, sum_pv, sum_op, IsExtreme, Gives}
 
 -- "A sheet holds up to 4,294,967,295 scans; the next one leaves it as it was and says full.": an answer says full
 -- exactly when so many were taken before it
 pub data FullExactly : Answers → List Entry → Type 0 where
-  no-entry : FullExactly none []
-  and-entry : {xs : Answers} {es : List Entry} {a : ScanValues} {e : Entry} → FullExactly xs es →
+  no_entry : FullExactly none []
+  and_entry : {xs : Answers} {es : List Entry} {a : ScanValues} {e : Entry} → FullExactly xs es →
       e ≡ (if eqb (many (taken_of xs es)) 4294967295 then Full else Taken) → FullExactly (xs then a) (e ∷ es)
 
 -- of a sheet in which these answers were entered
 pub record Results (xs : Answers) (s : Sheet) : Type 0 where
   pub scans : (r : ℕ) → linked.ScansEnsures s r → r ≡ many xs
-  pub in-mode : (m : Mode) (r : ℕ) → linked.ScansInEnsures s m r → r ≡ howMany (isIn m) xs
+  pub in_mode_lem : (m : Mode) (r : ℕ) → linked.ScansInEnsures s m r → r ≡ how_many (is_in m) xs
   pub greatest : (r : Extreme) → linked.GreatestEnsures s r → IsExtreme Greatest xs r
   pub least : (r : Extreme) → linked.LeastEnsures s r → IsExtreme Least xs r
-  pub with-alarm : (r : ℕ) → linked.AlarmEnsures s r → r ≡ howMany isAlarmed xs
-  pub sum-pv : (r : ℤ) → linked.SumPVEnsures s r → r ≡ sumPV xs
-  pub sum-op : (r : ℤ) → linked.SumOPEnsures s r → r ≡ pos (sumOP xs)
+  pub with_alarm : (r : ℕ) → linked.AlarmEnsures s r → r ≡ how_many is_alarmed xs
+  pub sum_pv_lem : (r : ℤ) → linked.SumPVEnsures s r → r ≡ sum_pv xs
+  pub sum_op_lem : (r : ℤ) → linked.SumOPEnsures s r → r ≡ pos (sum_op xs)
   -- "Means are handed out as a sum and a count, never divided."
-  pub mean-pv : (r : Mean) → linked.MeanPVEnsures s r → (r.sum ≡ sumPV xs) × (r.count ≡ many xs)
-  pub mean-op : (r : Mean) → linked.MeanOPEnsures s r → (r.sum ≡ pos (sumOP xs)) × (r.count ≡ many xs)
+  pub mean_pv : (r : Mean) → linked.MeanPVEnsures s r → (r.sum ≡ sum_pv xs) × (r.count ≡ many xs)
+  pub mean_op : (r : Mean) → linked.MeanOPEnsures s r → (r.sum ≡ pos (sum_op xs)) × (r.count ≡ many xs)
   -- all of it, for a host that keeps the sheet
   pub values : (r : SheetValues) → linked.ValuesEnsures s r → Gives xs r
 
 pub record SheetClaim (xs : Answers) (es : List Entry) (s : Sheet) : Type 0 where
   -- "From an empty sheet on, all it holds equals what the list of answers taken gives."
   pub results : Results (taken_of xs es) s
-  pub full-exactly : FullExactly xs es
-  pub taken-most : many (taken_of xs es) ≤ 4294967295
+  pub full_exactly : FullExactly xs es
+  pub taken_most : many (taken_of xs es) ≤ 4294967295
   -- values that were kept of it give the same sheet again
   pub kept_again : (v : SheetValues) (r : KeptResult) → linked.ValuesEnsures s v → linked.KeptEnsures v r →
       r ≡ record { sheet = s; validity = Valid }
   -- "the next one leaves it as it was"
-  pub full-stays : (a : ScanValues) (r : EnterResult) → linked.EnterEnsures s a r → r.entry ≡ Full → r.sheet ≡ s
+  pub full_stays : (a : ScanValues) (r : EnterResult) → linked.EnterEnsures s a r → r.entry ≡ Full → r.sheet ≡ s
   -- and no `requires` shuts a call out
   pub ready : linked.Ready s
 
@@ -61,8 +61,8 @@ Always = (xs : Answers) (es : List Entry) (s : Sheet) → Linked xs es s → She
 -- values that the types of an answer hold: OP has 16 bits, PV 32 with its sign
 pub record InTypes (a : ScanValues) : Type 0 where
   pub op : a.op ≤ 65535
-  pub pv-least : neg_ℤ (pos 2147483648) ≤ℤ a.pv
-  pub pv-most : a.pv ≤ℤ pos 2147483647
+  pub pv_least : neg_ℤ (pos 2147483648) ≤ℤ a.pv
+  pub pv_most : a.pv ≤ℤ pos 2147483647
 
 abbrev pub AllInTypes : Answers → Type 0
 AllInTypes none = Unit {0}
@@ -81,7 +81,7 @@ AlwaysLinked = (xs : Answers) → AllInTypes xs → Chain xs
 
 pub record Possible (v : SheetValues) : Type 0 where
   pub answers : Answers
-  pub in-types : AllInTypes answers
+  pub in_types : AllInTypes answers
   pub few : many answers ≤ 4294967295
   pub gives : Gives answers v
 

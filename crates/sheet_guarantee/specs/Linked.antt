@@ -88,16 +88,16 @@ taken_of (xs then a) (Full ∷ es) = taken_of xs es
 
 -- the `requires` of every call holds at this sheet, whatever the arguments: no call is shut out
 pub record Ready (s : Sheet) : Type 0 where
-  pub empty-ready : empty-reads.Pre tt tt
-  pub enter-ready : (a : ScanValues) → enter-reads.Pre tt (s, (a, tt))
-  pub kept-ready : (v : SheetValues) → kept-reads.Pre tt (v, tt)
-  pub values-ready : values-reads.Pre tt (s, tt)
-  pub scans-ready : scans-reads.Pre tt (s, tt)
-  pub scans-in-ready : (m : Mode) → scans-in-reads.Pre tt (s, (m, tt))
-  pub greatest-ready : greatest-reads.Pre tt (s, tt)
-  pub least-ready : least-reads.Pre tt (s, tt)
-  pub alarm-ready : alarm-reads.Pre tt (s, tt)
-  pub sum-pv-ready : sum-pv-reads.Pre tt (s, tt)
-  pub sum-op-ready : sum-op-reads.Pre tt (s, tt)
-  pub mean-pv-ready : mean-pv-reads.Pre tt (s, tt)
-  pub mean-op-ready : mean-op-reads.Pre tt (s, tt)
+  pub empty_ready : empty-reads.Pre tt tt
+  pub enter_ready : (a : ScanValues) → enter-reads.Pre tt (s, (a, tt))
+  pub kept_ready : (v : SheetValues) → kept-reads.Pre tt (v, tt)
+  pub values_ready : values-reads.Pre tt (s, tt)
+  pub scans_ready : scans-reads.Pre tt (s, tt)
+  pub scans_in_ready : (m : Mode) → scans-in-reads.Pre tt (s, (m, tt))
+  pub greatest_ready : greatest-reads.Pre tt (s, tt)
+  pub least_ready : least-reads.Pre tt (s, tt)
+  pub alarm_ready : alarm-reads.Pre tt (s, tt)
+  pub sum_pv_ready : sum-pv-reads.Pre tt (s, tt)
+  pub sum_op_ready : sum-op-reads.Pre tt (s, tt)
+  pub mean_pv_ready : mean-pv-reads.Pre tt (s, tt)
+  pub mean_op_ready : mean-op-reads.Pre tt (s, tt)

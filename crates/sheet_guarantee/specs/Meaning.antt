@@ -30,9 +30,9 @@ pub data Numbered : Answers → ℕ → ScanValues → Type 0 where
   earlier : {xs : Answers} {a b : ScanValues} {n : ℕ} → Numbered xs n b → Numbered (xs then a) n b
 
 -- how many of them pass a test
-abbrev pub howMany : (ScanValues → Bool) → Answers → ℕ
-howMany test none = 0
-howMany test (xs then a) = if test a then howMany test xs + 1 else howMany test xs
+abbrev pub how_many : (ScanValues → Bool) → Answers → ℕ
+how_many test none = 0
+how_many test (xs then a) = if test a then how_many test xs + 1 else how_many test xs
 
 -- "each of the eight modes", told apart by their places in the priority order
 abbrev pub rank : Mode → ℕ
@@ -45,22 +45,22 @@ rank Remote = 5
 rank Ratio = 6
 rank Fallback = 7
 
-abbrev pub isIn : Mode → ScanValues → Bool
-isIn m a = eqb (rank a.mode) (rank m)
+abbrev pub is_in : Mode → ScanValues → Bool
+is_in m a = eqb (rank a.mode) (rank m)
 
 -- "scans with either alarm or both": document 01's DS has bit 1 zero for the low alarm, bit 0 for the high one, so
 -- there is none where both are set
-abbrev pub isAlarmed : ScanValues → Bool
-isAlarmed a = not (bit a.ds 1 && bit a.ds 0)
+abbrev pub is_alarmed : ScanValues → Bool
+is_alarmed a = not (bit a.ds 1 && bit a.ds 0)
 
 -- "the sum of PV and of OP"
-abbrev pub sumPV : Answers → ℤ
-sumPV none = pos 0
-sumPV (xs then a) = sumPV xs +ℤ a.pv
+abbrev pub sum_pv : Answers → ℤ
+sum_pv none = pos 0
+sum_pv (xs then a) = sum_pv xs +ℤ a.pv
 
-abbrev pub sumOP : Answers → ℕ
-sumOP none = 0
-sumOP (xs then a) = sumOP xs + a.op
+abbrev pub sum_op : Answers → ℕ
+sum_op none = 0
+sum_op (xs then a) = sum_op xs + a.op
 
 -- "the greatest and least PV": no PV of the list lies beyond it
 abbrev pub NotBeyond : Bound → ℤ → ℤ → Type 0
@@ -71,9 +71,9 @@ NotBeyond Least pv extreme = extreme ≤ℤ pv
 pub record IsFirst (b : Bound) (xs : Answers) (first : Occurrence) : Type 0 where
   pub answer : ScanValues
   pub stands : Numbered xs first.number answer
-  pub its-pv : answer.pv ≡ first.pv
+  pub its_pv : answer.pv ≡ first.pv
   pub not_beyond : (n : ℕ) (a : ScanValues) → Numbered xs n a → NotBeyond b a.pv first.pv
-  pub not-before : (n : ℕ) (a : ScanValues) → Numbered xs n a → a.pv ≡ first.pv → first.number ≤ n
+  pub not_before : (n : ℕ) (a : ScanValues) → Numbered xs n a → a.pv ≡ first.pv → first.number ≤ n
 
 -- "(none on an empty sheet)"
 pub data IsExtreme (b : Bound) : Answers → Extreme → Type 0 where
@@ -85,9 +85,9 @@ pub record Gives (xs : Answers) (v : SheetValues) : Type 0 where
   pub scans : v.scans ≡ many xs
   -- as many counts as there are modes, each at its mode's place
   pub size : length v.modes ≡ 8
-  pub modes : (m : Mode) → get_or v.modes (rank m) 0 ≡ howMany (isIn m) xs
+  pub modes : (m : Mode) → get_or v.modes (rank m) 0 ≡ how_many (is_in m) xs
   pub greatest : IsExtreme Greatest xs v.greatest
   pub least : IsExtreme Least xs v.least
-  pub alarms : v.alarms ≡ howMany isAlarmed xs
-  pub sum-pv : v.sumpv ≡ sumPV xs
-  pub sum-op : v.sumop ≡ pos (sumOP xs)
+  pub alarms : v.alarms ≡ how_many is_alarmed xs
+  pub sum_pv_lem : v.sumpv ≡ sum_pv xs
+  pub sum_op_lem : v.sumop ≡ pos (sum_op xs)

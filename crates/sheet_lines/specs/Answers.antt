@@ -2,7 +2,7 @@
 use Rattle.std.specs.Prelude.{◌&&◌, List, ℕ, ℤ}
 use Rattle.integers.specs.Choice.{if◌then◌else◌}
 use Rattle.modes.specs.declared.Mode.{Mode}
-use Rattle.text.specs.Arguments.{part, argument, argumentsFrom, hasCount, naturalIn, integerIn}
+use Rattle.text.specs.Arguments.{part, argument, arguments_from, has_count, natural_in, integer_in}
 use Rattle.text.specs.Words.{word_at}
 use Rattle.text.specs.declared.arguments.Arguments.{Arguments}
 use Rattle.sheet_lines.specs.ModeWords.{mode_of}
@@ -12,11 +12,11 @@ use Rattle.sheet_lines.specs.declared.mode.ParsedMode.{ParsedMode}
 use Rattle.sheet_lines.specs.declared.mode.ParsedMode.TheVariants as parsed
 
 -- of PV DS OP, with a PV of 32 bits; MD and electrical output, which no sheet holds, are 0
-unfoldable pub answerOfNumbers : Mode → List ℤ → ParsedAnswer
-answerOfNumbers mode values =
-    let pv = integerIn (argument values 0) in
-    let ds = naturalIn (argument values 1) 0 65535 in
-    let op = naturalIn (argument values 2) 0 65535 in
+unfoldable pub answer_of_numbers : Mode → List ℤ → ParsedAnswer
+answer_of_numbers mode values =
+    let pv = integer_in (argument values 0) in
+    let ds = natural_in (argument values 1) 0 65535 in
+    let op = natural_in (argument values 2) 0 65535 in
     if pv.ok && ds.ok && op.ok then Answer (record {
       md = 0;
       ds = ds.value;
@@ -28,11 +28,11 @@ answerOfNumbers mode values =
 
 -- of a mode's word and three numbers
 unfoldable pub answer_of : ParsedMode → Arguments → ParsedAnswer
-answer_of (parsed.Mode m) a = if hasCount a 3 then answerOfNumbers m a.values else Malformed
+answer_of (parsed.Mode m) a = if has_count a 3 then answer_of_numbers m a.values else Malformed
 answer_of parsed.Malformed a = Malformed
 
 -- of a line from a position on
-unfoldable pub answerFrom : List ℕ → ℕ → ParsedAnswer
-answerFrom line start =
+unfoldable pub answer_from : List ℕ → ℕ → ParsedAnswer
+answer_from line start =
     let w = word_at line start in
-    answer_of (mode_of (part line w.from w.to)) (argumentsFrom line w.to)
+    answer_of (mode_of (part line w.from w.to)) (arguments_from line w.to)

@@ -4,14 +4,14 @@ use Rattle.std.proofs.Common.{ap, ◌∙◌, arith}
 use Rattle.integers.specs.Choice.{never}
 use Rattle.modes.specs.declared.Mode.{Mode}
 use Rattle.modes.specs.declared.Mode.TheVariants.{Hold, Track, Forced, Manual, Auto, Remote, Ratio, Fallback}
-use Rattle.text.specs.Words.{sameBytes, same-equal}
-use Rattle.sheet_lines.specs.ModeWords.{modeWord, modeOr, mode_of}
+use Rattle.text.specs.Words.{same_bytes, same_equal}
+use Rattle.sheet_lines.specs.ModeWords.{mode_word, mode_or, mode_of}
 use Rattle.sheet_lines.specs.declared.mode.ParsedMode.{ParsedMode}
 use Rattle.sheet_lines.specs.declared.mode.ParsedMode.TheVariants as parsed
 
 -- every mode's word is read as that mode: no two have one word
-pub word_read : (m : Mode) → mode_of (modeWord m) ≡ parsed.Mode m
-unfolding mode_of modeWord sameBytes
+pub word_read : (m : Mode) → mode_of (mode_word m) ≡ parsed.Mode m
+unfolding mode_of mode_word same_bytes
 word_read Hold = refl
 word_read Track = refl
 word_read Forced = refl
@@ -22,33 +22,33 @@ word_read Ratio = refl
 word_read Fallback = refl
 
 -- a word that is read as a mode is that mode's
-or-only : (word : List ℕ) (k m : Mode) (other : ParsedMode) → modeOr word k other ≡ parsed.Mode m
-    → (other ≡ parsed.Mode m → word ≡ modeWord m) → word ≡ modeWord m
-or-only word k m other e h = go (sameBytes word (modeWord k)) refl e
+or_only : (word : List ℕ) (k m : Mode) (other : ParsedMode) → mode_or word k other ≡ parsed.Mode m
+    → (other ≡ parsed.Mode m → word ≡ mode_word m) → word ≡ mode_word m
+or_only word k m other e h = go (same_bytes word (mode_word k)) refl e
   where
-    go : (t : Bool) → sameBytes word (modeWord k) ≡ t → cond t (parsed.Mode k) other ≡ parsed.Mode m → word ≡ modeWord m
-    go true f r = let same : k ≡ m = cc in same-equal word (modeWord k) f ∙ ap modeWord same
+    go : (t : Bool) → same_bytes word (mode_word k) ≡ t → cond t (parsed.Mode k) other ≡ parsed.Mode m → word ≡ mode_word m
+    go true f r = let same : k ≡ m = cc in same_equal word (mode_word k) f ∙ ap mode_word same
     go false f r = h r
 
-pub word-only : (word : List ℕ) (m : Mode) → mode_of word ≡ parsed.Mode m → word ≡ modeWord m
+pub word_only : (word : List ℕ) (m : Mode) → mode_of word ≡ parsed.Mode m → word ≡ mode_word m
 unfolding mode_of
-word-only word m e0 =
-    or-only word Hold m _ e0 (λ e1.
-    or-only word Track m _ e1 (λ e2.
-    or-only word Forced m _ e2 (λ e3.
-    or-only word Manual m _ e3 (λ e4.
-    or-only word Auto m _ e4 (λ e5.
-    or-only word Remote m _ e5 (λ e6.
-    or-only word Ratio m _ e6 (λ e7.
-    or-only word Fallback m _ e7 (λ e8. never (cc)))))))))
+word_only word m e0 =
+    or_only word Hold m _ e0 (λ e1.
+    or_only word Track m _ e1 (λ e2.
+    or_only word Forced m _ e2 (λ e3.
+    or_only word Manual m _ e3 (λ e4.
+    or_only word Auto m _ e4 (λ e5.
+    or_only word Remote m _ e5 (λ e6.
+    or_only word Ratio m _ e6 (λ e7.
+    or_only word Fallback m _ e7 (λ e8. never (cc)))))))))
 
-pub word-length : (m : Mode) → length (modeWord m) ≤ 8
-unfolding modeWord
-word-length Hold = omega arith
-word-length Track = omega arith
-word-length Forced = omega arith
-word-length Manual = omega arith
-word-length Auto = omega arith
-word-length Remote = omega arith
-word-length Ratio = omega arith
-word-length Fallback = omega arith
+pub word_length : (m : Mode) → length (mode_word m) ≤ 8
+unfolding mode_word
+word_length Hold = omega arith
+word_length Track = omega arith
+word_length Forced = omega arith
+word_length Manual = omega arith
+word_length Auto = omega arith
+word_length Remote = omega arith
+word_length Ratio = omega arith
+word_length Fallback = omega arith

@@ -3,27 +3,27 @@ use Rattle.std.specs.Prelude.{List, ℕ}
 use Rattle.integers.specs.Choice.{if◌then◌else◌}
 use Rattle.modes.specs.declared.Mode.{Mode}
 use Rattle.modes.specs.declared.Mode.TheVariants.{Hold, Track, Forced, Manual, Auto, Remote, Ratio, Fallback}
-use Rattle.text.specs.Words.{sameBytes}
+use Rattle.text.specs.Words.{same_bytes}
 use Rattle.formatting.specs.Ascii.{ascii}
 use Rattle.sheet_lines.specs.declared.mode.ParsedMode.{ParsedMode}
 use Rattle.sheet_lines.specs.declared.mode.ParsedMode.TheVariants as parsed
 
-unfoldable pub modeWord : Mode → List ℕ
-modeWord Hold = ascii "hold"
-modeWord Track = ascii "track"
-modeWord Forced = ascii "forced"
-modeWord Manual = ascii "manual"
-modeWord Auto = ascii "auto"
-modeWord Remote = ascii "remote"
-modeWord Ratio = ascii "ratio"
-modeWord Fallback = ascii "fallback"
+unfoldable pub mode_word : Mode → List ℕ
+mode_word Hold = ascii "hold"
+mode_word Track = ascii "track"
+mode_word Forced = ascii "forced"
+mode_word Manual = ascii "manual"
+mode_word Auto = ascii "auto"
+mode_word Remote = ascii "remote"
+mode_word Ratio = ascii "ratio"
+mode_word Fallback = ascii "fallback"
 
 -- a mode whose word it is, else what the words of others give
-abbrev pub modeOr : List ℕ → Mode → ParsedMode → ParsedMode
-modeOr word m other = if sameBytes word (modeWord m) then parsed.Mode m else other
+abbrev pub mode_or : List ℕ → Mode → ParsedMode → ParsedMode
+mode_or word m other = if same_bytes word (mode_word m) then parsed.Mode m else other
 
 -- the mode whose word it is, if one has it
 unfoldable pub mode_of : List ℕ → ParsedMode
 mode_of word =
-    modeOr word Hold (modeOr word Track (modeOr word Forced (modeOr word Manual
-    (modeOr word Auto (modeOr word Remote (modeOr word Ratio (modeOr word Fallback parsed.Malformed)))))))
+    mode_or word Hold (mode_or word Track (mode_or word Forced (mode_or word Manual
+    (mode_or word Auto (mode_or word Remote (mode_or word Ratio (mode_or word Fallback parsed.Malformed)))))))

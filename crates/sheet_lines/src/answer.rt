@@ -1,6 +1,6 @@
 // An answer as a line has it, MODE PV DS OP, to be entered in a sheet.
 ghost use Rattle.std.specs.Prelude.{◌≡◌, ◌≤◌, length};
-ghost use Rattle.sheet_lines.specs.Answers.{answerOfNumbers, answer_of, answerFrom};
+ghost use Rattle.sheet_lines.specs.Answers.{answer_of_numbers, answer_of, answer_from};
 
 use crate::mode::ParsedMode;
 use answers::ScanValues;
@@ -16,7 +16,7 @@ pub enum ParsedAnswer {
 // The answer with this mode and the numbers PV DS OP, with a PV of 32 bits. The contract rules out a number of another
 // place, one out of its range that is taken, and one in range that isn't.
 fn of_numbers(mode: Mode, values: [i64; 6]) -> ParsedAnswer
-    ensures { result ≡ answerOfNumbers mode values }
+    ensures { result ≡ answer_of_numbers mode values }
 {
     let pv = text::arguments::integer_in(values[0]);
     let ds = text::arguments::natural_in(values[1], 0, 65535);
@@ -55,7 +55,7 @@ fn of_words(mode: ParsedMode, arguments: Arguments) -> ParsedAnswer
 // is taken of a line with another form.
 pub fn parse(line: &[u8], start: usize) -> ParsedAnswer
     requires { start ≤ length line.now }
-    ensures { result ≡ answerFrom line.now start }
+    ensures { result ≡ answer_from line.now start }
 {
     let w = text::word(line, start);
     let from = w.from;

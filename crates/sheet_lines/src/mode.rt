@@ -1,8 +1,8 @@
 // The word of a mode, written and read.
 ghost use Rattle.std.specs.Prelude.{◌≡◌};
-ghost use Rattle.text.specs.Words.{sameBytes};
-ghost use Rattle.formatting.specs.Buffer.{buffer, appendAll};
-ghost use Rattle.sheet_lines.specs.ModeWords.{modeWord, modeOr, mode_of};
+ghost use Rattle.text.specs.Words.{same_bytes};
+ghost use Rattle.formatting.specs.Buffer.{buffer, append_all};
+ghost use Rattle.sheet_lines.specs.ModeWords.{mode_word, mode_or, mode_of};
 
 use modes::Mode;
 
@@ -14,7 +14,7 @@ pub enum ParsedMode {
 
 // The contract rules out the word of another mode.
 pub fn append_mode(out: &mut [u8], used: usize, mode: Mode) -> usize
-    ensures { buffer out.new result ≡ appendAll (buffer out.old used) (modeWord mode) }
+    ensures { buffer out.new result ≡ append_all (buffer out.old used) (mode_word mode) }
 {
     match mode {
         Mode::Hold => formatting::append_bytes(out, used, b"hold"),
@@ -30,7 +30,7 @@ pub fn append_mode(out: &mut [u8], used: usize, mode: Mode) -> usize
 
 // Whether a word is that of a mode.
 fn is_word_of(word: &[u8], mode: Mode) -> bool
-    ensures { result ≡ sameBytes word.now (modeWord mode) }
+    ensures { result ≡ same_bytes word.now (mode_word mode) }
 {
     let mut name = [0u8; 8];
     let count = append_mode(&mut name, 0, mode);
@@ -39,7 +39,7 @@ fn is_word_of(word: &[u8], mode: Mode) -> bool
 
 // The mode whose word it is, else what the words of others gave.
 fn mode_or(word: &[u8], mode: Mode, other: ParsedMode) -> ParsedMode
-    ensures { result ≡ modeOr word.now mode other }
+    ensures { result ≡ mode_or word.now mode other }
 {
     if is_word_of(word, mode) {
         return ParsedMode::Mode(mode);

@@ -2,8 +2,8 @@
 // caller knows that it fits.
 ghost use Rattle.std.specs.Prelude.{◌+◌, length};
 ghost use Rattle.sheet_lines.specs.Appended.{TextAppended};
-ghost use Rattle.sheet_lines.specs.SheetText.{named, numberText, sumText, occurrenceText, extremeText, extremesText};
-ghost use Rattle.sheet_lines.specs.SheetText.{countText, countsText, sheetText};
+ghost use Rattle.sheet_lines.specs.SheetText.{named, number_text, sum_text, occurrence_text, extreme_text, extremes_text};
+ghost use Rattle.sheet_lines.specs.SheetText.{count_text, counts_text, sheet_text};
 
 use modes::Mode;
 use sheet::{Extreme, Occurrence, Sheet};
@@ -20,7 +20,7 @@ fn append_name(out: &mut [u8], used: usize, name: &[u8]) -> usize
 
 // A number with its name.
 fn append_number(out: &mut [u8], used: usize, name: &[u8], number: u32) -> usize
-    ensures { TextAppended out.old out.new used result (numberText name.now number)
+    ensures { TextAppended out.old out.new used result (number_text name.now number)
         (length name.now + 12) }
 {
     let end = append_name(out, used, name);
@@ -29,7 +29,7 @@ fn append_number(out: &mut [u8], used: usize, name: &[u8], number: u32) -> usize
 
 // A sum with its name. The contract rules out a sign that is lost.
 fn append_sum(out: &mut [u8], used: usize, name: &[u8], sum: i64) -> usize
-    ensures { TextAppended out.old out.new used result (sumText name.now sum)
+    ensures { TextAppended out.old out.new used result (sum_text name.now sum)
         (length name.now + 22) }
 {
     let end = append_name(out, used, name);
@@ -38,7 +38,7 @@ fn append_sum(out: &mut [u8], used: usize, name: &[u8], sum: i64) -> usize
 
 // A PV and the number of its scan. The contract rules out a sign that is lost, and the two exchanged.
 fn append_occurrence(out: &mut [u8], used: usize, first: Occurrence) -> usize
-    ensures { TextAppended out.old out.new used result (occurrenceText first) 22 }
+    ensures { TextAppended out.old out.new used result (occurrence_text first) 22 }
 {
     let pv = formatting::append_signed(out, used, integers::wide(first.pv));
     let at = formatting::append_byte(out, pv, b'@');
@@ -47,7 +47,7 @@ fn append_occurrence(out: &mut [u8], used: usize, first: Occurrence) -> usize
 
 // The greatest or the least PV, with its name.
 fn append_extreme(out: &mut [u8], used: usize, name: &[u8], extreme: Extreme) -> usize
-    ensures { TextAppended out.old out.new used result (extremeText name.now extreme)
+    ensures { TextAppended out.old out.new used result (extreme_text name.now extreme)
         (length name.now + 24) }
 {
     let end = append_name(out, used, name);
@@ -59,7 +59,7 @@ fn append_extreme(out: &mut [u8], used: usize, name: &[u8], extreme: Extreme) ->
 
 // Both of them. The contract rules out the two exchanged.
 fn append_extremes(out: &mut [u8], used: usize, sheet: Sheet) -> usize
-    ensures { TextAppended out.old out.new used result (extremesText sheet.values) 54 }
+    ensures { TextAppended out.old out.new used result (extremes_text sheet.values) 54 }
 {
     let max = append_extreme(out, used, b"max", sheet.greatest());
     append_extreme(out, max, b"min", sheet.least())
@@ -67,7 +67,7 @@ fn append_extremes(out: &mut [u8], used: usize, sheet: Sheet) -> usize
 
 // How many scans there were in a mode, with its word as the name.
 fn append_count(out: &mut [u8], used: usize, sheet: Sheet, mode: Mode) -> usize
-    ensures { TextAppended out.old out.new used result (countText sheet.values mode) 20 }
+    ensures { TextAppended out.old out.new used result (count_text sheet.values mode) 20 }
 {
     let blank = formatting::append_byte(out, used, b' ');
     let word = crate::mode::append_mode(out, blank, mode);
@@ -77,7 +77,7 @@ fn append_count(out: &mut [u8], used: usize, sheet: Sheet, mode: Mode) -> usize
 
 // The counts of all modes. The contract rules out one that is left out, and another order.
 fn append_counts(out: &mut [u8], used: usize, sheet: Sheet) -> usize
-    ensures { TextAppended out.old out.new used result (countsText sheet.values) 160 }
+    ensures { TextAppended out.old out.new used result (counts_text sheet.values) 160 }
 {
     let hold = append_count(out, used, sheet, Mode::Hold);
     let track = append_count(out, hold, sheet, Mode::Track);
@@ -92,7 +92,7 @@ fn append_counts(out: &mut [u8], used: usize, sheet: Sheet) -> usize
 // The text of a sheet, without the line's end. The contract gives every byte, so it rules out a value that is
 // another's.
 pub fn append_sheet(out: &mut [u8], used: usize, sheet: Sheet) -> usize
-    ensures { TextAppended out.old out.new used result (sheetText sheet.values) 308 }
+    ensures { TextAppended out.old out.new used result (sheet_text sheet.values) 308 }
 {
     let name = formatting::append_bytes(out, used, b"sheet");
     let scans = append_number(out, name, b"scans", sheet.scans());

@@ -3,7 +3,7 @@
 // the number of its scan, 13 how many scans with an alarm, 14 the sum of PV and 15 that of OP. Where the number of a
 // scan is 0 there is no extreme.
 ghost use Rattle.std.specs.Prelude.{◌≡◌};
-ghost use Rattle.sheet_numbers.specs.Numbers.{noNumbers, countIn, extremeIn, countsIn, valuesIn, with_number};
+ghost use Rattle.sheet_numbers.specs.Numbers.{no_numbers, count_in, extreme_in, counts_in, values_in, with_number};
 
 use sheet::{Extreme, Occurrence, SheetValues};
 
@@ -37,14 +37,14 @@ pub struct ParsedValues {
 
 // All 0, before any is set. The contract rules out others.
 pub fn no_numbers() -> [i64; 16]
-    ensures { result ≡ noNumbers }
+    ensures { result ≡ no_numbers }
 {
     [0; 16]
 }
 
 // The contract rules out a number in range that isn't accepted, and another in its place.
 fn count_in(number: i64) -> Count
-    ensures { result ≡ countIn number }
+    ensures { result ≡ count_in number }
 {
     let n = text::arguments::natural_in(number, 0, 4294967295);
     Count {
@@ -56,7 +56,7 @@ fn count_in(number: i64) -> Count
 // A PV and the number of its scan; 0 there means none, whatever the PV is. The contract rules out a PV that is looked
 // at beside 0, and one beside another number that isn't.
 fn extreme_in(pv: i64, number: i64) -> ParsedExtreme
-    ensures { result ≡ extremeIn pv number }
+    ensures { result ≡ extreme_in pv number }
 {
     let n = count_in(number);
     if n.value == 0 {
@@ -77,7 +77,7 @@ fn extreme_in(pv: i64, number: i64) -> ParsedExtreme
 
 // The numbers at places 1 to 8. The contract rules out one that isn't tested, and a mode's count of another place.
 fn counts_in(numbers: [i64; 16]) -> Counts
-    ensures { result ≡ countsIn numbers }
+    ensures { result ≡ counts_in numbers }
 {
     let hold = count_in(numbers[1]);
     let track = count_in(numbers[2]);
@@ -106,7 +106,7 @@ fn counts_in(numbers: [i64; 16]) -> Counts
 // The values that the numbers stand for. The contract rules out a number that isn't tested, and a value of another
 // place.
 pub fn values_in(numbers: [i64; 16]) -> ParsedValues
-    ensures { result ≡ valuesIn numbers }
+    ensures { result ≡ values_in numbers }
 {
     let scans = count_in(numbers[0]);
     let counts = counts_in(numbers);

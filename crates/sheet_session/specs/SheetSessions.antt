@@ -2,8 +2,8 @@
 use Rattle.std.specs.Prelude.{ℕ, ℤ}
 use Rattle.integers.specs.Choice.{if◌then◌else◌}
 use Rattle.answers.specs.declared.ScanValues.{ScanValues}
-use Rattle.sheet.specs.Sheet.{emptySheet, entered}
-use Rattle.sheet.specs.Valid.{keptSheet}
+use Rattle.sheet.specs.Sheet.{empty_sheet, entered}
+use Rattle.sheet.specs.Valid.{kept_sheet}
 use Rattle.sheet.specs.declared.Entry.{Entry}
 use Rattle.sheet.specs.declared.Entry.TheVariants as entry
 use Rattle.sheet.specs.declared.EnterResult.{EnterResult}
@@ -11,7 +11,7 @@ use Rattle.sheet.specs.declared.KeptResult.{KeptResult}
 use Rattle.sheet.specs.declared.Sheet.{Sheet}
 use Rattle.sheet.specs.declared.Validity.{Validity}
 use Rattle.sheet.specs.declared.Validity.TheVariants as validity
-use Rattle.sheet_numbers.specs.Numbers.{noNumbers, valuesIn, with_number}
+use Rattle.sheet_numbers.specs.Numbers.{no_numbers, values_in, with_number}
 use Rattle.commands.specs.declared.SheetCall.{SheetCall}
 use Rattle.commands.specs.declared.SheetCall.TheVariants.{New, Last, Feed, Read, Number, Kept}
 use Rattle.replies.specs.declared.Reply.{Reply}
@@ -24,8 +24,8 @@ use Rattle.sheet_session.specs.declared.SheetSession.{SheetSession}
 use Rattle.sheet_session.specs.declared.SheetStep.{SheetStep}
 
 -- before the first line
-unfoldable pub firstSession : SheetSession
-firstSession = record { sheet = emptySheet; numbers = noNumbers; last = lastanswer.None }
+unfoldable pub first_session : SheetSession
+first_session = record { sheet = empty_sheet; numbers = no_numbers; last = lastanswer.None }
 
 -- a command that leaves everything as it was
 abbrev pub staying : SheetSession → Reply → SheetStep
@@ -34,25 +34,25 @@ staying s reply = record { session = s; reply = reply }
 -- ---- after a call of the controller: the sheet and its numbers stay
 
 -- an accepted scan's answer is the last one from then on; what isn't one leaves it
-abbrev pub lastAfter : LastAnswer → Reply → LastAnswer
-lastAfter last (Answer v) = lastanswer.Answer v
-lastAfter last Accepted = last
-lastAfter last (Value v) = last
-lastAfter last (Clock reading) = last
-lastAfter last Image = last
-lastAfter last (Line count) = last
-lastAfter last WholeSheet = last
-lastAfter last Full = last
-lastAfter last InvalidSheet = last
-lastAfter last (reply.Number v) = last
-lastAfter last (Drum bits) = last
-lastAfter last (Sample sample) = last
-lastAfter last (Run turns number bits) = last
-lastAfter last (Refused n) = last
-lastAfter last Error = last
+abbrev pub last_after : LastAnswer → Reply → LastAnswer
+last_after last (Answer v) = lastanswer.Answer v
+last_after last Accepted = last
+last_after last (Value v) = last
+last_after last (Clock reading) = last
+last_after last Image = last
+last_after last (Line count) = last
+last_after last WholeSheet = last
+last_after last Full = last
+last_after last InvalidSheet = last
+last_after last (reply.Number v) = last
+last_after last (Drum bits) = last
+last_after last (Sample sample) = last
+last_after last (Run turns number bits) = last
+last_after last (Refused n) = last
+last_after last Error = last
 
-unfoldable pub afterReply : SheetSession → Reply → SheetSession
-afterReply s reply = record { sheet = s.sheet; numbers = s.numbers; last = lastAfter s.last reply }
+unfoldable pub after_reply : SheetSession → Reply → SheetSession
+after_reply s reply = record { sheet = s.sheet; numbers = s.numbers; last = last_after s.last reply }
 
 -- ---- after a run of drum and controller: its turns count as accepted scans
 
@@ -61,57 +61,57 @@ abbrev pub later : LastAnswer → LastAnswer → LastAnswer
 later earlier lastanswer.None = earlier
 later earlier (lastanswer.Answer v) = lastanswer.Answer v
 
-unfoldable pub afterRun : SheetSession → LastAnswer → SheetSession
-afterRun s last = record { sheet = s.sheet; numbers = s.numbers; last = later s.last last }
+unfoldable pub after_run : SheetSession → LastAnswer → SheetSession
+after_run s last = record { sheet = s.sheet; numbers = s.numbers; last = later s.last last }
 
 -- ---- an answer is entered: numbers and last answer stay
 
-abbrev pub withSheet : SheetSession → Sheet → SheetSession
-withSheet s sheet = record { sheet = sheet; numbers = s.numbers; last = s.last }
+abbrev pub with_sheet : SheetSession → Sheet → SheetSession
+with_sheet s sheet = record { sheet = sheet; numbers = s.numbers; last = s.last }
 
-abbrev pub replyToEntry : Entry → Reply
-replyToEntry entry.Taken = Accepted
-replyToEntry entry.Full = Full
+abbrev pub reply_to_entry : Entry → Reply
+reply_to_entry entry.Taken = Accepted
+reply_to_entry entry.Full = Full
 
-abbrev pub afterEntry : SheetSession → EnterResult → SheetStep
-afterEntry s r = record { session = withSheet s r.sheet; reply = replyToEntry r.entry }
+abbrev pub after_entry : SheetSession → EnterResult → SheetStep
+after_entry s r = record { session = with_sheet s r.sheet; reply = reply_to_entry r.entry }
 
-unfoldable pub enteredStep : SheetSession → ScanValues → SheetStep
-enteredStep s v = afterEntry s (entered s.sheet v)
+unfoldable pub entered_step : SheetSession → ScanValues → SheetStep
+entered_step s v = after_entry s (entered s.sheet v)
 
 -- the last one, if there is one
-abbrev pub lastStep : SheetSession → LastAnswer → SheetStep
-lastStep s (lastanswer.Answer v) = enteredStep s v
-lastStep s lastanswer.None = staying s Error
+abbrev pub last_step : SheetSession → LastAnswer → SheetStep
+last_step s (lastanswer.Answer v) = entered_step s v
+last_step s lastanswer.None = staying s Error
 
 -- ---- a kept sheet
 
 -- one of its numbers is set
-unfoldable pub numberStep : SheetSession → ℕ → ℤ → SheetStep
-numberStep s place value =
+unfoldable pub number_step : SheetSession → ℕ → ℤ → SheetStep
+number_step s place value =
     record {
       session = record { sheet = s.sheet; numbers = with_number s.numbers place value; last = s.last };
       reply = Accepted;
     }
 
 -- the sheet that was kept, if it is a valid one
-abbrev pub keptBy : SheetSession → Sheet → Validity → SheetStep
-keptBy s sheet validity.Valid = record { session = withSheet s sheet; reply = Accepted }
-keptBy s sheet validity.Invalid = staying s InvalidSheet
+abbrev pub kept_by : SheetSession → Sheet → Validity → SheetStep
+kept_by s sheet validity.Valid = record { session = with_sheet s sheet; reply = Accepted }
+kept_by s sheet validity.Invalid = staying s InvalidSheet
 
-abbrev pub keptAs : SheetSession → KeptResult → SheetStep
-keptAs s kept = keptBy s kept.sheet kept.validity
+abbrev pub kept_as : SheetSession → KeptResult → SheetStep
+kept_as s kept = kept_by s kept.sheet kept.validity
 
 -- the numbers, each in the range of its type, are a sheet's if answers give them
-unfoldable pub keptStep : SheetSession → SheetStep
-keptStep s = let parsed = valuesIn s.numbers in if parsed.ok then keptAs s (keptSheet parsed.values) else staying s InvalidSheet
+unfoldable pub kept_step : SheetSession → SheetStep
+kept_step s = let parsed = values_in s.numbers in if parsed.ok then kept_as s (kept_sheet parsed.values) else staying s InvalidSheet
 
 -- ---- every command of the sheet
 
-unfoldable pub sheetStep : SheetSession → SheetCall → SheetStep
-sheetStep s New = record { session = withSheet s emptySheet; reply = Accepted }
-sheetStep s Last = lastStep s s.last
-sheetStep s (Feed v) = enteredStep s v
-sheetStep s Read = staying s WholeSheet
-sheetStep s (Number place value) = numberStep s place value
-sheetStep s Kept = keptStep s
+unfoldable pub sheet_step : SheetSession → SheetCall → SheetStep
+sheet_step s New = record { session = with_sheet s empty_sheet; reply = Accepted }
+sheet_step s Last = last_step s s.last
+sheet_step s (Feed v) = entered_step s v
+sheet_step s Read = staying s WholeSheet
+sheet_step s (Number place value) = number_step s place value
+sheet_step s Kept = kept_step s

@@ -1,8 +1,8 @@
 // What a run holds for the drying sheet, and what comes of the sheet's commands.
 ghost use Rattle.std.specs.Prelude.{◌≡◌};
 ghost use Rattle.sheet.specs.Valid.{Valid};
-ghost use Rattle.sheet_session.specs.SheetSessions.{firstSession, lastAfter, afterReply, withSheet, replyToEntry, enteredStep};
-ghost use Rattle.sheet_session.specs.SheetSessions.{later, afterRun, lastStep, numberStep, keptAs, keptStep, sheetStep};
+ghost use Rattle.sheet_session.specs.SheetSessions.{first_session, last_after, after_reply, with_sheet, reply_to_entry, entered_step};
+ghost use Rattle.sheet_session.specs.SheetSessions.{later, after_run, last_step, number_step, kept_as, kept_step, sheet_step};
 
 use answers::{LastAnswer, ScanValues};
 use commands::SheetCall;
@@ -26,7 +26,7 @@ pub struct SheetStep {
 
 // Before the first line: an empty sheet, all numbers 0, and no answer. The contract rules out others.
 pub fn first() -> SheetSession
-    ensures { (result ≡ firstSession) × Valid result.sheet }
+    ensures { (result ≡ first_session) × Valid result.sheet }
 {
     SheetSession {
         sheet: Sheet::empty(),
@@ -37,7 +37,7 @@ pub fn first() -> SheetSession
 
 // The contract rules out that anything but an accepted scan changes the last answer.
 fn last_after(last: LastAnswer, reply: Reply) -> LastAnswer
-    ensures { result ≡ lastAfter last reply }
+    ensures { result ≡ last_after last reply }
 {
     match reply {
         Reply::Answer(values) => LastAnswer::Answer(values),
@@ -60,7 +60,7 @@ fn last_after(last: LastAnswer, reply: Reply) -> LastAnswer
 
 // After a call of the controller with this reply. The contract rules out that the sheet or its numbers change.
 pub fn after_reply(session: SheetSession, reply: Reply) -> SheetSession
-    ensures { result ≡ afterReply session reply }
+    ensures { result ≡ after_reply session reply }
 {
     let sheet = session.sheet;
     let numbers = session.numbers;
@@ -85,7 +85,7 @@ fn later(earlier: LastAnswer, last: LastAnswer) -> LastAnswer
 // After a run of drum and controller whose last scan answered so, if there was one. The contract rules out that the
 // sheet or its numbers change.
 pub fn after_run(session: SheetSession, last: LastAnswer) -> SheetSession
-    ensures { result ≡ afterRun session last }
+    ensures { result ≡ after_run session last }
 {
     let sheet = session.sheet;
     let numbers = session.numbers;
@@ -99,7 +99,7 @@ pub fn after_run(session: SheetSession, last: LastAnswer) -> SheetSession
 
 // The session with another sheet.
 fn with_sheet(session: SheetSession, sheet: Sheet) -> SheetSession
-    ensures { result ≡ withSheet session sheet }
+    ensures { result ≡ with_sheet session sheet }
 {
     let numbers = session.numbers;
     let last = session.last;
@@ -112,7 +112,7 @@ fn with_sheet(session: SheetSession, sheet: Sheet) -> SheetSession
 
 // The contract rules out that a full sheet says it took an answer.
 fn reply_to_entry(entry: Entry) -> Reply
-    ensures { result ≡ replyToEntry entry }
+    ensures { result ≡ reply_to_entry entry }
 {
     match entry {
         Entry::Taken => Reply::Accepted,
@@ -123,7 +123,7 @@ fn reply_to_entry(entry: Entry) -> Reply
 // Enters an answer. The contract rules out a sheet that isn't handed on, and the reply of another entry.
 fn enter(session: SheetSession, values: ScanValues) -> SheetStep
     requires { Valid session.sheet }
-    ensures { (result ≡ enteredStep session values) × Valid result.session.sheet }
+    ensures { (result ≡ entered_step session values) × Valid result.session.sheet }
 {
     let sheet = session.sheet;
     let r = sheet.enter(values);
@@ -138,7 +138,7 @@ fn enter(session: SheetSession, values: ScanValues) -> SheetStep
 // Enters the answer of the last accepted scan; where there is none, that is an error.
 fn enter_last(session: SheetSession) -> SheetStep
     requires { Valid session.sheet }
-    ensures { (result ≡ lastStep session session.last) × Valid result.session.sheet }
+    ensures { (result ≡ last_step session session.last) × Valid result.session.sheet }
 {
     let last = session.last;
     match last {
@@ -152,7 +152,7 @@ fn enter_last(session: SheetSession) -> SheetStep
 
 // Sets one of the numbers of a kept sheet. The contract rules out another number's place, and a change of the sheet.
 fn set_number(session: SheetSession, place: usize, value: i64) -> SheetStep
-    ensures { result ≡ numberStep session place value }
+    ensures { result ≡ number_step session place value }
 {
     let sheet = session.sheet;
     let numbers = session.numbers;
@@ -170,7 +170,7 @@ fn set_number(session: SheetSession, place: usize, value: i64) -> SheetStep
 // The sheet that was kept, if it is a valid one. The contract rules out that anything of an invalid one is taken.
 fn kept_by(session: SheetSession, kept: KeptResult) -> SheetStep
     requires { Valid session.sheet × Valid kept.sheet }
-    ensures { (result ≡ keptAs session kept) × Valid result.session.sheet }
+    ensures { (result ≡ kept_as session kept) × Valid result.session.sheet }
 {
     let sheet = kept.sheet;
     let validity = kept.validity;
@@ -190,7 +190,7 @@ fn kept_by(session: SheetSession, kept: KeptResult) -> SheetStep
 // next command could not take.
 fn keep(session: SheetSession) -> SheetStep
     requires { Valid session.sheet }
-    ensures { (result ≡ keptStep session) × Valid result.session.sheet }
+    ensures { (result ≡ kept_step session) × Valid result.session.sheet }
 {
     let numbers = session.numbers;
     let parsed = sheet_numbers::values_in(numbers);
@@ -208,7 +208,7 @@ fn keep(session: SheetSession) -> SheetStep
 // that is taken for another.
 pub fn perform(session: SheetSession, call: SheetCall) -> SheetStep
     requires { Valid session.sheet }
-    ensures { (result ≡ sheetStep session call) × Valid result.session.sheet }
+    ensures { (result ≡ sheet_step session call) × Valid result.session.sheet }
 {
     match call {
         SheetCall::New => SheetStep {

@@ -5,12 +5,12 @@ use Rattle.signals.specs.declared.clock.ClockReading.TheVariants.{None, At}
 
 -- "16 when the reading is less than 30 ms after the last accepted one or lies before it"; "Until a scan is accepted
 -- after a fresh start or a restart, any reading is taken."
-abbrev pub isTooEarly : ClockReading → ℕ → Bool
-isTooEarly None now = false
-isTooEarly (At last) now = ltb now last || ltb (now - last) 30
+abbrev pub is_too_early : ClockReading → ℕ → Bool
+is_too_early None now = false
+is_too_early (At last) now = ltb now last || ltb (now - last) 30
 
 -- "From 30 to 42 ms is an ordinary scan. After more than 42 ms the scan is taken, but earlier PV and SP are forgotten
 -- first.": whether it comes after such a gap. The first one doesn't
-abbrev pub isAfterGap : ClockReading → ℕ → Bool
-isAfterGap None now = false
-isAfterGap (At last) now = ltb 42 (now - last)
+abbrev pub is_after_gap : ClockReading → ℕ → Bool
+is_after_gap None now = false
+is_after_gap (At last) now = ltb 42 (now - last)

@@ -4,27 +4,27 @@ use Rattle.std.specs.Prelude.{◌≡◌, refl, Bool, true, false, List, [], ◌�
 use Rattle.std.proofs.Common.{ap, arith}
 use Rattle.std.proofs.Math.Option.{some}
 use Rattle.integers.specs.Choice.{if◌then◌else◌}
-use Rattle.signals.specs.Refusals.{first_of, refusedBy, scanTests}
+use Rattle.signals.specs.Refusals.{first_of, refused_by, scan_tests}
 use Rattle.signals.specs.declared.Input.{Input}
 use Rattle.signals.specs.declared.clock.ClockReading.{ClockReading}
 
 -- ---- tests of one list behind those of another
 
-pub refused-append : (ts us : List (Bool × ℕ)) → refusedBy (ts ++ us) ≡ first_of (refusedBy ts) (refusedBy us)
-unfolding refusedBy
-refused-append [] us = refl
-refused-append (t ∷ ts) us = go t.0 (refused-append ts us)
+pub refused_append : (ts us : List (Bool × ℕ)) → refused_by (ts ++ us) ≡ first_of (refused_by ts) (refused_by us)
+unfolding refused_by
+refused_append [] us = refl
+refused_append (t ∷ ts) us = go t.0 (refused_append ts us)
   where
-    go : (b : Bool) → refusedBy (ts ++ us) ≡ first_of (refusedBy ts) (refusedBy us) →
-        (if b then some t.1 else refusedBy (ts ++ us)) ≡ first_of (if b then some t.1 else refusedBy ts) (refusedBy us)
+    go : (b : Bool) → refused_by (ts ++ us) ≡ first_of (refused_by ts) (refused_by us) →
+        (if b then some t.1 else refused_by (ts ++ us)) ≡ first_of (if b then some t.1 else refused_by ts) (refused_by us)
     go true e = refl
     go false e = e
 
 -- ---- an order of refusals: each number has a rank
 
 -- the order of the numbers themselves
-abbrev pub byNumber : ℕ → ℕ
-byNumber n = n
+abbrev pub by_number : ℕ → ℕ
+by_number n = n
 
 -- every number of the list ranks above this one
 abbrev pub Above : (ℕ → ℕ) → ℕ → List (Bool × ℕ) → Type 0
@@ -51,13 +51,13 @@ some_is : (m n : ℕ) → some m ≡ some n → m ≡ n
 some_is m n e = cc
 
 -- the number that `refusedBy` gives has the lowest rank of those whose tests hold
-pub lowest-wins : (rank : ℕ → ℕ) (ts : List (Bool × ℕ)) → Ascending rank ts → (n : ℕ) → refusedBy ts ≡ some n →
+pub lowest_wins : (rank : ℕ → ℕ) (ts : List (Bool × ℕ)) → Ascending rank ts → (n : ℕ) → refused_by ts ≡ some n →
     (m : ℕ) → Holds m ts → rank n ≤ rank m
-unfolding refusedBy
-lowest-wins rank (t ∷ ts) a n e m (here q d) = omega (arith, ap rank d, ap rank (some_is t.1 n (rw q at e)))
-lowest-wins rank (t ∷ ts) a n e m (later h) = go t.0 refl (λ d. lowest-wins rank ts a.1 n d m h)
+unfolding refused_by
+lowest_wins rank (t ∷ ts) a n e m (here q d) = omega (arith, ap rank d, ap rank (some_is t.1 n (rw q at e)))
+lowest_wins rank (t ∷ ts) a n e m (later h) = go t.0 refl (λ d. lowest_wins rank ts a.1 n d m h)
   where
-    go : (b : Bool) → t.0 ≡ b → (refusedBy ts ≡ some n → rank n ≤ rank m) → rank n ≤ rank m
+    go : (b : Bool) → t.0 ≡ b → (refused_by ts ≡ some n → rank n ≤ rank m) → rank n ≤ rank m
     go true q f = omega (arith, above_holds rank t.1 m ts a.0 h, ap rank (some_is t.1 n (rw q at e)))
     go false q f = f (rw q at e)
 
@@ -69,19 +69,19 @@ AllFrom least most [] = Unit {0}
 AllFrom least most (t ∷ ts) = (least ≤ t.1) × (t.1 ≤ most) × AllFrom least most ts
 
 -- so the one that `refusedBy` gives does
-pub refused-from : (least most : ℕ) (ts : List (Bool × ℕ)) → AllFrom least most ts → (k : ℕ) → refusedBy ts ≡ some k →
+pub refused_from : (least most : ℕ) (ts : List (Bool × ℕ)) → AllFrom least most ts → (k : ℕ) → refused_by ts ≡ some k →
     (least ≤ k) × (k ≤ most)
-unfolding refusedBy
-refused-from least most [] f k e = let z : ◌≡◌ {A = ℕ} 0 1 = cc in absurd (omega arith)
-refused-from least most (t ∷ ts) f k e = go t.0 refl (refused-from least most ts f.2 k)
+unfolding refused_by
+refused_from least most [] f k e = let z : ◌≡◌ {A = ℕ} 0 1 = cc in absurd (omega arith)
+refused_from least most (t ∷ ts) f k e = go t.0 refl (refused_from least most ts f.2 k)
   where
-    go : (b : Bool) → t.0 ≡ b → (refusedBy ts ≡ some k → (least ≤ k) × (k ≤ most)) → (least ≤ k) × (k ≤ most)
+    go : (b : Bool) → t.0 ≡ b → (refused_by ts ≡ some k → (least ≤ k) × (k ≤ most)) → (least ≤ k) × (k ≤ most)
     go true q r = let is = some_is t.1 k (rw q at e) in (omega (arith, is, f.0), omega (arith, is, f.1))
     go false q r = r (rw q at e)
 
 -- ---- the tests of a scan are listed by their numbers
 
-pub scan-ascends : (last : ClockReading) (i : Input) → Ascending byNumber (scanTests last i)
-unfolding scanTests
-scan-ascends last i =
+pub scan_ascends : (last : ClockReading) (i : Input) → Ascending by_number (scan_tests last i)
+unfolding scan_tests
+scan_ascends last i =
     ((omega arith, (omega arith, (omega arith, tt))), ((omega arith, (omega arith, tt)), ((omega arith, tt), (tt, tt))))

@@ -3,7 +3,7 @@ use Rattle.std.specs.Prelude.{Bool, ◌||◌, List, [], ◌∷◌, ℕ, ltb}
 use Rattle.std.proofs.Math.Option.{Option, some, none}
 use Rattle.integers.specs.Choice.{if◌then◌else◌}
 use Rattle.signals.specs.Bits.{bit}
-use Rattle.signals.specs.Clock.{isTooEarly}
+use Rattle.signals.specs.Clock.{is_too_early}
 use Rattle.signals.specs.declared.Input.{Input}
 use Rattle.signals.specs.declared.Refusal.{Refusal}
 use Rattle.signals.specs.declared.Refusal.TheVariants.{Sample, ButtonBits, SensorBits, Number, ReadOnly, Range, Pair}
@@ -50,16 +50,16 @@ first_of (some n) later = some n
 
 -- of tests listed in their order, the number of the first that holds. "Within a group the lowest number wins.": where
 -- the papers name no other order it is that of the numbers
-unfoldable pub refusedBy : List (Bool × ℕ) → Option ℕ
-refusedBy [] = none
-refusedBy (t ∷ ts) = if t.0 then some t.1 else refusedBy ts
+unfoldable pub refused_by : List (Bool × ℕ) → Option ℕ
+refused_by [] = none
+refused_by (t ∷ ts) = if t.0 then some t.1 else refused_by ts
 
 -- "Plant: 1 a sample above 10000; 2 button bits 5 or 4 set; 3 sensor bits above 1 set."; document 02, request 2: "16
 -- when the reading is less than 30 ms after the last accepted one or lies before it, tested after 3."
-unfoldable pub scanTests : ClockReading → Input → List (Bool × ℕ)
-scanTests last i =
+unfoldable pub scan_tests : ClockReading → Input → List (Bool × ℕ)
+scan_tests last i =
     (ltb 10000 i.sample1 || ltb 10000 i.sample2 || ltb 10000 i.sample3, 1)
     ∷ (bit i.buttons 5 || bit i.buttons 4, 2)
     ∷ (ltb 3 i.sensors, 3)
-    ∷ (isTooEarly last i.milliseconds, 16)
+    ∷ (is_too_early last i.milliseconds, 16)
     ∷ []

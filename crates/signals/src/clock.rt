@@ -1,6 +1,6 @@
 // Document 02, request 2: the clock that comes with the scan. Its readings are the host's milliseconds.
 ghost use Rattle.std.specs.Prelude.{◌≡◌};
-ghost use Rattle.signals.specs.Clock.{isTooEarly, isAfterGap};
+ghost use Rattle.signals.specs.Clock.{is_too_early, is_after_gap};
 
 // The reading of the last accepted scan, or none since a fresh start or a restart.
 #[derive(Drop)]
@@ -19,7 +19,7 @@ const ORDINARY_MOST: u64 = 42;
 // pass 64 bits and is not formed. The contract rules out that a reading 29 ms after the last is taken, that one 30 ms
 // after it is refused, and that any is refused where there is none before.
 pub fn is_too_early(last: ClockReading, now: u64) -> bool
-    ensures { result ≡ isTooEarly last now }
+    ensures { result ≡ is_too_early last now }
 {
     match last {
         ClockReading::None => false,
@@ -35,7 +35,7 @@ pub fn is_too_early(last: ClockReading, now: u64) -> bool
 // Whether a reading comes after a gap. The contract rules out that 42 ms are a gap, that 43 ms are none, and a gap
 // where there is no reading before.
 pub fn is_after_gap(last: ClockReading, now: u64) -> bool
-    ensures { result ≡ isAfterGap last now }
+    ensures { result ≡ is_after_gap last now }
 {
     match last {
         ClockReading::None => false,

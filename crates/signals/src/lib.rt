@@ -1,8 +1,8 @@
 // What a scan is given, and what the bits of its bytes and of the switch word say; the refusals, and those of a scan.
 ghost use Rattle.std.specs.Prelude.{◌≡◌, ◌<◌};
 ghost use Rattle.signals.specs.Bits.{bit};
-ghost use Rattle.signals.specs.Refusals.{number_of, number_in, first_of, refusedBy, scanTests};
-ghost use Rattle.signals.specs.Signals.{switchesOf, pinsOf, computerPin, buttonsOf, adjustmentOf, isOpen, batteryLow};
+ghost use Rattle.signals.specs.Refusals.{number_of, number_in, first_of, refused_by, scan_tests};
+ghost use Rattle.signals.specs.Signals.{switches_of, pins_of, computer_pin, buttons_of, adjustment_of, is_open, battery_low};
 
 use crate::clock::ClockReading;
 
@@ -134,7 +134,7 @@ pub fn bit(word: u16, number: u16) -> bool
 
 // The contract rules out switches that are exchanged or taken from another bit.
 pub fn switches_of(sw: u16) -> Switches
-    ensures { result ≡ switchesOf sw }
+    ensures { result ≡ switches_of sw }
 {
     Switches {
         ratio: bit(sw, bits::S2_1),
@@ -150,7 +150,7 @@ pub fn switches_of(sw: u16) -> Switches
 
 // The contract rules out pins that are exchanged or turned.
 pub fn pins_of(byte: u8) -> Pins
-    ensures { result ≡ pinsOf byte }
+    ensures { result ≡ pins_of byte }
 {
     let word = byte as u16;
     Pins {
@@ -162,14 +162,14 @@ pub fn pins_of(byte: u8) -> Pins
 
 // Whether the Computer pin is at 1. The contract rules out the bit of another pin.
 pub fn computer_pin(byte: u8) -> bool
-    ensures { result ≡ computerPin byte }
+    ensures { result ≡ computer_pin byte }
 {
     bit(byte as u16, bits::COMPUTER_PIN)
 }
 
 // The contract rules out buttons that are exchanged.
 pub fn buttons_of(byte: u8) -> Buttons
-    ensures { result ≡ buttonsOf byte }
+    ensures { result ≡ buttons_of byte }
 {
     let word = byte as u16;
     Buttons {
@@ -184,7 +184,7 @@ pub fn buttons_of(byte: u8) -> Buttons
 
 // The contract rules out a push while both are pressed.
 pub fn adjustment_of(b: Buttons) -> Adjustment
-    ensures { result ≡ adjustmentOf b }
+    ensures { result ≡ adjustment_of b }
 {
     if b.raise {
         if b.lower {
@@ -203,14 +203,14 @@ pub fn adjustment_of(b: Buttons) -> Adjustment
 
 // Whether channel 1 is open. The contract rules out the battery's bit.
 pub fn is_open(input: Input) -> bool
-    ensures { result ≡ isOpen input }
+    ensures { result ≡ is_open input }
 {
     bit(input.sensors as u16, bits::CHANNEL_1_OPEN)
 }
 
 // The contract rules out channel 1's bit.
 pub fn battery_low(input: Input) -> bool
-    ensures { result ≡ batteryLow input }
+    ensures { result ≡ battery_low input }
 {
     bit(input.sensors as u16, bits::BATTERY_LOW)
 }
@@ -261,7 +261,7 @@ pub fn first_refusal(earlier: Verdict, later: Verdict) -> Verdict
 // after 3. The contract rules out a refusal for a cause that is not listed, one that is forgotten, and a later one
 // where an earlier one applies.
 pub fn scan_verdict(last: ClockReading, input: Input) -> Verdict
-    ensures { number_in result ≡ refusedBy (scanTests last input) }
+    ensures { number_in result ≡ refused_by (scan_tests last input) }
 {
     let sample = (GREATEST_SAMPLE < input.sample1)
         | (GREATEST_SAMPLE < input.sample2)

@@ -2,14 +2,14 @@
 use Rattle.std.specs.Prelude.{Bool, ◌&&◌, List, [], ◌∷◌, ℕ, eqb, leb, ℤ, pos, drop}
 use Rattle.std.proofs.Math.Option.{Option, some, none}
 use Rattle.integers.specs.Choice.{if◌then◌else◌}
-use Rattle.numerals.specs.Numerals.{integerOf, word_of}
+use Rattle.numerals.specs.Numerals.{integer_of, word_of}
 use Rattle.terminal.specs.Mnemonics.{named}
 use Rattle.terminal.specs.declared.command.Command.{Command}
 use Rattle.terminal.specs.declared.command.Command.TheVariants.{Read, Write, NoMnemonic, NoValue}
 
 -- the parameters whose values have the form of a word, "MD, DS, SW and II": numbers 24 to 27
-unfoldable pub isWord : ℕ → Bool
-isWord n = leb 24 n && leb n 27
+unfoldable pub is_word : ℕ → Bool
+is_word n = leb 24 n && leb n 27
 
 abbrev pub unsigned : Option ℕ → Option ℤ
 unsigned none = none
@@ -18,7 +18,7 @@ unsigned (some n) = some (pos n)
 -- "four hexadecimal digits for MD, DS, SW and II, capitals for A to F, otherwise a decimal of one to five digits with
 -- an optional leading minus"
 unfoldable pub value_of : ℕ → List ℕ → Option ℤ
-value_of n bytes = if isWord n then unsigned (word_of bytes) else integerOf 5 bytes
+value_of n bytes = if is_word n then unsigned (word_of bytes) else integer_of 5 bytes
 
 -- a line that names the parameter n and has such a value, or what has no such form
 abbrev pub writing : ℕ → Option ℤ → Command
@@ -27,15 +27,15 @@ writing n none = NoValue
 
 -- "With no value it reads, with one it writes.": by what follows the mnemonic of the number n, nothing, or > (62) and a
 -- value. "Lines end at their last byte, with no blanks."
-unfoldable pub commandOf : ℕ → List ℕ → Command
-commandOf n [] = Read n
-commandOf n (b ∷ bytes) = if eqb b 62 then writing n (value_of n bytes) else NoValue
+unfoldable pub command_of : ℕ → List ℕ → Command
+command_of n [] = Read n
+command_of n (b ∷ bytes) = if eqb b 62 then writing n (value_of n bytes) else NoValue
 
 -- of the number that the first two bytes name
-abbrev pub commandBy : Option ℕ → List ℕ → Command
-commandBy none behind = NoMnemonic
-commandBy (some n) behind = commandOf n behind
+abbrev pub command_by : Option ℕ → List ℕ → Command
+command_by none behind = NoMnemonic
+command_by (some n) behind = command_of n behind
 
 -- what a line asks
-unfoldable pub commandIn : List ℕ → Command
-commandIn line = commandBy (named line) (drop 2 line)
+unfoldable pub command_in : List ℕ → Command
+command_in line = command_by (named line) (drop 2 line)

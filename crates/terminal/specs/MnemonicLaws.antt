@@ -5,7 +5,7 @@ use Rattle.std.proofs.Common.{sym, ap, ◌∙◌, arith, drop-cons, eqb-true, le
 use Rattle.std.proofs.Math.Option.{Option, some, none}
 use Rattle.integers.specs.Choice.{if◌then◌else◌, both}
 use Rattle.integers.specs.Listed.{listed, listed_same}
-use Rattle.terminal.specs.Mnemonics.{mnemonics, mnemonic, is_of, numbered, named, numberOr}
+use Rattle.terminal.specs.Mnemonics.{mnemonics, mnemonic, is_of, numbered, named, number_or}
 
 -- ---- the letters of all mnemonics, one after another
 
@@ -35,40 +35,40 @@ letter_at (suc i) place l h p =
 -- ---- the search
 
 -- the mnemonics from a number on
-pub from-number : (n : ℕ) → 1 ≤ n → n ≤ 32 → drop (n - 1) mnemonics ≡ mnemonic n ∷ drop n mnemonics
+pub from_number : (n : ℕ) → 1 ≤ n → n ≤ 32 → drop (n - 1) mnemonics ≡ mnemonic n ∷ drop n mnemonics
 unfolding mnemonic
-from-number zero l h = absurd (omega arith)
-from-number (suc i) l h =
+from_number zero l h = absurd (omega arith)
+from_number (suc i) l h =
     let is : suc i - 1 ≡ i = omega arith in
     rw is (drop-cons mnemonics i [] (omega arith))
 
 module _ (first second : ℕ) where
   -- the number's own two bytes
-  pub search-found : (n : ℕ) → 1 ≤ n → n ≤ 32 → is_of (mnemonic n) first second ≡ true →
+  pub search_found : (n : ℕ) → 1 ≤ n → n ≤ 32 → is_of (mnemonic n) first second ≡ true →
       numbered n (drop (n - 1) mnemonics) first second ≡ some n
   unfolding numbered
-  search-found n l h e = rw (from-number n l h) (simp e)
+  search_found n l h e = rw (from_number n l h) (simp e)
 
   -- those of another
-  pub search-on : (n : ℕ) → 1 ≤ n → n ≤ 32 → is_of (mnemonic n) first second ≡ false →
+  pub search_on : (n : ℕ) → 1 ≤ n → n ≤ 32 → is_of (mnemonic n) first second ≡ false →
       numbered n (drop (n - 1) mnemonics) first second ≡ numbered (suc n) (drop n mnemonics) first second
   unfolding numbered
-  search-on n l h e = rw (from-number n l h) (simp e)
+  search_on n l h e = rw (from_number n l h) (simp e)
 
   -- behind the last
-  pub search-ends : (n : ℕ) → n ≡ 33 → numbered n (drop (n - 1) mnemonics) first second ≡ none
+  pub search_ends : (n : ℕ) → n ≡ 33 → numbered n (drop (n - 1) mnemonics) first second ≡ none
   unfolding numbered
-  search-ends n e = rw e refl
+  search_ends n e = rw e refl
 
-pub search-begins : (line : List ℕ) → 2 ≤ length line → named line ≡ numbered 1 mnemonics (get_or line 0 0) (get_or line 1 0)
+pub search_begins : (line : List ℕ) → 2 ≤ length line → named line ≡ numbered 1 mnemonics (get_or line 0 0) (get_or line 1 0)
 unfolding named
-search-begins line h = simp (le-ltb (length line) 2 h)
+search_begins line h = simp (le-ltb (length line) 2 h)
 
 -- a number that is found is one of those that were numbered
-numbered-range : (n m : ℕ) (ms : List (List ℕ)) (first second : ℕ) → numbered n ms first second ≡ some m → (n ≤ m) × (m < n + length ms)
+numbered_range : (n m : ℕ) (ms : List (List ℕ)) (first second : ℕ) → numbered n ms first second ≡ some m → (n ≤ m) × (m < n + length ms)
 unfolding numbered
-numbered-range n m [] first second e = let z : ◌≡◌ {A = ℕ} 0 1 = cc in absurd (omega arith)
-numbered-range n m (k ∷ ks) first second e = go (is_of k first second) e (numbered-range (suc n) m ks first second)
+numbered_range n m [] first second e = let z : ◌≡◌ {A = ℕ} 0 1 = cc in absurd (omega arith)
+numbered_range n m (k ∷ ks) first second e = go (is_of k first second) e (numbered_range (suc n) m ks first second)
   where
     go : (t : Bool) → (if t then some n else numbered (suc n) ks first second) ≡ some m →
         (numbered (suc n) ks first second ≡ some m → (suc n ≤ m) × (m < suc n + length ks)) → (n ≤ m) × (m < n + suc (length ks))
@@ -81,45 +81,45 @@ pub record Names (line : List ℕ) (n : ℕ) : Type 0 where
   pub least : 1 ≤ n
   pub most : n ≤ 32
 
-pub named-range : (line : List ℕ) (n : ℕ) → named line ≡ some n → Names line n
+pub named_range : (line : List ℕ) (n : ℕ) → named line ≡ some n → Names line n
 unfolding named
-named-range line n e = go (ltb (length line) 2) refl e
+named_range line n e = go (ltb (length line) 2) refl e
   where
     go : (t : Bool) → ltb (length line) 2 ≡ t →
         (if t then none else numbered 1 mnemonics (get_or line 0 0) (get_or line 1 0)) ≡ some n → Names line n
     go true f g = let z : ◌≡◌ {A = ℕ} 0 1 = cc in absurd (omega arith)
     go false f g =
-        let r = numbered-range 1 n mnemonics (get_or line 0 0) (get_or line 1 0) g in
+        let r = numbered_range 1 n mnemonics (get_or line 0 0) (get_or line 1 0) g in
         record { two = ltb-false (length line) 2 f; least = r.0; most = omega (arith, r.1) }
 
 -- ---- the search's answer in a number, 0 for none
 
-pub no_name : (line : List ℕ) → numberOr (named line) ≡ 0 → named line ≡ none
+pub no_name : (line : List ℕ) → number_or (named line) ≡ 0 → named line ≡ none
 no_name line e = go (named line) refl
   where
     go : (o : Option ℕ) → named line ≡ o → named line ≡ none
     go none f = f
     go (some n) f =
-        let is : n ≡ 0 = ap numberOr (sym f) ∙ e in
-        let r = named-range line n f in
+        let is : n ≡ 0 = ap number_or (sym f) ∙ e in
+        let r = named_range line n f in
         absurd (omega (arith, r.least))
 
-pub name-found : (line : List ℕ) (n : ℕ) → numberOr (named line) ≡ n → (n ≡ 0 → ⊥) → named line ≡ some n
-name-found line n e other = go (named line) refl
+pub name_found : (line : List ℕ) (n : ℕ) → number_or (named line) ≡ n → (n ≡ 0 → ⊥) → named line ≡ some n
+name_found line n e other = go (named line) refl
   where
     go : (o : Option ℕ) → named line ≡ o → named line ≡ some n
-    go none f = absurd (other (sym e ∙ ap numberOr f))
-    go (some m) f = let is : m ≡ n = ap numberOr (sym f) ∙ e in f ∙ ap some is
+    go none f = absurd (other (sym e ∙ ap number_or f))
+    go (some m) f = let is : m ≡ n = ap number_or (sym f) ∙ e in f ∙ ap some is
 
 -- ---- each mnemonic names its own number, and no other two bytes do
 
 -- the two bytes that a found number has
-numbered-has : (n m : ℕ) (ms : List (List ℕ)) (first second : ℕ) → numbered n ms first second ≡ some m →
+numbered_has : (n m : ℕ) (ms : List (List ℕ)) (first second : ℕ) → numbered n ms first second ≡ some m →
     is_of (get_or ms (m - n) []) first second ≡ true
 unfolding numbered
-numbered-has n m [] first second e = let z : ◌≡◌ {A = ℕ} 0 1 = cc in absurd (omega arith)
-numbered-has n m (k ∷ ks) first second e =
-    go (is_of k first second) refl e (numbered-has (suc n) m ks first second) (numbered-range (suc n) m ks first second)
+numbered_has n m [] first second e = let z : ◌≡◌ {A = ℕ} 0 1 = cc in absurd (omega arith)
+numbered_has n m (k ∷ ks) first second e =
+    go (is_of k first second) refl e (numbered_has (suc n) m ks first second) (numbered_range (suc n) m ks first second)
   where
     go : (t : Bool) → is_of k first second ≡ t → (if t then some n else numbered (suc n) ks first second) ≡ some m →
         (numbered (suc n) ks first second ≡ some m → is_of (get_or ks (m - suc n) []) first second ≡ true) →
@@ -140,22 +140,22 @@ begins [] h = absurd (omega arith)
 begins (a ∷ []) h = absurd (omega arith)
 begins (a ∷ b ∷ l) h = refl
 
-pub two-letters : (n : ℕ) → 1 ≤ n → n ≤ 32 → mnemonic n ≡ get_or (mnemonic n) 0 0 ∷ get_or (mnemonic n) 1 0 ∷ []
+pub two_letters : (n : ℕ) → 1 ≤ n → n ≤ 32 → mnemonic n ≡ get_or (mnemonic n) 0 0 ∷ get_or (mnemonic n) 1 0 ∷ []
 unfolding mnemonic listed
-two-letters n least most =
+two_letters n least most =
     listed_same mnemonic (λ (m : ℕ). get_or (mnemonic m) 0 0 ∷ get_or (mnemonic m) 1 0 ∷ []) 1 32 n refl least (omega arith)
 
 -- a line that names a number begins with its mnemonic
-pub begins-with : (line : List ℕ) (n : ℕ) → named line ≡ some n → take 2 line ≡ mnemonic n
+pub begins_with : (line : List ℕ) (n : ℕ) → named line ≡ some n → take 2 line ≡ mnemonic n
 unfolding is_of mnemonic
-begins-with line n e =
-    let r = named-range line n e in
-    let found = sym (search-begins line r.two) ∙ e in
-    let has = numbered-has 1 n mnemonics (get_or line 0 0) (get_or line 1 0) found in
+begins_with line n e =
+    let r = named_range line n e in
+    let found = sym (search_begins line r.two) ∙ e in
+    let has = numbered_has 1 n mnemonics (get_or line 0 0) (get_or line 1 0) found in
     let place : get_or mnemonics (n - 1) [] ≡ mnemonic n = entry_at n r.least in
     let t = both _ _ (rw place at has) in
     begins line r.two ∙
-    sym (two-letters n r.least r.most ∙
+    sym (two_letters n r.least r.most ∙
     ap (λ (b : ℕ). b ∷ get_or (mnemonic n) 1 0 ∷ []) (eqb-true (get_or (mnemonic n) 0 0) (get_or line 0 0) t.0) ∙
     ap (λ (b : ℕ). get_or line 0 0 ∷ b ∷ []) (eqb-true (get_or (mnemonic n) 1 0) (get_or line 1 0) t.1))
   where
@@ -163,9 +163,9 @@ begins-with line n e =
     entry_at zero h = absurd (omega arith)
     entry_at (suc i) h = let is : suc i - 1 ≡ i = omega arith in rw is refl
 
-own-number : (n : ℕ) → 1 ≤ n → n ≤ 32 → numbered 1 mnemonics (get_or (mnemonic n) 0 0) (get_or (mnemonic n) 1 0) ≡ some n
+own_number : (n : ℕ) → 1 ≤ n → n ≤ 32 → numbered 1 mnemonics (get_or (mnemonic n) 0 0) (get_or (mnemonic n) 1 0) ≡ some n
 unfolding mnemonic numbered is_of listed
-own-number n least most =
+own_number n least most =
     listed_same (λ (m : ℕ). numbered 1 mnemonics (get_or (mnemonic m) 0 0) (get_or (mnemonic m) 1 0)) (λ (m : ℕ). some m) 1 32 n refl least
     (omega arith)
 
@@ -184,8 +184,8 @@ begun (a ∷ b ∷ l) m e h =
 -- and a line that begins with a mnemonic names its number
 pub names : (line : List ℕ) (n : ℕ) → 1 ≤ n → n ≤ 32 → take 2 line ≡ mnemonic n → named line ≡ some n
 names line n least most e =
-    let b = begun line (mnemonic n) e (ap length (two-letters n least most)) in
-    search-begins line b.two ∙
+    let b = begun line (mnemonic n) e (ap length (two_letters n least most)) in
+    search_begins line b.two ∙
     ap (λ (f : ℕ). numbered 1 mnemonics f (get_or line 1 0)) b.first ∙
     ap (λ (f : ℕ). numbered 1 mnemonics (get_or (mnemonic n) 0 0) f) b.second ∙
-    own-number n least most
+    own_number n least most

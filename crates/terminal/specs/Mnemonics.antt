@@ -32,6 +32,6 @@ unfoldable pub named : List ℕ → Option ℕ
 named line = if ltb (length line) 2 then none else numbered 1 mnemonics (get_or line 0 0) (get_or line 1 0)
 
 -- the same for the code: 0 where they name none
-abbrev pub numberOr : Option ℕ → ℕ
-numberOr none = 0
-numberOr (some n) = n
+abbrev pub number_or : Option ℕ → ℕ
+number_or none = 0
+number_or (some n) = n

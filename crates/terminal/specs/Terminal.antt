@@ -3,14 +3,14 @@
 use Rattle.std.specs.Prelude.{List, ◌∷◌, ◌++◌, ℕ, ltb, ℤ, nat_abs, length, drop}
 use Rattle.std.proofs.Math.Option.{Option, some, none}
 use Rattle.integers.specs.Choice.{if◌then◌else◌}
-use Rattle.numerals.specs.Numerals.{decimal, hexadecimalWord}
-use Rattle.signals.specs.Refusals.{number_of, refusedBy}
+use Rattle.numerals.specs.Numerals.{decimal, hexadecimal_word}
+use Rattle.signals.specs.Refusals.{number_of, refused_by}
 use Rattle.rights.specs.declared.Writer.{Writer}
 use Rattle.controller.specs.Answers.{op_of}
-use Rattle.controller.specs.Read.{valueIn}
-use Rattle.controller.specs.Write.{writeTests, write}
+use Rattle.controller.specs.Read.{value_in}
+use Rattle.controller.specs.Write.{write_tests, write}
 use Rattle.controller.specs.declared.Controller.{Controller}
-use Rattle.terminal.specs.Commands.{isWord, commandIn}
+use Rattle.terminal.specs.Commands.{is_word, command_in}
 use Rattle.terminal.specs.Mnemonics.{mnemonic}
 use Rattle.terminal.specs.declared.LineAnswer.{LineAnswer}
 use Rattle.terminal.specs.declared.LineAnswer.TheVariants as answer
@@ -21,16 +21,16 @@ use Rattle.terminal.specs.declared.command.Command.TheVariants.{Read, Write, NoM
 -- ---- "The reply is the mnemonic, > and the present value, four hexadecimal capitals or the shortest decimal"
 
 -- a value as the terminal shows it
-unfoldable pub valueText : ℕ → ℤ → List ℕ
-valueText n v = if isWord n then hexadecimalWord (nat_abs v) else decimal v
+unfoldable pub value_text : ℕ → ℤ → List ℕ
+value_text n v = if is_word n then hexadecimal_word (nat_abs v) else decimal v
 
 -- the reply for the number n with a value
-unfoldable pub replyText : ℕ → ℤ → List ℕ
-replyText n v = mnemonic n ++ (62 ∷ valueText n v)
+unfoldable pub reply_text : ℕ → ℤ → List ℕ
+reply_text n v = mnemonic n ++ (62 ∷ value_text n v)
 
 -- "the present value": what a read of the controller answers
-abbrev pub presentValue : Controller → ℕ → ℤ
-presentValue c n = valueIn c.core (op_of c.output) n
+abbrev pub present_value : Controller → ℕ → ℤ
+present_value c n = value_in c.core (op_of c.output) n
 
 -- ---- the whole
 
@@ -47,48 +47,48 @@ pub record LineOutcome : Type 0 where
   pub buffer : List ℕ
 
 -- a line that isn't taken leaves the controller and the buffer
-abbrev pub refusedLine : Controller → List ℕ → ℕ → LineOutcome
-refusedLine c buffer k = record { next = c; answer = number k; buffer = buffer }
+abbrev pub refused_line : Controller → List ℕ → ℕ → LineOutcome
+refused_line c buffer k = record { next = c; answer = number k; buffer = buffer }
 
 -- the reply "goes to the front of a lent buffer; its length is the answer and the bytes behind it stay"
 unfoldable pub replied : Controller → ℕ → List ℕ → LineOutcome
 replied c n buffer =
-    let text = replyText n (presentValue c n) in
+    let text = reply_text n (present_value c n) in
     record { next = c; answer = reply (length text); buffer = text ++ drop (length text) buffer }
 
 -- a write, and its own refusal: the reply shows what is present after it
-abbrev pub wroteOr : Option ℕ → Controller → Writer → ℕ → ℤ → List ℕ → LineOutcome
-wroteOr none c w n v buffer = replied (write c w n v).next n buffer
-wroteOr (some k) c w n v buffer = refusedLine c buffer k
+abbrev pub wrote_or : Option ℕ → Controller → Writer → ℕ → ℤ → List ℕ → LineOutcome
+wrote_or none c w n v buffer = replied (write c w n v).next n buffer
+wrote_or (some k) c w n v buffer = refused_line c buffer k
 
 -- "15 is also given for a reply buffer under nine bytes, right after 18 and before any refusal of the read or write
 -- itself." A read's own refusal is 4, of a number that no mnemonic names; it goes by no writer
-unfoldable pub readTo : Controller → ℕ → List ℕ → LineOutcome
-readTo c n buffer = if ltb (length buffer) 9 then refusedLine c buffer 15 else replied c n buffer
+unfoldable pub read_to : Controller → ℕ → List ℕ → LineOutcome
+read_to c n buffer = if ltb (length buffer) 9 then refused_line c buffer 15 else replied c n buffer
 
 -- a write's own are those of the writer's write
-unfoldable pub writtenTo : Controller → Writer → ℕ → ℤ → List ℕ → LineOutcome
-writtenTo c w n v buffer =
-    if ltb (length buffer) 9 then refusedLine c buffer 15 else wroteOr (refusedBy (writeTests c.core w n v)) c w n v buffer
+unfoldable pub written_to : Controller → Writer → ℕ → ℤ → List ℕ → LineOutcome
+written_to c w n v buffer =
+    if ltb (length buffer) 9 then refused_line c buffer 15 else wrote_or (refused_by (write_tests c.core w n v)) c w n v buffer
 
 -- "17 when the first two bytes are no mnemonic, before all others. 18 when what follows isn't nothing or > with such a
 -- value, next after 17."
-unfoldable pub answeredTo : Controller → Writer → List ℕ → Command → LineOutcome
-answeredTo c w buffer NoMnemonic = refusedLine c buffer 17
-answeredTo c w buffer NoValue = refusedLine c buffer 18
-answeredTo c w buffer (Read n) = readTo c n buffer
-answeredTo c w buffer (Write n v) = writtenTo c w n v buffer
+unfoldable pub answered_to : Controller → Writer → List ℕ → Command → LineOutcome
+answered_to c w buffer NoMnemonic = refused_line c buffer 17
+answered_to c w buffer NoValue = refused_line c buffer 18
+answered_to c w buffer (Read n) = read_to c n buffer
+answered_to c w buffer (Write n v) = written_to c w n v buffer
 
 -- what `terminal::answer` returns and leaves in the buffer
 unfoldable pub answered : Controller → Writer → List ℕ → List ℕ → LineOutcome
-answered c w line buffer = answeredTo c w buffer (commandIn line)
+answered c w line buffer = answered_to c w buffer (command_in line)
 
 -- ---- the code's answer, in the paper's numbers
 
-abbrev pub replyOfLine : LineAnswer → LineReply
-replyOfLine (answer.Reply length) = reply length
-replyOfLine (answer.Refused refusal) = number (number_of refusal)
+abbrev pub reply_of_line : LineAnswer → LineReply
+reply_of_line (answer.Reply length) = reply length
+reply_of_line (answer.Refused refusal) = number (number_of refusal)
 
 -- of the result and the buffer afterwards
-abbrev pub outcomeOf : LineResult → List ℕ → LineOutcome
-outcomeOf r after = record { next = r.controller; answer = replyOfLine r.answer; buffer = after }
+abbrev pub outcome_of : LineResult → List ℕ → LineOutcome
+outcome_of r after = record { next = r.controller; answer = reply_of_line r.answer; buffer = after }

@@ -1,6 +1,6 @@
 // What a line asks: a read or a write of the parameter that it names. A line of another form asks nothing.
 ghost use Rattle.std.specs.Prelude.{◌≡◌, true, false, ◌≤◌, length, drop};
-ghost use Rattle.terminal.specs.Commands.{isWord, value_of, writing, commandOf, commandIn};
+ghost use Rattle.terminal.specs.Commands.{is_word, value_of, writing, command_of, command_in};
 
 use numerals::{ParsedNumber, ParsedWord};
 
@@ -18,7 +18,7 @@ pub enum Command {
 
 // MD, DS, SW and II. The contract rules out that OP, the next one, is taken for a word.
 pub fn is_word(number: u64) -> bool
-    ensures { result ≡ isWord number }
+    ensures { result ≡ is_word number }
 {
     if number < parameters::MD {
         false
@@ -28,7 +28,7 @@ pub fn is_word(number: u64) -> bool
 }
 
 fn word(number: u64, bytes: &[u8]) -> Command
-    requires { isWord number ≡ true }
+    requires { is_word number ≡ true }
     ensures { result ≡ writing number (value_of number bytes.now) }
 {
     let reading = numerals::word(bytes);
@@ -39,7 +39,7 @@ fn word(number: u64, bytes: &[u8]) -> Command
 }
 
 fn decimal(number: u64, bytes: &[u8]) -> Command
-    requires { isWord number ≡ false }
+    requires { is_word number ≡ false }
     ensures { result ≡ writing number (value_of number bytes.now) }
 {
     let reading = numerals::number(bytes, 5);
@@ -52,7 +52,7 @@ fn decimal(number: u64, bytes: &[u8]) -> Command
 // By what stands behind the mnemonic. The contract rules out another sign than >, and a value of another form.
 fn behind(number: u64, line: &[u8]) -> Command
     requires { 2 ≤ length line.now }
-    ensures { result ≡ commandOf number (drop 2 line.now) }
+    ensures { result ≡ command_of number (drop 2 line.now) }
 {
     if line.len() == 2 {
         return Command::Read(number);
@@ -69,7 +69,7 @@ fn behind(number: u64, line: &[u8]) -> Command
 // Any bytes, any length. The contract rules out a command that the line doesn't have, and a line with one that is taken
 // for none.
 pub fn parse(line: &[u8]) -> Command
-    ensures { result ≡ commandIn line.now }
+    ensures { result ≡ command_in line.now }
 {
     let number = crate::mnemonic::named(line);
     if number == 0 {

@@ -1,7 +1,7 @@
 // A line of the hand-held terminal: a parameter read or written by its mnemonic, and the reply in a lent buffer.
 ghost use Rattle.std.specs.Prelude.{◌≡◌, ◌≤◌, length};
 ghost use Rattle.controller.specs.Valid.{Valid};
-ghost use Rattle.terminal.specs.Terminal.{replied, outcomeOf, readTo, writtenTo, answered};
+ghost use Rattle.terminal.specs.Terminal.{replied, outcome_of, read_to, written_to, answered};
 ghost use Rattle.terminal.specs.declared.LineAnswer.TheVariants.{Refused};
 
 use command::Command;
@@ -42,7 +42,7 @@ fn refused(controller: Controller, refusal: Refusal) -> LineResult
 // of another parameter, one of an earlier state, and a byte that changes behind the reply.
 fn show(controller: Controller, number: u64, reply: &mut [u8]) -> LineResult
     requires { Valid controller × (1 ≤ number) × (number ≤ 32) × (9 ≤ length reply.old) }
-    ensures { outcomeOf result reply.new ≡ replied controller number reply.old }
+    ensures { outcome_of result reply.new ≡ replied controller number reply.old }
 {
     let present = controller.read(number);
     match present {
@@ -57,7 +57,7 @@ fn show(controller: Controller, number: u64, reply: &mut [u8]) -> LineResult
 // A read needs no writer. The contract rules out that it needs a right.
 fn read(controller: Controller, number: u64, reply: &mut [u8]) -> LineResult
     requires { Valid controller × (1 ≤ number) × (number ≤ 32) }
-    ensures { outcomeOf result reply.new ≡ readTo controller number reply.old }
+    ensures { outcome_of result reply.new ≡ read_to controller number reply.old }
 {
     if reply.len() < REPLY_LENGTH {
         return refused(controller, Refusal::ShortBuffer);
@@ -75,7 +75,7 @@ fn write(
     reply: &mut [u8],
 ) -> LineResult
     requires { Valid controller × (1 ≤ number) × (number ≤ 32) }
-    ensures { outcomeOf result reply.new ≡ writtenTo controller writer number value reply.old }
+    ensures { outcome_of result reply.new ≡ written_to controller writer number value reply.old }
 {
     if reply.len() < REPLY_LENGTH {
         return refused(controller, Refusal::ShortBuffer);
@@ -96,7 +96,7 @@ fn write(
 // right, a read that needs one, a reply with another value than the present one, and a change behind the reply.
 pub fn answer(controller: Controller, writer: Writer, line: &[u8], reply: &mut [u8]) -> LineResult
     requires { Valid controller }
-    ensures { (outcomeOf result reply.new ≡ answered controller writer line.now reply.old)
+    ensures { (outcome_of result reply.new ≡ answered controller writer line.now reply.old)
         × Valid result.controller }
 {
     let command = command::parse(line);

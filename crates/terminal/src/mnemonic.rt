@@ -1,6 +1,6 @@
 // The mnemonics of the parameters, by number.
 ghost use Rattle.std.specs.Prelude.{◌≡◌, get_or, ◌≤◌};
-ghost use Rattle.terminal.specs.Mnemonics.{mnemonic, is_of, named, numberOr};
+ghost use Rattle.terminal.specs.Mnemonics.{mnemonic, is_of, named, number_or};
 
 // One of the two letters of a parameter, 1 to 32. The contract rules out a neighbour's.
 pub fn letter(number: u64, place: usize) -> u8
@@ -25,7 +25,7 @@ fn is_of(number: u64, first: u8, second: u8) -> bool
 // The number that a line's first two bytes name; 0 where they are no mnemonic. The contract rules out a small letter
 // and a number of another row.
 pub fn named(line: &[u8]) -> u64
-    ensures { (result ≡ numberOr (named line.now)) × (result ≤ 32) }
+    ensures { (result ≡ number_or (named line.now)) × (result ≤ 32) }
 {
     if line.len() < 2 {
         return 0;

@@ -10,16 +10,16 @@ use lib.ListN.{length}
 use borrow.Author.Tests.{ltb-true, leb-true, lt-ltb}
 use Rattle.integers.specs.Choice.{by_cases, both}
 use Rattle.numerals.specs.DigitLaws.{inside, above}
-use Rattle.numerals.specs.Numerals.{within, digitValue, read_on}
+use Rattle.numerals.specs.Numerals.{within, digit_value, read_on}
 use Rattle.numerals.specs.Reading.{some_of}
 use Rattle.terminal_guarantee.specs.PlaceValue.{Digit, numeral, capital, Number, no_digit, digit}
 
 -- ---- digits
 
 -- a byte with a value is a digit
-pub digit-of : (c : ℕ) → digitValue c < 16 → Digit c (digitValue c)
-unfolding digitValue
-digit-of c =
+pub digit_of : (c : ℕ) → digit_value c < 16 → Digit c (digit_value c)
+unfolding digit_value
+digit_of c =
     by_cases (λ v. v < 16 → Digit c v) (within 48 57 c) (c - 48) _
     (λ e h.
     let m = both (leb 48 c) (leb c 57) e in
@@ -32,16 +32,16 @@ digit-of c =
     let m = both (leb 65 c) (leb c 70) f in
     let low = leb-true 65 c m.0 in
     let high = leb-true c 70 m.1 in
-    let byte-is : 65 + (c - 65) ≡ c = omega arith in
-    let value-is : 10 + (c - 65) ≡ c - 65 + 10 = omega arith in
-    subst (λ (b : ℕ). Digit b (c - 65 + 10)) byte-is (subst (λ (v : ℕ). Digit (65 + (c - 65)) v) value-is (capital (omega arith))))
+    let byte_is : 65 + (c - 65) ≡ c = omega arith in
+    let value_is : 10 + (c - 65) ≡ c - 65 + 10 = omega arith in
+    subst (λ (b : ℕ). Digit b (c - 65 + 10)) byte_is (subst (λ (v : ℕ). Digit (65 + (c - 65)) v) value_is (capital (omega arith))))
     (λ f h. absurd (omega arith)))
 
 -- and its value is the digit's
-pub digit-is : {c d : ℕ} → Digit c d → digitValue c ≡ d
-unfolding digitValue
-digit-is (numeral {d} h) = simp (inside 48 57 (48 + d) (omega arith) (omega arith)) (omega arith)
-digit-is (capital {d} h) =
+pub digit_is : {c d : ℕ} → Digit c d → digit_value c ≡ d
+unfolding digit_value
+digit_is (numeral {d} h) = simp (inside 48 57 (48 + d) (omega arith) (omega arith)) (omega arith)
+digit_is (capital {d} h) =
     simp (above 48 57 (65 + d) (omega arith) (omega arith), inside 65 70 (65 + d) (omega arith) (omega arith)) (omega arith)
 
 -- ---- numbers
@@ -57,12 +57,12 @@ module _ (b : ℕ) (top : b ≤ 16) where
   unfolding read_on
   number_of a n [] e = let same : a ≡ n = cc in record { value = 0; number = no_digit; is = rw pow-zero (omega arith) }
   number_of a n (c ∷ cs) e =
-      let t = some_of (ltb (digitValue c) b) _ n e in
-      let small = ltb-true (digitValue c) b t.0 in
-      let r = number_of (a * b + digitValue c) n cs t.1 in
+      let t = some_of (ltb (digit_value c) b) _ n e in
+      let small = ltb-true (digit_value c) b t.0 in
+      let r = number_of (a * b + digit_value c) n cs t.1 in
       record {
-        value = digitValue c * b ^ length cs + r.value;
-        number = digit (digit-of c (omega arith)) small r.number;
+        value = digit_value c * b ^ length cs + r.value;
+        number = digit (digit_of c (omega arith)) small r.number;
         is = r.is ∙ rw pow-suc (omega arith);
       }
 
@@ -70,9 +70,9 @@ module _ (b : ℕ) (top : b ≤ 16) where
   unfolding read_on
   number_read a v [] no_digit = ap some (rw pow-zero (omega arith))
   number_read a v (c ∷ cs) (digit {d} {v = w} k small n) =
-      let is = digit-is k in
-      simp (lt-ltb (digitValue c) b (omega arith))
-      (number_read (a * b + digitValue c) w cs n ∙ ap some (rw (pow-suc, is) (omega arith)))
+      let is = digit_is k in
+      simp (lt-ltb (digit_value c) b (omega arith))
+      (number_read (a * b + digit_value c) w cs n ∙ ap some (rw (pow-suc, is) (omega arith)))
 
   -- digits that are read from the first on are the number that is read
   pub read_number : (n : ℕ) (cs : List ℕ) → read_on b 0 cs ≡ some n → Number b cs n

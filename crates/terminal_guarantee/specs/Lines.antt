@@ -10,7 +10,7 @@ use Rattle.terminal_guarantee.specs.PlaceValue.{Number}
 use Rattle.signals.specs.declared.Refusal.{Refusal}
 use Rattle.rights.specs.declared.Writer.{Writer}
 use Rattle.controller.specs.Answers as calls
-use Rattle.controller.specs.Answers.{replyOfVerdict, replyOfRead}
+use Rattle.controller.specs.Answers.{reply_of_verdict, reply_of_read}
 use Rattle.controller.specs.Valid.{Valid}
 use Rattle.controller.specs.declared.CallResult.{CallResult}
 use Rattle.controller.specs.declared.Controller.{Controller}
@@ -41,9 +41,9 @@ LineReady c = (lives : Lifetimes) (w : Writer) (line buffer : Slice) → answer-
 -- (SW and the pins of DS are natural numbers of any size in these statements); the bytes of the value of which none are
 -- fewer, and no others are as few
 pub data Displayed (n : ℕ) : ℤ → List ℕ → Type 0 where
-  as-word : {v : ℕ} {ds : List ℕ} → IsWord n → (n ≡ 24 → v < 65536) → length ds ≡ 4 → Number 16 ds (v % 65536) →
+  as_word_lem : {v : ℕ} {ds : List ℕ} → IsWord n → (n ≡ 24 → v < 65536) → length ds ≡ 4 → Number 16 ds (v % 65536) →
       Displayed n (pos v) ds
-  as-decimal : {v : ℤ} {ds : List ℕ} → IsDecimal n → Value n ds v → ((t : List ℕ) → Value n t v → length ds ≤ length t) →
+  as_decimal : {v : ℤ} {ds : List ℕ} → IsDecimal n → Value n ds v → ((t : List ℕ) → Value n t v → length ds ≤ length t) →
       ((t : List ℕ) → Value n t v → length t ≡ length ds → t ≡ ds) → Displayed n v ds
 
 -- ---- the reply
@@ -53,7 +53,7 @@ pub data Displayed (n : ℕ) : ℤ → List ℕ → Type 0 where
 pub record Replied (c : Controller) (n : ℕ) (buffer : List ℕ) (r : LineResult) (after : List ℕ) : Type 0 where
   pub value : ℤ
   pub text : List ℕ
-  pub present : (q : ReadAnswer) → ReadEnsures c n q → (q ≡ read.Value value) × (replyOfRead q ≡ calls.reading value)
+  pub present : (q : ReadAnswer) → ReadEnsures c n q → (q ≡ read.Value value) × (reply_of_read q ≡ calls.reading value)
   pub display : Displayed n value text
   -- "and goes to the front of a lent buffer; its length is the answer and the bytes behind it stay"
   pub answer : r.answer ≡ Reply (length (letters n ++ (62 ∷ text)))
@@ -71,10 +71,10 @@ pub record RefusedWith (k : ℕ) (c : Controller) (buffer : List ℕ) (r : LineR
 -- a line by which a writer writes v to the parameter n does what that writer's write does: its controller, and its
 -- refusal or the reply with what is present after it; there is a result of it (`write-exists`)
 pub data Written (c : Controller) (w : Writer) (n : ℕ) (v : ℤ) (buffer : List ℕ) (r : LineResult) (after : List ℕ) : Type 0 where
-  refused-write : {k : ℕ} → ((q : CallResult) → WriteEnsures c w n v q → replyOfVerdict q.verdict ≡ calls.number k) →
+  refused_write : {k : ℕ} → ((q : CallResult) → WriteEnsures c w n v q → reply_of_verdict q.verdict ≡ calls.number k) →
       RefusedWith k c buffer r after → Written c w n v buffer r after
-  accepted-write : ((q : CallResult) → WriteEnsures c w n v q →
-      (replyOfVerdict q.verdict ≡ calls.acceptance) × (r.controller ≡ q.controller)) →
+  accepted_write : ((q : CallResult) → WriteEnsures c w n v q →
+      (reply_of_verdict q.verdict ≡ calls.acceptance) × (r.controller ≡ q.controller)) →
       Replied r.controller n buffer r after → Written c w n v buffer r after
 
 -- ---- every line
@@ -83,13 +83,13 @@ pub data Written (c : Controller) (w : Writer) (n : ℕ) (v : ℤ) (buffer : Lis
 -- value, next after 17. 15 is also given for a reply buffer under nine bytes, right after 18 and before any refusal of
 -- the read or write itself." A line that reads is answered alike whoever types it: "Reading stays free."
 pub data LineClaim (c : Controller) (w : Writer) (line buffer : List ℕ) (r : LineResult) (after : List ℕ) : Type 0 where
-  no-mnemonic : ((n : ℕ) → InTable n → take 2 line ≡ letters n → ⊥) → RefusedWith 17 c buffer r after → LineClaim c w line buffer r after
+  no_mnemonic : ((n : ℕ) → InTable n → take 2 line ≡ letters n → ⊥) → RefusedWith 17 c buffer r after → LineClaim c w line buffer r after
   no_value : {n : ℕ} → InTable n → take 2 line ≡ letters n → ((a : Asked) → Asks line a → ⊥) → RefusedWith 18 c buffer r after →
       LineClaim c w line buffer r after
-  short-buffer : {a : Asked} → Asks line a → length buffer < 9 → RefusedWith 15 c buffer r after → LineClaim c w line buffer r after
-  a-reading : {n : ℕ} → Asks line (a_read n) → 9 ≤ length buffer → r.controller ≡ c → Replied c n buffer r after →
+  short_buffer : {a : Asked} → Asks line a → length buffer < 9 → RefusedWith 15 c buffer r after → LineClaim c w line buffer r after
+  a_reading : {n : ℕ} → Asks line (a_read n) → 9 ≤ length buffer → r.controller ≡ c → Replied c n buffer r after →
       LineClaim c w line buffer r after
-  a-writing : {n : ℕ} {v : ℤ} → Asks line (a_write n v) → 9 ≤ length buffer → Written c w n v buffer r after →
+  a_writing : {n : ℕ} {v : ℤ} → Asks line (a_write n v) → 9 ≤ length buffer → Written c w n v buffer r after →
       LineClaim c w line buffer r after
 
 -- of every line and every buffer, at every valid controller: each that calls and lines lead to is (`LinesAreWrites`)

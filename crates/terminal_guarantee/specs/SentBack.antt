@@ -6,8 +6,8 @@ use Rattle.controller.specs.declared.Controller.{Controller}
 use Rattle.terminal.specs.declared.LineAnswer.TheVariants.{Reply}
 use Rattle.terminal.specs.declared.LineResult.{LineResult}
 use Rattle.guarantee.specs.Linked.{Slice}
-use Rattle.guarantee.specs.Rights.{hasRight, numberWithout}
-use Rattle.promises.specs.RefusalCauses.{setpointRefused}
+use Rattle.guarantee.specs.Rights.{has_right, number_without}
+use Rattle.promises.specs.RefusalCauses.{setpoint_refused}
 use Rattle.terminal_guarantee.specs.Forms.{letters}
 use Rattle.terminal_guarantee.specs.Lines.{Lifetimes, LineEnsures, RefusedWith}
 use Rattle.terminal_guarantee.specs.Visits.{Events, Visited}
@@ -25,12 +25,12 @@ pub record SameAgain (c : Controller) (k : ℕ) (text buffer : List ℕ) (r : Li
 pub record SendingBack (w : Writer) (pins n : ℕ) (first : LineResult) (text buffer : List ℕ) (r : LineResult) (after : List ℕ) (k : ℕ) :
     Type 0 where
   -- by one "who may write" it, "unless it is SL", number 20, "and refusal 8 applies"
-  pub same : hasRight pins w n ≡ true → (n ≡ 20 → setpointRefused first.controller.core ≡ false) →
+  pub same : has_right pins w n ≡ true → (n ≡ 20 → setpoint_refused first.controller.core ≡ false) →
       SameAgain first.controller k text buffer r after
-  pub setpoint : hasRight pins w n ≡ true → n ≡ 20 → setpointRefused first.controller.core ≡ true →
+  pub setpoint : has_right pins w n ≡ true → n ≡ 20 → setpoint_refused first.controller.core ≡ true →
       RefusedWith 8 first.controller buffer r after
   -- by anyone else it is refused for want of the right
-  pub without : hasRight pins w n ≡ false → RefusedWith (numberWithout pins w) first.controller buffer r after
+  pub without : has_right pins w n ≡ false → RefusedWith (number_without pins w) first.controller buffer r after
 
 -- after every list of calls and lines: a line for a parameter from 1 to 23, read or written, whoever typed it, that was
 -- answered with a reply; then the reply's bytes as a line, sent by the same or another, with any buffer of nine bytes

@@ -45,7 +45,7 @@ pub data Turned : Events → Calls → Type 0 where
   nothing : Turned none calls.none
   a_call : {es : Events} {xs : Calls} {x : Call} → Turned es xs → Turned (es then call x) (calls.◌then◌ xs x)
   -- a line that writes, with room for the reply, is that write by the one who typed it
-  a-write-of : {es : Events} {xs : Calls} {w : Writer} {bytes : List ℕ} {room n : ℕ} {v : ℤ} → Turned es xs → Asks bytes (a_write n v) →
+  a_write_of : {es : Events} {xs : Calls} {w : Writer} {bytes : List ℕ} {room n : ℕ} {v : ℤ} → Turned es xs → Asks bytes (a_write n v) →
       9 ≤ room → Turned (es then line w bytes room) (calls.◌then◌ xs (write w n v))
   -- any other is no call: the controller is as it was
   no_call : {es : Events} {xs : Calls} {w : Writer} {bytes : List ℕ} {room : ℕ} → Turned es xs →
@@ -61,7 +61,7 @@ pub record VisitClaim (word : ℕ) (es : Events) (c : Controller) : Type 0 where
   pub linked : Linked word without responses c
   pub guaranteed : Demand3 word without responses c
   pub ready : Ready c
-  pub line-ready : LineReady c
+  pub line_ready : LineReady c
 
 -- of every switch word and every list
 abbrev pub LinesAreWrites : Type 0

@@ -2,7 +2,7 @@
 use Rattle.std.specs.Prelude.{cond, ℕ, ◌*◌, ◌<◌, ℤ, pos, ◌+ℤ◌, ◌*ℤ◌}
 use Rattle.std.specs.Int.Signed.{lt_z}
 use Rattle.integers.specs.Limit as Limit
-use Rattle.integers.specs.Rounding.{nearestEven}
+use Rattle.integers.specs.Rounding.{nearest_even}
 
 pub record Fraction : Type 0 where
   pub numerator : ℤ
@@ -36,13 +36,13 @@ limited low high f = at_most high (at_least low f)
 -- ---- stored: in whole 1/65,536 units
 
 -- so many whole units, stored
-unfoldable pub storedUnits : ℤ → ℤ
-storedUnits units = units *ℤ pos 65536
+unfoldable pub stored_units : ℤ → ℤ
+stored_units units = units *ℤ pos 65536
 
 -- the whole number of 1/65,536 units nearest to f, an exact half going to the even neighbour
 unfoldable pub stored : Fraction → ℤ
-stored f = nearestEven (storedUnits f.numerator) f.denominator
+stored f = nearest_even (stored_units f.numerator) f.denominator
 
 -- a stored output limited to low..high units
-unfoldable pub limitedStored : ℤ → ℤ → ℤ → ℤ
-limitedStored low high x = Limit.limited (storedUnits low) (storedUnits high) x
+unfoldable pub limited_stored : ℤ → ℤ → ℤ → ℤ
+limited_stored low high x = Limit.limited (stored_units low) (stored_units high) x

@@ -1,9 +1,9 @@
 // Document 01's three terms: each an exact fraction, limited to ±10,000 units, and then the nearest
 // whole number of 1/65,536 units.
 ghost use Rattle.std.specs.Prelude.{◌≡◌, ◌≤◌, ◌*◌, nat_abs};
-ghost use Rattle.integers.specs.Sign.{fromSign};
-ghost use Rattle.terms.specs.Terms.{storedTerm, proportionalTerm, integralTerm, derivativeTerm};
-ghost use Rattle.terms.specs.Terms.{scanNumerator, scanDenominator, TuningRange};
+ghost use Rattle.integers.specs.Sign.{from_sign};
+ghost use Rattle.terms.specs.Terms.{stored_term, proportional_term, integral_term, derivative_term};
+ghost use Rattle.terms.specs.Terms.{scan_numerator, scan_denominator, TuningRange};
 ghost use Rattle.terms.specs.TermLaws.{over, turned, Storable};
 
 // What the terms are computed with: XP; W = 1H - 1L, which is above zero; TI; TD; S2.8 ON, minutes;
@@ -42,7 +42,7 @@ const MINUTES_DENOMINATOR: u64 = 500;
 // by its whole part first, since 65,536 times an unlimited numerator need not fit 64 bits.
 fn stored_term(minus: bool, numerator: u64, denominator: u64) -> i64
     requires { Storable numerator denominator }
-    ensures { result ≡ storedTerm (over (fromSign minus numerator) denominator) }
+    ensures { result ≡ stored_term (over (from_sign minus numerator) denominator) }
 {
     if TERM_MOST <= numerator / denominator {
         return integers::signed(minus, STORED_MOST);
@@ -61,7 +61,7 @@ fn band(t: Tuning) -> u64
 
 // 9, or 3 with S2.8 ON: the numerator of one scan in the unit of TI and TD.
 fn scan_numerator(t: Tuning) -> u64
-    ensures { result ≡ scanNumerator t }
+    ensures { result ≡ scan_numerator t }
 {
     if t.minutes {
         MINUTES_NUMERATOR
@@ -72,7 +72,7 @@ fn scan_numerator(t: Tuning) -> u64
 
 // 25, or 500 with S2.8 ON: its denominator.
 fn scan_denominator(t: Tuning) -> u64
-    ensures { result ≡ scanDenominator t }
+    ensures { result ≡ scan_denominator t }
 {
     if t.minutes {
         MINUTES_DENOMINATOR
@@ -92,7 +92,7 @@ fn turn(keep: bool, minus: bool) -> bool
 // -39996..39996. The contract rules out a term of the wrong sign, one that is cut, and one whose limit is off.
 pub fn proportional(t: Tuning, change: i64) -> i64
     requires { TuningRange t × (nat_abs change ≤ 39996) }
-    ensures { result ≡ storedTerm (proportionalTerm t change) }
+    ensures { result ≡ stored_term (proportional_term t change) }
 {
     let numerator = GAIN * integers::magnitude(change);
     stored_term(integers::negative(change), numerator, band(t))
@@ -102,7 +102,7 @@ pub fn proportional(t: Tuning, change: i64) -> i64
 // The contract rules out seconds for minutes, a division by TI 0, and what that of `proportional` does.
 pub fn integral(t: Tuning, c: i64) -> i64
     requires { TuningRange t × (nat_abs c ≤ 19998) }
-    ensures { result ≡ storedTerm (integralTerm t c) }
+    ensures { result ≡ stored_term (integral_term t c) }
 {
     if t.ti == 0 {
         return 0;
@@ -117,7 +117,7 @@ pub fn integral(t: Tuning, c: i64) -> i64
 // for minutes, and what that of `proportional` does.
 pub fn derivative(t: Tuning, d: i64) -> i64
     requires { TuningRange t × (nat_abs d ≤ 39996) }
-    ensures { result ≡ storedTerm (derivativeTerm t d) }
+    ensures { result ≡ stored_term (derivative_term t d) }
 {
     let numerator = GAIN * integers::magnitude(d) * scan_denominator(t) * t.td;
     let denominator = scan_numerator(t) * band(t);

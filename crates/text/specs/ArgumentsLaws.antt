@@ -15,7 +15,7 @@ use borrow.Author.Tests.{eq-eqb, ne_eqb}
 use Rattle.numerals.specs.Parsed.{number_of}
 use Rattle.numerals.specs.declared.ParsedNumber.TheVariants.{Number, Malformed}
 use Rattle.text.specs.Words.{word_at}
-use Rattle.text.specs.Arguments.{part, firstWords, inFront, numbersOf, padded, read_of, argumentsFrom}
+use Rattle.text.specs.Arguments.{part, first_words, in_front, numbers_of, padded, read_of, arguments_from}
 use Rattle.text.specs.declared.Span.{Span}
 use Rattle.text.specs.declared.arguments.Arguments.{Arguments}
 
@@ -24,89 +24,89 @@ result ok count values = record { ok = ok; count = count; values = values }
 
 -- numbers that were read, and the words that follow them
 unfoldable pub gathered : List ℤ → List (List ℕ) → Arguments
-gathered before words = read_of (before ++ numbersOf (take (6 - length before) words)) (length before + length words)
+gathered before words = read_of (before ++ numbers_of (take (6 - length before) words)) (length before + length words)
 
-stopped : (k : ℕ) (w : List ℕ) (ws : List (List ℕ)) → number_of 18 w ≡ Malformed → numbersOf (take k (w ∷ ws)) ≡ []
-unfolding numbersOf inFront
+stopped : (k : ℕ) (w : List ℕ) (ws : List (List ℕ)) → number_of 18 w ≡ Malformed → numbers_of (take k (w ∷ ws)) ≡ []
+unfolding numbers_of in_front
 stopped zero w ws e = refl
 stopped (suc k) w ws e = rw e
 
 module _ (before : List ℤ) where
   gather_none : gathered before [] ≡ result true (length before) (padded before)
-  unfolding gathered read_of numbersOf
+  unfolding gathered read_of numbers_of
   gather_none =
       rw (take-nil {A = List ℕ} (6 - length before), append-nil before, add-zero (length before))
       (simp (eq-eqb (length before) (length before) refl))
 
   -- where six were read, any further word is one too many
-  gather-full : (ws : List (List ℕ)) → length before ≡ 6 → gathered before ws ≡ read_of before (6 + length ws)
-  unfolding gathered numbersOf
-  gather-full ws h = rw (h, append-nil before)
+  gather_full : (ws : List (List ℕ)) → length before ≡ 6 → gathered before ws ≡ read_of before (6 + length ws)
+  unfolding gathered numbers_of
+  gather_full ws h = rw (h, append-nil before)
 
   module _ (w : List ℕ) (ws : List (List ℕ)) where
-    gather-number : (v : ℤ) → length before < 6 → number_of 18 w ≡ Number v → gathered before (w ∷ ws) ≡ gathered (before ++ (v ∷ [])) ws
-    unfolding gathered numbersOf inFront
-    gather-number v h e =
+    gather_number : (v : ℤ) → length before < 6 → number_of 18 w ≡ Number v → gathered before (w ∷ ws) ≡ gathered (before ++ (v ∷ [])) ws
+    unfolding gathered numbers_of in_front
+    gather_number v h e =
         let n : length (before ++ (v ∷ [])) ≡ suc (length before) = length-append before (v ∷ []) ∙ add-one (length before) in
         let k : 6 - length before ≡ suc (5 - length before) = omega arith in
         let m : 6 - suc (length before) ≡ 5 - length before = omega arith in
         rw (k, n, m, e, append_snoc before v) (ap (read_of _) (omega arith))
 
-    gather-stops : number_of 18 w ≡ Malformed → gathered before (w ∷ ws) ≡ result false (length before) (padded before)
+    gather_stops : number_of 18 w ≡ Malformed → gathered before (w ∷ ws) ≡ result false (length before) (padded before)
     unfolding gathered read_of
-    gather-stops e =
+    gather_stops e =
         rw (stopped (6 - length before) w ws e, append-nil before)
         (simp (ne_eqb (length before) (length before + suc (length ws)) (λ h. omega arith)))
 
-  padded-more : (n : ℕ) (v : ℤ) → length before ≡ n → n < 6 → set (padded before) n v ≡ padded (before ++ (v ∷ []))
+  padded_more : (n : ℕ) (v : ℤ) → length before ≡ n → n < 6 → set (padded before) n v ≡ padded (before ++ (v ∷ []))
   unfolding padded
-  padded-more n v e h =
+  padded_more n v e h =
       let l : length (before ++ (v ∷ [])) ≡ suc (length before) = length-append before (v ∷ []) ∙ add-one (length before) in
       let k : 6 - length before ≡ suc (5 - length before) = omega arith in
       let m : 6 - suc (length before) ≡ 5 - length before = omega arith in
       rw (k, l, m, append_snoc before v) (set_at before (pos 0) _ v n e)
 
-one_more : (none : Bool) (w : List ℕ) → eqb 6 (6 + length (cond none [] (w ∷ []))) ≡ none
-one_more true w = refl
-one_more false w = refl
+one_more_lem : (none : Bool) (w : List ℕ) → eqb 6 (6 + length (cond none [] (w ∷ []))) ≡ none
+one_more_lem true w = refl
+one_more_lem false w = refl
 
 -- What holds after `count` words, of which the next is looked for at `at`.
 pub record Gathering (line : List ℕ) (start : ℕ) (values : List ℤ) (count at : ℕ) : Type 0 where
   pub most : count ≤ 6
   pub six : length values ≡ 6
   pub zeros : values ≡ padded (take count values)
-  pub same : argumentsFrom line start ≡ gathered (take count values) (firstWords (7 - count) line at)
+  pub same : arguments_from line start ≡ gathered (take count values) (first_words (7 - count) line at)
 
-pub gathering-starts : (line : List ℕ) (start : ℕ) → Gathering line start (replicate 6 (pos 0)) 0 start
-unfolding argumentsFrom gathered padded
-gathering-starts line start =
+pub gathering_starts : (line : List ℕ) (start : ℕ) → Gathering line start (replicate 6 (pos 0)) 0 start
+unfolding arguments_from gathered padded
+gathering_starts line start =
     record {
       most = omega arith;
       six = refl;
       zeros = refl;
-      same = ap (read_of (numbersOf (take 6 (firstWords 7 line start)))) (sym (zero-add _));
+      same = ap (read_of (numbers_of (take 6 (first_words 7 line start)))) (sym (zero-add _));
     }
 
 module _ (line : List ℕ) (start at count : ℕ) (values : List ℤ) (g : Gathering line start values count at) (w : Span)
     (found : w ≡ word_at line at) where
-  before-count : length (take count values) ≡ count
-  before-count = length-take-le count values (omega (arith, g.most, g.six))
+  before_count : length (take count values) ≡ count
+  before_count = length-take-le count values (omega (arith, g.most, g.six))
 
   ended : (ok : Bool) → result ok (length (take count values)) (padded (take count values)) ≡ result ok count values
-  ended ok = ap (λ (n : ℕ). result ok n (padded (take count values))) before-count ∙ ap (result ok count) (sym g.zeros)
+  ended ok = ap (λ (n : ℕ). result ok n (padded (take count values))) before_count ∙ ap (result ok count) (sym g.zeros)
 
   -- behind six numbers there must be no word
-  pub gathering-full : count ≡ 6 → result (eqb w.from w.to) count values ≡ argumentsFrom line start
-  unfolding read_of firstWords
-  gathering-full h =
+  pub gathering_full : count ≡ 6 → result (eqb w.from w.to) count values ≡ arguments_from line start
+  unfolding read_of first_words
+  gathering_full h =
       let k : 7 - count ≡ 1 = omega arith in
-      let six = before-count ∙ h in
+      let six = before_count ∙ h in
       let none = eqb w.from w.to in
-      let test : eqb (length (take count values)) (6 + length (firstWords 1 line at)) ≡ none = rw (six, ← found) (one_more none _) in
+      let test : eqb (length (take count values)) (6 + length (first_words 1 line at)) ≡ none = rw (six, ← found) (one_more_lem none _) in
       sym
       (g.same ∙
       rw k
-      (gather-full (take count values) _ six ∙
+      (gather_full (take count values) _ six ∙
       ap (λ (ok : Bool). result ok (length (take count values)) (padded (take count values))) test ∙
       ended none))
 
@@ -115,31 +115,31 @@ module _ (line : List ℕ) (start at count : ℕ) (values : List ℤ) (g : Gathe
     next = omega arith
 
     -- an empty word: the line has no more
-    pub gathering-ends : w.from ≡ w.to → result true count values ≡ argumentsFrom line start
-    unfolding firstWords
-    gathering-ends e =
+    pub gathering_ends : w.from ≡ w.to → result true count values ≡ arguments_from line start
+    unfolding first_words
+    gathering_ends e =
         sym (g.same ∙ rw (next, ← found, eq-eqb w.from w.to e) (gather_none (take count values) ∙ ended true))
 
     module _ (some : w.from ≡ w.to → ⊥) where
-      first : firstWords (7 - count) line at ≡ part line w.from w.to ∷ firstWords (6 - count) line w.to
-      unfolding firstWords
+      first : first_words (7 - count) line at ≡ part line w.from w.to ∷ first_words (6 - count) line w.to
+      unfolding first_words
       first = rw (next, ← found, ne_eqb w.from w.to some)
 
       -- a word that is no number
-      pub gathering-stops : number_of 18 (part line w.from w.to) ≡ Malformed → result false count values ≡ argumentsFrom line start
-      gathering-stops e = sym (g.same ∙ rw first (gather-stops (take count values) _ _ e ∙ ended false))
+      pub gathering_stops : number_of 18 (part line w.from w.to) ≡ Malformed → result false count values ≡ arguments_from line start
+      gathering_stops e = sym (g.same ∙ rw first (gather_stops (take count values) _ _ e ∙ ended false))
 
       -- one number more
-      pub gathering-more :
+      pub gathering_more :
           (v : ℤ) → number_of 18 (part line w.from w.to) ≡ Number v → Gathering line start (set values count v) (count + 1) w.to
-      gathering-more v e =
+      gathering_more v e =
           let front = take-suc-set values count v (omega (arith, g.six)) in
           let k : 7 - suc count ≡ 6 - count = omega arith in
-          let small : length (take count values) < 6 = omega (arith, before-count) in
-          let stored = padded-more (take count values) count v before-count inside in
+          let small : length (take count values) < 6 = omega (arith, before_count) in
+          let stored = padded_more (take count values) count v before_count inside in
           record {
             most = omega arith;
             six = length-set values count v ∙ g.six;
             zeros = rw (add-one, front) (ap (λ (l : List ℤ). set l count v) g.zeros ∙ stored);
-            same = g.same ∙ rw (add-one, front, k, first) (gather-number (take count values) _ _ v small e);
+            same = g.same ∙ rw (add-one, front, k, first) (gather_number (take count values) _ _ v small e);
           }

@@ -8,29 +8,29 @@ use Rattle.std.proofs.Math.Seq.{append_snoc}
 use Rattle.std.proofs.lemmas.List.{set_at}
 use borrow.Author.Tests.{lt-ltb, le-ltb, le-leb, lt-leb, eq-eqb, ne_eqb, ltb-true, leb-true}
 use Rattle.integers.specs.Choice.{both}
-use Rattle.text.specs.Hexadecimal.{hexadecimalValue, allDigits, pair, pairs, isDash, bytes_of, countIn, bytesIn}
+use Rattle.text.specs.Hexadecimal.{hexadecimal_value, all_digits, pair, pairs, is_dash, bytes_of, count_in, bytes_in}
 use Rattle.text.specs.declared.hexadecimal.Count.TheVariants.{Bytes, Malformed}
 
 -- ---- digits one by one
 
 module _ (s : List ℕ) (i : ℕ) where
-  pub all_more : i < length s → hexadecimalValue (get_or s i 0) < 16 → allDigits (drop i s) ≡ allDigits (drop (suc i) s)
-  unfolding allDigits
-  all_more h d = rw (drop-cons s i 0) (simp (lt-ltb (hexadecimalValue (get_or s i 0)) 16 d))
+  pub all_more : i < length s → hexadecimal_value (get_or s i 0) < 16 → all_digits (drop i s) ≡ all_digits (drop (suc i) s)
+  unfolding all_digits
+  all_more h d = rw (drop-cons s i 0) (simp (lt-ltb (hexadecimal_value (get_or s i 0)) 16 d))
 
-  pub all-fails : i < length s → hexadecimalValue (get_or s i 0) ≡ 16 → allDigits (drop i s) ≡ false
-  unfolding allDigits
-  all-fails h d = rw (drop-cons s i 0) (simp (le-ltb (hexadecimalValue (get_or s i 0)) 16 (omega arith)))
+  pub all_fails : i < length s → hexadecimal_value (get_or s i 0) ≡ 16 → all_digits (drop i s) ≡ false
+  unfolding all_digits
+  all_fails h d = rw (drop-cons s i 0) (simp (le-ltb (hexadecimal_value (get_or s i 0)) 16 (omega arith)))
 
-  pub all-ends : length s ≤ i → allDigits (drop i s) ≡ true
-  unfolding allDigits
-  all-ends h = rw (drop_of_length-le s h)
+  pub all_ends : length s ≤ i → all_digits (drop i s) ≡ true
+  unfolding all_digits
+  all_ends h = rw (drop_of_length-le s h)
 
-pub each-digit : (s : List ℕ) → allDigits s ≡ true → (i : ℕ) → i < length s → hexadecimalValue (get_or s i 0) < 16
-unfolding allDigits
-each-digit [] e i h = absurd (omega arith)
-each-digit (b ∷ bs) e zero h = ltb-true (hexadecimalValue b) 16 (both (ltb (hexadecimalValue b) 16) (allDigits bs) e).0
-each-digit (b ∷ bs) e (suc i) h = each-digit bs (both (ltb (hexadecimalValue b) 16) (allDigits bs) e).1 i (omega arith)
+pub each_digit : (s : List ℕ) → all_digits s ≡ true → (i : ℕ) → i < length s → hexadecimal_value (get_or s i 0) < 16
+unfolding all_digits
+each_digit [] e i h = absurd (omega arith)
+each_digit (b ∷ bs) e zero h = ltb-true (hexadecimal_value b) 16 (both (ltb (hexadecimal_value b) 16) (all_digits bs) e).0
+each_digit (b ∷ bs) e (suc i) h = each_digit bs (both (ltb (hexadecimal_value b) 16) (all_digits bs) e).1 i (omega arith)
 
 -- ---- pairs one by one
 
@@ -39,61 +39,61 @@ unfolding pairs
 length_pairs word zero = refl
 length_pairs word (suc n) = length-append (pairs word n) _ ∙ ap (λ (k : ℕ). k + 1) (length_pairs word n) ∙ add-one n
 
-pub pairs-more :
+pub pairs_more :
     (word buffer : List ℕ) (n : ℕ) → n < length buffer →
     set (pairs word n ++ drop n buffer) n (pair (get_or word (2 * n) 0) (get_or word (2 * n + 1) 0)) ≡ pairs word (n + 1) ++ drop (n + 1) buffer
 unfolding pairs
-pairs-more word buffer n h =
+pairs_more word buffer n h =
     rw (add-one n, drop-cons buffer n 0 h)
     (set_at (pairs word n) _ (drop (suc n) buffer) _ n (length_pairs word n) ∙ sym (append_snoc (pairs word n) _ (drop (suc n) buffer)))
 
 -- ---- a word, case by case
 
 module _ (word : List ℕ) where
-  pub dash-read : isDash word ≡ true → bytes_of word ≡ some []
+  pub dash_read : is_dash word ≡ true → bytes_of word ≡ some []
   unfolding bytes_of
-  dash-read e = simp e
+  dash_read e = simp e
 
-  module _ (other : isDash word ≡ false) where
-    pub empty-read : length word ≡ 0 → bytes_of word ≡ none
+  module _ (other : is_dash word ≡ false) where
+    pub empty_read : length word ≡ 0 → bytes_of word ≡ none
     unfolding bytes_of
-    empty-read h = simp (other, le-ltb 0 (length word) (omega arith))
+    empty_read h = simp (other, le-ltb 0 (length word) (omega arith))
 
-    pub odd-read : length word % 2 ≡ 1 → bytes_of word ≡ none
+    pub odd_read : length word % 2 ≡ 1 → bytes_of word ≡ none
     unfolding bytes_of
-    odd-read h =
+    odd_read h =
         let odd : eqb (length word % 2) 0 ≡ false = ne_eqb (length word % 2) 0 (λ e. omega arith) in
         simp (other, lt-ltb 0 (length word) (omega arith), odd)
 
     module _ (some_byte : length word ≡ 0 → ⊥) (even : length word % 2 ≡ 1 → ⊥) where
-      tests : (t : Bool) → allDigits word ≡ t → (ltb 0 (length word) && (eqb (length word % 2) 0 && allDigits word)) ≡ t
+      tests : (t : Bool) → all_digits word ≡ t → (ltb 0 (length word) && (eqb (length word % 2) 0 && all_digits word)) ≡ t
       tests t e = simp (lt-ltb 0 (length word) (omega arith), eq-eqb (length word % 2) 0 (omega arith), e)
 
-      pub digits-read : allDigits word ≡ true → bytes_of word ≡ some (pairs word (length word / 2))
+      pub digits_read : all_digits word ≡ true → bytes_of word ≡ some (pairs word (length word / 2))
       unfolding bytes_of
-      digits-read e = simp (other, tests true e)
+      digits_read e = simp (other, tests true e)
 
-      pub others-read : allDigits word ≡ false → bytes_of word ≡ none
+      pub others_read : all_digits word ≡ false → bytes_of word ≡ none
       unfolding bytes_of
-      others-read e = simp (other, tests false e)
+      others_read e = simp (other, tests false e)
 
 -- what is no bytes
-pub none_in : {r : Option (List ℕ)} (buffer : List ℕ) → r ≡ none → (Malformed ≡ countIn r (length buffer)) × (buffer ≡ bytesIn r buffer)
-unfolding countIn bytesIn
+pub none_in : {r : Option (List ℕ)} (buffer : List ℕ) → r ≡ none → (Malformed ≡ count_in r (length buffer)) × (buffer ≡ bytes_in r buffer)
+unfolding count_in bytes_in
 none_in buffer e = rw e (refl, refl)
 
 module _ {r : Option (List ℕ)} (buffer bytes : List ℕ) (n : ℕ) (e : r ≡ some bytes) (l : length bytes ≡ n) where
-  pub too_many : length buffer < n → (Malformed ≡ countIn r (length buffer)) × (buffer ≡ bytesIn r buffer)
-  unfolding countIn bytesIn
+  pub too_many : length buffer < n → (Malformed ≡ count_in r (length buffer)) × (buffer ≡ bytes_in r buffer)
+  unfolding count_in bytes_in
   too_many h = rw e (simp (lt-leb (length bytes) (length buffer) (omega arith)) (refl, refl))
 
-  pub all_in : n ≤ length buffer → (Bytes n ≡ countIn r (length buffer)) × (bytes ++ drop n buffer ≡ bytesIn r buffer)
-  unfolding countIn bytesIn
+  pub all_in : n ≤ length buffer → (Bytes n ≡ count_in r (length buffer)) × (bytes ++ drop n buffer ≡ bytes_in r buffer)
+  unfolding count_in bytes_in
   all_in h = rw (e, ← l) (simp (le-leb (length bytes) (length buffer) (omega arith)) (refl, refl))
 
 -- bytes that are counted fit
-pub count_fits : (r : Option (List ℕ)) (size n : ℕ) → Bytes n ≡ countIn r size → n ≤ size
-unfolding countIn
+pub count_fits : (r : Option (List ℕ)) (size n : ℕ) → Bytes n ≡ count_in r size → n ≤ size
+unfolding count_in
 count_fits none size n e = let z : ◌≡◌ {A = ℕ} 0 1 = cc in absurd (omega arith)
 count_fits (some bytes) size n e = go (leb (length bytes) size) refl e
   where

@@ -7,13 +7,13 @@ use Rattle.integers.specs.Choice.{by_cases, never}
 use Rattle.text.specs.declared.Span.{Span}
 
 -- whether a byte is a blank, or where those are looked for that aren't blanks, isn't one
-unfoldable pub fitsBlank : Bool → ℕ → Bool
-fitsBlank blank b = cond (eqb b 32) blank (not blank)
+unfoldable pub fits_blank : Bool → ℕ → Bool
+fits_blank blank b = cond (eqb b 32) blank (not blank)
 
 -- how many bytes at the front are blanks, or aren't blanks
 unfoldable pub leading : Bool → List ℕ → ℕ
 leading blank [] = 0
-leading blank (b ∷ bs) = cond (fitsBlank blank b) (suc (leading blank bs)) 0
+leading blank (b ∷ bs) = cond (fits_blank blank b) (suc (leading blank bs)) 0
 
 -- the first word at or behind a place, from its first byte up to the blank behind it or the line's end
 unfoldable pub word_at : List ℕ → ℕ → Span
@@ -22,82 +22,82 @@ word_at line at =
     record { from = from; to = from + leading false (drop from line) }
 
 -- that word if no other follows it, else an empty one
-unfoldable pub onlyWord : List ℕ → ℕ → Span
-onlyWord line at =
+unfoldable pub only_word : List ℕ → ℕ → Span
+only_word line at =
     let word = word_at line at in
     let behind = word_at line word.to in
     cond (ltb behind.from behind.to) (record { from = at; to = at }) word
 
 -- the place behind so many words, or behind all where there are fewer
-unfoldable pub afterWords : ℕ → List ℕ → ℕ → ℕ
-afterWords zero line at = at
-afterWords (suc count) line at = afterWords count line (word_at line at).to
+unfoldable pub after_words : ℕ → List ℕ → ℕ → ℕ
+after_words zero line at = at
+after_words (suc count) line at = after_words count line (word_at line at).to
 
 -- whether two words are the same
-unfoldable pub sameBytes : List ℕ → List ℕ → Bool
-sameBytes [] [] = true
-sameBytes [] (y ∷ ys) = false
-sameBytes (x ∷ xs) [] = false
-sameBytes (x ∷ xs) (y ∷ ys) = cond (eqb x y) (sameBytes xs ys) false
+unfoldable pub same_bytes : List ℕ → List ℕ → Bool
+same_bytes [] [] = true
+same_bytes [] (y ∷ ys) = false
+same_bytes (x ∷ xs) [] = false
+same_bytes (x ∷ xs) (y ∷ ys) = cond (eqb x y) (same_bytes xs ys) false
 
 -- ---- laws
 
-pub leading-most : (blank : Bool) (bs : List ℕ) → leading blank bs ≤ length bs
+pub leading_most : (blank : Bool) (bs : List ℕ) → leading blank bs ≤ length bs
 unfolding leading
-leading-most blank [] = omega arith
-leading-most blank (b ∷ bs) =
-    by_cases (λ n. n ≤ suc (length bs)) (fitsBlank blank b) (suc (leading blank bs)) 0 (λ e. omega (arith, leading-most blank bs))
+leading_most blank [] = omega arith
+leading_most blank (b ∷ bs) =
+    by_cases (λ n. n ≤ suc (length bs)) (fits_blank blank b) (suc (leading blank bs)) 0 (λ e. omega (arith, leading_most blank bs))
     (λ e. omega arith)
 
 module _ (blank : Bool) (s : List ℕ) (i : ℕ) (inside : i < length s) where
-  pub leading-more : fitsBlank blank (get_or s i 0) ≡ true → i + leading blank (drop i s) ≡ suc i + leading blank (drop (suc i) s)
+  pub leading_more : fits_blank blank (get_or s i 0) ≡ true → i + leading blank (drop i s) ≡ suc i + leading blank (drop (suc i) s)
   unfolding leading
-  leading-more e = rw (drop-cons s i 0) (simp e (omega arith))
+  leading_more e = rw (drop-cons s i 0) (simp e (omega arith))
 
-  pub leading-ends : fitsBlank blank (get_or s i 0) ≡ false → i + leading blank (drop i s) ≡ i
+  pub leading_ends : fits_blank blank (get_or s i 0) ≡ false → i + leading blank (drop i s) ≡ i
   unfolding leading
-  leading-ends e = rw (drop-cons s i 0) (simp e (omega arith))
+  leading_ends e = rw (drop-cons s i 0) (simp e (omega arith))
 
-pub leading-none : (blank : Bool) (s : List ℕ) (i : ℕ) → length s ≤ i → i + leading blank (drop i s) ≡ i
-leading-none blank s i h = omega (arith, leading-most blank (drop i s), length-drop i s)
+pub leading_none : (blank : Bool) (s : List ℕ) (i : ℕ) → length s ≤ i → i + leading blank (drop i s) ≡ i
+leading_none blank s i h = omega (arith, leading_most blank (drop i s), length-drop i s)
 
 -- one word more
-pub words_more : (line : List ℕ) (count at : ℕ) → 0 < count → afterWords count line at ≡ afterWords (count - 1) line (word_at line at).to
-unfolding afterWords
+pub words_more : (line : List ℕ) (count at : ℕ) → 0 < count → after_words count line at ≡ after_words (count - 1) line (word_at line at).to
+unfolding after_words
 words_more line zero at h = absurd (omega arith)
 words_more line (suc count) at h = let rest : suc count - 1 ≡ count = omega arith in rw rest
 
 -- words of different length are different
-pub same-unequal : (a b : List ℕ) → (length a ≡ length b → ⊥) → sameBytes a b ≡ false
-unfolding sameBytes
-same-unequal [] [] h = absurd (h refl)
-same-unequal [] (y ∷ ys) h = refl
-same-unequal (x ∷ xs) [] h = refl
-same-unequal (x ∷ xs) (y ∷ ys) h = by_cases (λ t. t ≡ false) (eqb x y) (sameBytes xs ys) false
-    (λ e. same-unequal xs ys (λ l. h (ap suc l))) (λ e. refl)
+pub same_unequal : (a b : List ℕ) → (length a ≡ length b → ⊥) → same_bytes a b ≡ false
+unfolding same_bytes
+same_unequal [] [] h = absurd (h refl)
+same_unequal [] (y ∷ ys) h = refl
+same_unequal (x ∷ xs) [] h = refl
+same_unequal (x ∷ xs) (y ∷ ys) h = by_cases (λ t. t ≡ false) (eqb x y) (same_bytes xs ys) false
+    (λ e. same_unequal xs ys (λ l. h (ap suc l))) (λ e. refl)
 
 -- the same bytes are the same word
-pub same-equal : (a b : List ℕ) → sameBytes a b ≡ true → a ≡ b
-unfolding sameBytes
-same-equal [] [] e = refl
-same-equal [] (y ∷ ys) e = never e
-same-equal (x ∷ xs) [] e = never e
-same-equal (x ∷ xs) (y ∷ ys) e = go (eqb x y) refl e (same-equal xs ys)
+pub same_equal : (a b : List ℕ) → same_bytes a b ≡ true → a ≡ b
+unfolding same_bytes
+same_equal [] [] e = refl
+same_equal [] (y ∷ ys) e = never e
+same_equal (x ∷ xs) [] e = never e
+same_equal (x ∷ xs) (y ∷ ys) e = go (eqb x y) refl e (same_equal xs ys)
   where
-    go : (t : Bool) → eqb x y ≡ t → cond t (sameBytes xs ys) false ≡ true → (sameBytes xs ys ≡ true → xs ≡ ys) → x ∷ xs ≡ y ∷ ys
+    go : (t : Bool) → eqb x y ≡ t → cond t (same_bytes xs ys) false ≡ true → (same_bytes xs ys ≡ true → xs ≡ ys) → x ∷ xs ≡ y ∷ ys
     go true f r more = rw (eqb-true x y f, more r) refl
     go false f r more = never r
 
 module _ (a b : List ℕ) (i : ℕ) where
   module _ (h : i < length a) (k : i < length b) where
-    pub same_more : get_or a i 0 ≡ get_or b i 0 → sameBytes (drop i a) (drop i b) ≡ sameBytes (drop (suc i) a) (drop (suc i) b)
-    unfolding sameBytes
+    pub same_more : get_or a i 0 ≡ get_or b i 0 → same_bytes (drop i a) (drop i b) ≡ same_bytes (drop (suc i) a) (drop (suc i) b)
+    unfolding same_bytes
     same_more e = rw (drop-cons a i 0 h, drop-cons b i 0 k) (simp (eq-eqb (get_or a i 0) (get_or b i 0) e))
 
-    pub same-fails : (get_or a i 0 ≡ get_or b i 0 → ⊥) → sameBytes (drop i a) (drop i b) ≡ false
-    unfolding sameBytes
-    same-fails e = rw (drop-cons a i 0 h, drop-cons b i 0 k) (simp (ne_eqb (get_or a i 0) (get_or b i 0) e))
+    pub same_fails : (get_or a i 0 ≡ get_or b i 0 → ⊥) → same_bytes (drop i a) (drop i b) ≡ false
+    unfolding same_bytes
+    same_fails e = rw (drop-cons a i 0 h, drop-cons b i 0 k) (simp (ne_eqb (get_or a i 0) (get_or b i 0) e))
 
-  pub same_ends : length a ≤ i → length b ≤ i → sameBytes (drop i a) (drop i b) ≡ true
-  unfolding sameBytes
+  pub same_ends : length a ≤ i → length b ≤ i → same_bytes (drop i a) (drop i b) ≡ true
+  unfolding same_bytes
   same_ends h k = rw (drop_of_length-le a h, drop_of_length-le b k)

@@ -1,6 +1,6 @@
 // The arguments of a call: the decimal numbers of a line from a position on, each of up to eighteen digits.
 ghost use Rattle.std.specs.Prelude.{◌≡◌, ◌≤◌, max};
-ghost use Rattle.text.specs.Arguments.{argumentsFrom, hasCount, is_call, naturalIn, integerIn};
+ghost use Rattle.text.specs.Arguments.{arguments_from, has_count, is_call, natural_in, integer_in};
 
 use numerals::ParsedNumber;
 
@@ -36,7 +36,7 @@ fn result(ok: bool, count: usize, values: [i64; 6]) -> Arguments
 // The arguments from a position on; behind the line's end there are none. The contract rules out a number that is lost,
 // a word that is taken for a number, and a seventh number that goes unnoticed.
 pub fn parse(line: &[u8], start: usize) -> Arguments
-    ensures { result ≡ argumentsFrom line.now start }
+    ensures { result ≡ arguments_from line.now start }
 {
     let mut values = [0i64; 6];
     let mut count = 0;
@@ -66,7 +66,7 @@ pub fn parse(line: &[u8], start: usize) -> Arguments
 
 // Whether all arguments are numbers and there are so many. The contract rules out a count that is not compared.
 pub fn has(arguments: Arguments, count: usize) -> bool
-    ensures { result ≡ hasCount arguments count }
+    ensures { result ≡ has_count arguments count }
 {
     if arguments.ok {
         arguments.count == count
@@ -88,7 +88,7 @@ pub fn is_call(word: &[u8], name: &[u8], arguments: Arguments, count: usize) -> 
 
 // The contract rules out a value beyond the range, whatever was given, and one within it that is refused.
 pub fn natural_in(value: i64, least: u64, most: u64) -> Natural
-    ensures { (result ≡ naturalIn value least most) × (least ≤ result.value) × (result.value ≤ max least most) }
+    ensures { (result ≡ natural_in value least most) × (least ≤ result.value) × (result.value ≤ max least most) }
 {
     let size = integers::magnitude(value);
     if integers::negative(value) {
@@ -117,7 +117,7 @@ pub fn natural_in(value: i64, least: u64, most: u64) -> Natural
 
 // The contract rules out a value of 32 bits that is refused, and another number in its place.
 pub fn integer_in(value: i64) -> Integer
-    ensures { result ≡ integerIn value }
+    ensures { result ≡ integer_in value }
 {
     if integers::not_above(-2147483648, value) & integers::not_above(value, 2147483647) {
         return Integer {

@@ -1,6 +1,6 @@
 // Bytes in hexadecimal digits, read.
 ghost use Rattle.std.specs.Prelude.{◌≡◌, true, ◌++◌, ◌*◌, ◌≤◌, ◌<◌, length, drop};
-ghost use Rattle.text.specs.Hexadecimal.{capital, hexadecimalValue, allDigits, isDash, pair, pairs, bytes_of, countIn, bytesIn};
+ghost use Rattle.text.specs.Hexadecimal.{capital, hexadecimal_value, all_digits, is_dash, pair, pairs, bytes_of, count_in, bytes_in};
 
 // How many bytes a word is.
 #[derive(Drop)]
@@ -21,13 +21,13 @@ fn capital(b: u8) -> u8
 
 // The value of a digit of either case; 16 for another byte.
 fn digit_value(b: u8) -> u8
-    ensures { (result ≡ hexadecimalValue b) × (result ≤ 16) }
+    ensures { (result ≡ hexadecimal_value b) × (result ≤ 16) }
 {
     numerals::digit_value(capital(b)) as u8
 }
 
 fn all_digits(word: &[u8]) -> bool
-    ensures { result ≡ allDigits word.now }
+    ensures { result ≡ all_digits word.now }
 {
     let mut i = 0;
     while i < word.len() {
@@ -40,7 +40,7 @@ fn all_digits(word: &[u8]) -> bool
 }
 
 fn is_dash(word: &[u8]) -> bool
-    ensures { result ≡ isDash word.now }
+    ensures { result ≡ is_dash word.now }
 {
     if word.len() == 1 {
         word[0] == b'-'
@@ -50,7 +50,7 @@ fn is_dash(word: &[u8]) -> bool
 }
 
 fn pair_value(high: u8, low: u8) -> u8
-    requires { (hexadecimalValue high < 16) × (hexadecimalValue low < 16) }
+    requires { (hexadecimal_value high < 16) × (hexadecimal_value low < 16) }
     ensures { result ≡ pair high low }
 {
     digit_value(high) * 16 + digit_value(low)
@@ -58,7 +58,7 @@ fn pair_value(high: u8, low: u8) -> u8
 
 // Writes the bytes of pairs of digits to the front of a buffer.
 fn write_pairs(word: &[u8], count: usize, bytes: &mut [u8])
-    requires { (allDigits word.now ≡ true) × (2 * count ≤ length word.now) × (count ≤ length bytes.old) }
+    requires { (all_digits word.now ≡ true) × (2 * count ≤ length word.now) × (count ≤ length bytes.old) }
     ensures { bytes.new ≡ pairs word.now count ++ drop count bytes.old }
 {
     let mut n: usize = 0;
@@ -72,8 +72,8 @@ fn write_pairs(word: &[u8], count: usize, bytes: &mut [u8])
 // number of digits, no digit, another character, or more bytes than the buffer has is malformed. The contract rules out
 // a wrong byte, a malformed word that is taken, and any change of the buffer but the bytes of a word that is taken.
 pub fn parse(word: &[u8], bytes: &mut [u8]) -> Count
-    ensures value { result ≡ countIn (bytes_of word.now) (length bytes.old) }
-    ensures bytes_after { bytes.new ≡ bytesIn (bytes_of word.now) bytes.old }
+    ensures value { result ≡ count_in (bytes_of word.now) (length bytes.old) }
+    ensures bytes_after { bytes.new ≡ bytes_in (bytes_of word.now) bytes.old }
 {
     if is_dash(word) {
         return Count::Bytes(0);

@@ -1,6 +1,6 @@
 // The words of a line of bytes, and what they say. Every function is total: what a line has wrong is in the answer.
 ghost use Rattle.std.specs.Prelude.{◌≡◌, ◌+◌, ◌≤◌, max, length, drop};
-ghost use Rattle.text.specs.Words.{fitsBlank, leading, word_at, onlyWord, afterWords, sameBytes};
+ghost use Rattle.text.specs.Words.{fits_blank, leading, word_at, only_word, after_words, same_bytes};
 
 pub mod arguments;
 pub mod hexadecimal;
@@ -13,7 +13,7 @@ pub struct Span {
 }
 
 fn fits_blank(blank: bool, b: u8) -> bool
-    ensures { result ≡ fitsBlank blank b }
+    ensures { result ≡ fits_blank blank b }
 {
     if b == b' ' { blank } else { !blank }
 }
@@ -46,7 +46,7 @@ pub fn word(line: &[u8], at: usize) -> Span
 // The only word at or behind a place; an empty one where there is none, or a second one. The contract rules out the
 // first of two words.
 pub fn only_word(line: &[u8], at: usize) -> Span
-    ensures value { result ≡ onlyWord line.now at }
+    ensures value { result ≡ only_word line.now at }
     ensures at_le_from { (at ≤ result.from) × (result.from ≤ result.to) × (result.to ≤ max at (length line.now)) }
 {
     let w = word(line, at);
@@ -59,7 +59,7 @@ pub fn only_word(line: &[u8], at: usize) -> Span
 
 // The place behind so many words, or behind all where there are fewer. The contract rules out a word too many.
 pub fn after_words(line: &[u8], start: usize, count: usize) -> usize
-    ensures { (result ≡ afterWords count line.now start)
+    ensures { (result ≡ after_words count line.now start)
         × (start ≤ result) × (result ≤ max start (length line.now)) }
 {
     let mut at = start;
@@ -74,7 +74,7 @@ pub fn after_words(line: &[u8], start: usize, count: usize) -> usize
 
 // Whether two words are the same. The contract rules out a word that is taken for a longer one.
 pub fn same(a: &[u8], b: &[u8]) -> bool
-    ensures { result ≡ sameBytes a.now b.now }
+    ensures { result ≡ same_bytes a.now b.now }
 {
     if a.len() != b.len() {
         return false;

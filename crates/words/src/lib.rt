@@ -1,6 +1,6 @@
 // The status words MD and DS.
 ghost use Rattle.std.specs.Prelude.{◌≡◌, ◌≤◌};
-ghost use Rattle.words.specs.Words.{weight, nibbleOf, byte_of, modeBit, dsBit5, dsBit4, mdHigh, mdLow, MD, dsLow, DS};
+ghost use Rattle.words.specs.Words.{weight, nibble_of, byte_of, mode_bit, ds_bit5, ds_bit4, md_high, md_low, MD, ds_low, DS};
 
 use modes::{Conditions, Mode};
 
@@ -33,7 +33,7 @@ pub fn weight(b: bool, w: u16) -> u16
 
 // Four bits, the highest first.
 fn nibble(b3: bool, b2: bool, b1: bool, b0: bool) -> u16
-    ensures { (result ≡ nibbleOf b3 b2 b1 b0) × (result ≤ 15) }
+    ensures { (result ≡ nibble_of b3 b2 b1 b0) × (result ≤ 15) }
 {
     weight(b3, 8) + weight(b2, 4) + weight(b1, 2) + weight(b0, 1)
 }
@@ -47,7 +47,7 @@ fn byte(b7: bool, b6: bool, b5: bool, b4: bool, b3: bool, b2: bool, b1: bool, b0
 
 // The bit of MD that is set in this mode.
 fn mode_bit(mode: Mode) -> u16
-    ensures { result ≡ modeBit mode }
+    ensures { result ≡ mode_bit mode }
 {
     match mode {
         Mode::Hold => bits::HOLD,
@@ -63,7 +63,7 @@ fn mode_bit(mode: Mode) -> u16
 
 // The contract rules out a mode that is not in the list of those with a 0, and one of them left out.
 fn ds_bit_5(mode: Mode) -> bool
-    ensures { result ≡ dsBit5 mode }
+    ensures { result ≡ ds_bit5 mode }
 {
     match mode {
         Mode::Hold | Mode::Manual | Mode::Forced => false,
@@ -73,7 +73,7 @@ fn ds_bit_5(mode: Mode) -> bool
 
 // The same of bit 4.
 fn ds_bit_4(mode: Mode) -> bool
-    ensures { result ≡ dsBit4 mode }
+    ensures { result ≡ ds_bit4 mode }
 {
     match mode {
         Mode::Remote | Mode::Ratio => false,
@@ -83,7 +83,7 @@ fn ds_bit_4(mode: Mode) -> bool
 
 // MD bits 15 to 8.
 fn md_high(mode: Mode, c: Conditions) -> u16
-    ensures { (result ≡ mdHigh mode c) × (result ≤ 255) }
+    ensures { (result ≡ md_high mode c) × (result ≤ 255) }
 {
     let n = mode_bit(mode);
     let p = signals::pins_of(c.pins);
@@ -102,7 +102,7 @@ fn md_high(mode: Mode, c: Conditions) -> u16
 
 // MD bits 7 to 0.
 fn md_low(userbits: UserBits, indications: Indications) -> u16
-    ensures { (result ≡ mdLow userbits indications) × (result ≤ 255) }
+    ensures { (result ≡ md_low userbits indications) × (result ≤ 255) }
 {
     let b = signals::buttons_of(indications.buttons);
     byte(
@@ -129,7 +129,7 @@ pub fn md(mode: Mode, c: Conditions, userbits: UserBits, indications: Indication
 
 // DS bits 7 to 0.
 fn ds_low(mode: Mode, c: Conditions, userbits: UserBits, indications: Indications) -> u16
-    ensures { (result ≡ dsLow mode c userbits indications) × (result ≤ 255) }
+    ensures { (result ≡ ds_low mode c userbits indications) × (result ≤ 255) }
 {
     let cause = modes::is_cause(c.fault, c.opencount);
     let b5 = ds_bit_5(mode);

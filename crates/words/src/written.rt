@@ -1,8 +1,8 @@
 // Writing MD and DS: what is taken of the word, and which words MD refuses.
 ghost use Rattle.std.specs.Prelude.{◌≡◌};
-ghost use Rattle.signals.specs.Refusals.{number_in, refusedBy};
-ghost use Rattle.words.specs.Written.{requestOf, clearsFault, faultWritten, requestWritten, conditionsWritten};
-ghost use Rattle.words.specs.Written.{powerWritten, userBitsWritten, exactlyOne, causeRemains, mdTests};
+ghost use Rattle.signals.specs.Refusals.{number_in, refused_by};
+ghost use Rattle.words.specs.Written.{request_of, clears_fault, fault_written, request_written, conditions_written};
+ghost use Rattle.words.specs.Written.{power_written, user_bits_written, exactly_one, cause_remains, md_tests};
 
 use crate::{UserBits, bits};
 use modes::{Conditions, Request};
@@ -10,7 +10,7 @@ use signals::{Refusal, Verdict};
 
 // The request that a word with exactly one of its three bits set asks for.
 fn request_of(word: u16) -> Request
-    ensures { result ≡ requestOf word }
+    ensures { result ≡ request_of word }
 {
     let manual = signals::bit(word, bits::MANUAL);
     let auto = signals::bit(word, bits::AUTO);
@@ -25,14 +25,14 @@ fn request_of(word: u16) -> Request
 
 // The contract rules out a fault that a one in bit 8 clears.
 fn clears_fault(fault: bool, word: u16) -> bool
-    ensures { result ≡ clearsFault fault word }
+    ensures { result ≡ clears_fault fault word }
 {
     fault & !signals::bit(word, bits::FAULT)
 }
 
 // The memory fault that a write of MD leaves.
 fn fault_written(fault: bool, word: u16) -> bool
-    ensures { result ≡ faultWritten fault word }
+    ensures { result ≡ fault_written fault word }
 {
     let clears = clears_fault(fault, word);
     if clears { false } else { fault }
@@ -40,7 +40,7 @@ fn fault_written(fault: bool, word: u16) -> bool
 
 // The request that it leaves. The contract rules out another than Manual where the write clears a fault.
 fn request_written(fault: bool, word: u16) -> Request
-    ensures { result ≡ requestWritten fault word }
+    ensures { result ≡ request_written fault word }
 {
     let clears = clears_fault(fault, word);
     let asked = request_of(word);
@@ -50,7 +50,7 @@ fn request_written(fault: bool, word: u16) -> Request
 // What an accepted write of MD leaves of the conditions. The contract rules out a request taken from another bit, a
 // fault that a write clears or leaves wrongly, and a write that moves the pins or the open count.
 pub fn conditions_written(c: Conditions, word: u16) -> Conditions
-    ensures { result ≡ conditionsWritten c word }
+    ensures { result ≡ conditions_written c word }
 {
     let request = request_written(c.fault, word);
     let fault = fault_written(c.fault, word);
@@ -64,7 +64,7 @@ pub fn conditions_written(c: Conditions, word: u16) -> Conditions
 
 // MD bit 4. The contract rules out another bit, and a write of MD that moves the user bits.
 pub fn power_written(userbits: UserBits, word: u16) -> UserBits
-    ensures { result ≡ powerWritten userbits word }
+    ensures { result ≡ power_written userbits word }
 {
     let measuredpower = signals::bit(word, bits::MEASURED_POWER);
     UserBits {
@@ -76,7 +76,7 @@ pub fn power_written(userbits: UserBits, word: u16) -> UserBits
 
 // DS bits 7 and 6. The contract rules out user bits that are exchanged.
 pub fn user_bits_written(userbits: UserBits, word: u16) -> UserBits
-    ensures { result ≡ userBitsWritten userbits word }
+    ensures { result ≡ user_bits_written userbits word }
 {
     let user1 = signals::bit(word, bits::USER1);
     let user2 = signals::bit(word, bits::USER2);
@@ -89,14 +89,14 @@ pub fn user_bits_written(userbits: UserBits, word: u16) -> UserBits
 
 // The contract rules out none, two and three.
 fn exactly_one(a: bool, b: bool, c: bool) -> bool
-    ensures { result ≡ exactlyOne a b c }
+    ensures { result ≡ exactly_one a b c }
 {
     (a & !b & !c) | (!a & b & !c) | (!a & !b & c)
 }
 
 // Whether a cause would stand after a write of this word. The contract rules out the fault as it was before.
 fn cause_remains(c: Conditions, word: u16) -> bool
-    ensures { result ≡ causeRemains c word }
+    ensures { result ≡ cause_remains c word }
 {
     let fault = fault_written(c.fault, word);
     modes::is_cause(fault, c.opencount)
@@ -105,7 +105,7 @@ fn cause_remains(c: Conditions, word: u16) -> bool
 // Whether MD takes this word. The contract rules out a refusal for another cause, one that is forgotten, and a higher
 // number where a lower one applies.
 pub fn md_verdict(c: Conditions, word: u16) -> Verdict
-    ensures { number_in result ≡ refusedBy (mdTests c word) }
+    ensures { number_in result ≡ refused_by (md_tests c word) }
 {
     let auto = signals::bit(word, bits::AUTO);
     let remote = signals::bit(word, bits::REMOTE);

@@ -9,9 +9,9 @@ use Rattle.signals.specs.declared.clock.ClockReading.TheVariants.{None, At}
 use Rattle.modes.specs.declared.Mode.TheVariants.{Manual}
 use Rattle.answers.specs.declared.LastAnswer.TheVariants as last
 use Rattle.answers.specs.declared.ScanValues.{ScanValues}
-use Rattle.controller.specs.State.{freshController}
+use Rattle.controller.specs.State.{fresh_controller}
 use Rattle.controller.specs.declared.Controller.{Controller}
-use Rattle.drum.specs.Offers.{offerOf}
+use Rattle.drum.specs.Offers.{offer_of}
 use Rattle.drum.specs.Steps.{step_of}
 use Rattle.drum.specs.declared.Drum.{Drum}
 use Rattle.drum.specs.declared.Kind.TheVariants.{Lag, Integrator}
@@ -29,23 +29,23 @@ abbrev pub integrator : ℕ → ℕ → Drum
 integrator t rate = record { temperature = of_bits binary64 t; kind = Integrator (of_bits binary64 rate) }
 
 -- the lag whose figure tells the order of the operations: gain 1.03, rate 0.05; and the integrator, rate 0.05
-abbrev pub dryerLag : ℕ → Drum
-dryerLag t = lag t 0x3FF07AE147AE147B 0x3FA999999999999A
+abbrev pub dryer_lag : ℕ → Drum
+dryer_lag t = lag t 0x3FF07AE147AE147B 0x3FA999999999999A
 
-abbrev pub dryerIntegrator : ℕ → Drum
-dryerIntegrator t = integrator t 0x3FA999999999999A
+abbrev pub dryer_integrator : ℕ → Drum
+dryer_integrator t = integrator t 0x3FA999999999999A
 
 -- and one whose figure tells it by the sign of a zero: gain -1, rate 1
-abbrev pub signedLag : ℕ → Drum
-signedLag t = lag t 0xBFF0000000000000 0x3FF0000000000000
+abbrev pub signed_lag : ℕ → Drum
+signed_lag t = lag t 0xBFF0000000000000 0x3FF0000000000000
 
-abbrev pub stepsTo : Drum → StepResult
-stepsTo d = record { drum = d; verdict = verdict.Accepted }
+abbrev pub steps_to : Drum → StepResult
+steps_to d = record { drum = d; verdict = verdict.Accepted }
 
-abbrev pub refusedAs : Drum → StepResult
-refusedAs d = record { drum = d; verdict = verdict.Refused NotFinite }
+abbrev pub refused_as : Drum → StepResult
+refused_as d = record { drum = d; verdict = verdict.Refused NotFinite }
 
--- 0, 0.5, 1, 4 and 8; 2 to the 1023rd and to the -1023rd; an infinity and a not-a-number
+-- 0, 0.5, 1, 4 and 8; 2 to the 1023rd and to the -1023rd; an infinity and a not_a_number_lem
 abbrev pub zero : ℕ
 zero = 0x0000000000000000
 
@@ -70,32 +70,32 @@ tiny = 0x0008000000000000
 abbrev pub infinity : ℕ
 infinity = 0x7FF0000000000000
 
-abbrev pub notANumber : ℕ
-notANumber = 0x7FF8000000000001
+abbrev pub not_a_number : ℕ
+not_a_number = 0x7FF8000000000001
 
-unfoldable pub drumFigures : List (Type 0)
-drumFigures =
+unfoldable pub drum_figures : List (Type 0)
+drum_figures =
     -- "made a float exactly": 65,535
-    (step_of (integrator zero one) 65535 ≡ stepsTo (integrator 0x40EFFFE000000000 one))
+    (step_of (integrator zero one) 65535 ≡ steps_to (integrator 0x40EFFFE000000000 one))
     -- "21 when T .., the gain, the rate or the new T isn't finite; the drum then stays as it was": of the last the
     -- product of gain and output passes the greatest float, though the formula's value is 2
-    ∷ (step_of (lag notANumber zero half) 0 ≡ refusedAs (lag notANumber zero half))
-    ∷ (step_of (lag eight infinity zero) 0 ≡ refusedAs (lag eight infinity zero))
-    ∷ (step_of (integrator eight infinity) 0 ≡ refusedAs (integrator eight infinity))
-    ∷ (step_of (lag zero huge tiny) 1 ≡ stepsTo (lag one huge tiny))
-    ∷ (step_of (lag zero huge tiny) 2 ≡ refusedAs (lag zero huge tiny))
+    ∷ (step_of (lag not_a_number zero half) 0 ≡ refused_as (lag not_a_number zero half))
+    ∷ (step_of (lag eight infinity zero) 0 ≡ refused_as (lag eight infinity zero))
+    ∷ (step_of (integrator eight infinity) 0 ≡ refused_as (integrator eight infinity))
+    ∷ (step_of (lag zero huge tiny) 1 ≡ steps_to (lag one huge tiny))
+    ∷ (step_of (lag zero huge tiny) 2 ≡ refused_as (lag zero huge tiny))
     -- "0 below 0, 10000 above 10000, otherwise the greatest whole number not above T": -0.0, just below 0, just below
     -- 1, 1, just below 10000, 10000 and just above it; a gain and a rate that aren't finite don't matter
-    ∷ (offerOf (lag 0x8000000000000000 one one) ≡ Sample 0)
-    ∷ (offerOf (lag 0x8000000000000001 one one) ≡ Sample 0)
-    ∷ (offerOf (lag 0x3FEFFFFFFFFFFFFF one one) ≡ Sample 0)
-    ∷ (offerOf (lag one one one) ≡ Sample 1)
-    ∷ (offerOf (lag 0x40C387FFFFFFFFFF one one) ≡ Sample 9999)
-    ∷ (offerOf (lag 0x40C3880000000000 one one) ≡ Sample 10000)
-    ∷ (offerOf (lag 0x40C3880000000001 one one) ≡ Sample 10000)
-    ∷ (offerOf (lag eight infinity notANumber) ≡ Sample 8)
-    ∷ (offerOf (lag infinity one one) ≡ Refused NotFinite)
-    ∷ (offerOf (lag notANumber one one) ≡ Refused NotFinite)
+    ∷ (offer_of (lag 0x8000000000000000 one one) ≡ Sample 0)
+    ∷ (offer_of (lag 0x8000000000000001 one one) ≡ Sample 0)
+    ∷ (offer_of (lag 0x3FEFFFFFFFFFFFFF one one) ≡ Sample 0)
+    ∷ (offer_of (lag one one one) ≡ Sample 1)
+    ∷ (offer_of (lag 0x40C387FFFFFFFFFF one one) ≡ Sample 9999)
+    ∷ (offer_of (lag 0x40C3880000000000 one one) ≡ Sample 10000)
+    ∷ (offer_of (lag 0x40C3880000000001 one one) ≡ Sample 10000)
+    ∷ (offer_of (lag eight infinity not_a_number) ≡ Sample 8)
+    ∷ (offer_of (lag infinity one one) ≡ Refused NotFinite)
+    ∷ (offer_of (lag not_a_number one one) ≡ Refused NotFinite)
     ∷ []
 
 -- Manual with nothing pressed; with Raise held; Track, whose output is sample 3's 5000
@@ -109,52 +109,52 @@ abbrev pub track : OtherInputs
 track = record { pins = 0xC0; sample2 = 0; sample3 = 5000; buttons = 0; sensors = 0 }
 
 -- a run that did nothing, with this number
-abbrev pub nothingDone : Controller → Drum → ℕ → RunResult
-nothingDone c d n = record { controller = c; drum = d; turns = 0; number = n; last = last.None }
+abbrev pub nothing_done : Controller → Drum → ℕ → RunResult
+nothing_done c d n = record { controller = c; drum = d; turns = 0; number = n; last = last.None }
 
 -- button bit 4 set
-abbrev pub wrongButtons : OtherInputs
-wrongButtons = record { pins = 0x80; sample2 = 0; sample3 = 0; buttons = 0x10; sensors = 0 }
+abbrev pub wrong_buttons : OtherInputs
+wrong_buttons = record { pins = 0x80; sample2 = 0; sample3 = 0; buttons = 0x10; sensors = 0 }
 
 -- a gain of 2 to the 1019th and a tiny rate; what nine turns with Raise held leave, and what the second scan answers
 abbrev pub steep : ℕ → Drum
 steep t = lag t 0x7FA0000000000000 tiny
 
 unfoldable pub overflows : RunResult
-overflows = run_of (freshController 0) (steep eight) raise 9
+overflows = run_of (fresh_controller 0) (steep eight) raise 9
 
-abbrev pub secondAnswer : ScanValues
-secondAnswer = record { md = 0x2040; ds = 0x801F; op = 24; electrical = 24; mode = Manual; pv = pos 1 }
+abbrev pub second_answer : ScanValues
+second_answer = record { md = 0x2040; ds = 0x801F; op = 24; electrical = 24; mode = Manual; pv = pos 1 }
 
-abbrev pub noNumber : Drum
-noNumber = lag notANumber one one
+abbrev pub no_number : Drum
+no_number = lag not_a_number one one
 
 -- controllers whose last accepted reading is this one
 abbrev pub LastAt : ℕ → (Controller → Type 0) → Type 0
 LastAt milliseconds figure = (c : Controller) → c.core.clock ≡ At milliseconds → figure c
 
-unfoldable pub runFigures : List (Type 0)
-runFigures =
+unfoldable pub run_figures : List (Type 0)
+run_figures =
     -- output 0, 8 to 4 to 2 to 1; "at 0 if there is none": readings 0, 36 and 72
-    ((run_of (freshController 0) (lag eight one half) manual 3).drum ≡ lag one one half)
-    ∷ ((run_of (freshController 0) (lag eight one half) manual 3).controller.core.clock ≡ At 72)
+    ((run_of (fresh_controller 0) (lag eight one half) manual 3).drum ≡ lag one one half)
+    ∷ ((run_of (fresh_controller 0) (lag eight one half) manual 3).controller.core.clock ≡ At 72)
     -- Raise held: OP is 12, 24 and 36, and with each the integrator steps, to 72
-    ∷ ((run_of (freshController 0) (integrator zero one) raise 3).drum ≡ integrator 0x4052000000000000 one)
+    ∷ ((run_of (fresh_controller 0) (integrator zero one) raise 3).drum ≡ integrator 0x4052000000000000 one)
     -- "with the OP of that scan": with S2.2 ON the electrical output is 4999
-    ∷ ((run_of (freshController 0x4000) (integrator zero one) track 1).drum ≡ integrator 0x40B3880000000000 one)
+    ∷ ((run_of (fresh_controller 0x4000) (integrator zero one) track 1).drum ≡ integrator 0x40B3880000000000 one)
     -- OP is 12 and 24, the temperature 8.75 and 10.25; 36 × 2 to the 1019th is too great, and the third turn is taken
     -- back: its scan at 72, and its answer
     ∷ (overflows.number ≡ 21)
     ∷ (overflows.turns ≡ 2)
     ∷ (overflows.drum ≡ steep 0x4024800000000000)
     ∷ (overflows.controller.core.clock ≡ At 36)
-    ∷ (overflows.last ≡ last.Answer secondAnswer)
+    ∷ (overflows.last ≡ last.Answer second_answer)
     -- button bit 4 set: refused with 2, in the first turn
-    ∷ ((d : Drum) → offerOf d ≡ Sample 8 → run_of (freshController 0) d wrongButtons 9 ≡ nothingDone (freshController 0) d 2)
+    ∷ ((d : Drum) → offer_of d ≡ Sample 8 → run_of (fresh_controller 0) d wrong_buttons 9 ≡ nothing_done (fresh_controller 0) d 2)
     -- "tested first in each turn, where the clock would pass 64 bits": after 2 ^ 64 - 36 there is no turn, whatever the
-    -- drum, the inputs and the turns asked for; after 2 ^ 64 - 37 the offer is tested, and a not-a-number is refused
-    ∷ LastAt 18446744073709551580 (λ c. (d : Drum) (x : OtherInputs) (n : ℕ) → run_of c d x n ≡ nothingDone c d 0)
-    ∷ LastAt 18446744073709551579 (λ c. (x : OtherInputs) → run_of c noNumber x 5 ≡ nothingDone c noNumber 21)
+    -- drum, the inputs and the turns asked for; after 2 ^ 64 - 37 the offer is tested, and a not_a_number_lem is refused
+    ∷ LastAt 18446744073709551580 (λ c. (d : Drum) (x : OtherInputs) (n : ℕ) → run_of c d x n ≡ nothing_done c d 0)
+    ∷ LastAt 18446744073709551579 (λ c. (x : OtherInputs) → run_of c no_number x 5 ≡ nothing_done c no_number 21)
     -- no turn asked for
-    ∷ ((c : Controller) (d : Drum) (x : OtherInputs) → run_of c d x 0 ≡ nothingDone c d 0)
+    ∷ ((c : Controller) (d : Drum) (x : OtherInputs) → run_of c d x 0 ≡ nothing_done c d 0)
     ∷ []

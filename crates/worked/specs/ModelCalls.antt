@@ -1,11 +1,11 @@
 -- Calls of a reference model that was made apart from the rules, stated of the rules; proofs/ModelCalls.antt proves
 -- them. Made by tests/statements/calls.py, which the gate compares with this file.
 use Rattle.std.specs.Prelude.{Bool, true, false, List, [], ◌∷◌, ◌≡◌, ℕ, ℤ, pos, neg_ℤ, replicate}
-use Rattle.signals.specs.Refusals.{refusedBy}
+use Rattle.signals.specs.Refusals.{refused_by}
 use Rattle.signals.specs.declared.Input.{Input}
 use Rattle.signals.specs.declared.clock.ClockReading.{ClockReading}
 use Rattle.signals.specs.declared.clock.ClockReading.TheVariants.{None, At}
-use Rattle.fields.specs.Fields.{saveTests, savedIn}
+use Rattle.fields.specs.Fields.{save_tests, saved_in}
 use Rattle.modes.specs.declared.Mode.TheVariants.{Hold, Track, Forced, Remote, Ratio, Fallback}
 use Rattle.modes.specs.declared.Request.{Request}
 use Rattle.modes.specs.declared.Request.TheVariants as request
@@ -13,9 +13,9 @@ use Rattle.rights.specs.declared.Writer.TheVariants.{Engineer}
 use Rattle.setpoints.specs.declared.Readings.{Readings}
 use Rattle.outputs.specs.declared.History.{History}
 use Rattle.outputs.specs.declared.History.TheVariants.{Nothing, One, Two}
-use Rattle.controller.specs.Answers.{Reply, words, acceptance, replyBy}
+use Rattle.controller.specs.Answers.{Reply, words, acceptance, reply_by}
 use Rattle.controller.specs.Restart.{restart}
-use Rattle.controller.specs.Save.{savedImage}
+use Rattle.controller.specs.Save.{saved_image}
 use Rattle.controller.specs.Scan.{scan}
 use Rattle.controller.specs.Write.{write}
 use Rattle.controller.specs.declared.Controller.{Controller}
@@ -68,10 +68,10 @@ Restarts before image after answer = restart before image ≡ record { next = af
 abbrev pub Saves : Controller → ℕ → Reply → List ℕ → Type 0
 Saves before size answer bytes =
     let buffer = replicate {A = ℕ} size 165 in
-    (replyBy (refusedBy (saveTests buffer)) ≡ answer) × (savedIn (savedImage before) buffer ≡ bytes)
+    (reply_by (refused_by (save_tests buffer)) ≡ answer) × (saved_in (saved_image before) buffer ≡ bytes)
 
-unfoldable pub modelCalls : List (Type 0)
-modelCalls =
+unfoldable pub model_calls : List (Type 0)
+model_calls =
     -- scan: Ratio after a gap: earlier PV and SP forgotten after the terms, or PV alone; RS + trim not limited; SP not limited
     Scans (state 47402 (neg_ℤ (pos 1195) ∷ neg_ℤ (pos 4566) ∷ neg_ℤ (pos 512) ∷ neg_ℤ (pos 3735) ∷ pos 0 ∷ neg_ℤ (pos 3710) ∷ pos 9999 ∷ pos 1 ∷ pos 9300 ∷ pos 5290 ∷ neg_ℤ (pos 718) ∷ neg_ℤ (pos 3767) ∷ pos 3156 ∷ pos 5284 ∷ pos 6667 ∷ pos 3345 ∷ pos 7885 ∷ pos 3746 ∷ pos 3 ∷ pos 5297 ∷ pos 1967 ∷ neg_ℤ (pos 38) ∷ pos 0 ∷ []) request.Manual false true true false 0 164 (readings (neg_ℤ (pos 2236)) (pos 5297) (neg_ℤ (pos 7533)) (pos 0)) 192 false true false (One (neg_ℤ (pos 2236)) (pos 5297)) (At 4294979851) (pos 220004352)) (input 161 6914 5520 569 196 0 4294979894) (state 47402 (neg_ℤ (pos 1195) ∷ neg_ℤ (pos 4566) ∷ neg_ℤ (pos 512) ∷ neg_ℤ (pos 3735) ∷ pos 0 ∷ neg_ℤ (pos 3710) ∷ pos 9999 ∷ pos 1 ∷ pos 9300 ∷ pos 5290 ∷ neg_ℤ (pos 718) ∷ neg_ℤ (pos 3767) ∷ pos 3156 ∷ pos 5284 ∷ pos 6667 ∷ pos 3345 ∷ pos 7885 ∷ pos 3746 ∷ pos 3 ∷ pos 5290 ∷ pos 1967 ∷ neg_ℤ (pos 38) ∷ pos 0 ∷ []) request.Remote false true true false 0 161 (readings (neg_ℤ (pos 2235)) (pos 5290) (neg_ℤ (pos 7525)) (pos 0)) 196 false true false (One (neg_ℤ (pos 2235)) (pos 5290)) (At 4294979894) (pos 220004055)) (words 3268 41453 3356 3356 Ratio (neg_ℤ (pos 2235)))
     -- scan: 85th open scan after Remote, S2.5 ON: minimum told by the mode of this scan, Forced, in place of the one just before

@@ -3,7 +3,7 @@ use Rattle.std.specs.Prelude.{◌≡◌, refl, List, ℕ, ◌<◌, length}
 use Rattle.std.proofs.Common.{arith}
 use Rattle.integers.specs.Choice.{if◌then◌else◌}
 use Rattle.rights.specs.declared.Writer.TheVariants.{Operator, Engineer, Computer}
-use Rattle.text.specs.Words.{sameBytes, same-unequal}
+use Rattle.text.specs.Words.{same_bytes, same_unequal}
 use Rattle.formatting.specs.Ascii.{ascii}
 use Rattle.writer_lines.specs.declared.ParsedWriter.{ParsedWriter}
 use Rattle.writer_lines.specs.declared.ParsedWriter.TheVariants as parsed
@@ -11,21 +11,21 @@ use Rattle.writer_lines.specs.declared.ParsedWriter.TheVariants as parsed
 -- the writer whose word it is, if one has it
 unfoldable pub writer_of : List ℕ → ParsedWriter
 writer_of word =
-    if sameBytes word (ascii "operator") then parsed.Writer Operator else
-    if sameBytes word (ascii "engineer") then parsed.Writer Engineer else
-    if sameBytes word (ascii "computer") then parsed.Writer Computer else parsed.Malformed
+    if same_bytes word (ascii "operator") then parsed.Writer Operator else
+    if same_bytes word (ascii "engineer") then parsed.Writer Engineer else
+    if same_bytes word (ascii "computer") then parsed.Writer Computer else parsed.Malformed
 
 -- capitals are no writer's
-capital-example : writer_of (ascii "Operator") ≡ parsed.Malformed
-unfolding writer_of sameBytes
-capital-example = refl
+capital_example : writer_of (ascii "Operator") ≡ parsed.Malformed
+unfolding writer_of same_bytes
+capital_example = refl
 
 -- each has eight letters
-pub long-word : (word : List ℕ) → 8 < length word → writer_of word ≡ parsed.Malformed
+pub long_word : (word : List ℕ) → 8 < length word → writer_of word ≡ parsed.Malformed
 unfolding writer_of
-long-word word h =
+long_word word h =
     simp (
-      same-unequal word (ascii "operator") (λ e. omega arith),
-      same-unequal word (ascii "engineer") (λ e. omega arith),
-      same-unequal word (ascii "computer") (λ e. omega arith),
+      same_unequal word (ascii "operator") (λ e. omega arith),
+      same_unequal word (ascii "engineer") (λ e. omega arith),
+      same_unequal word (ascii "computer") (λ e. omega arith),
     )

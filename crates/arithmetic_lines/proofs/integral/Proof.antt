@@ -7,24 +7,24 @@ use mir.Syntax.{w64}
 use mir.Val.{to_z, of_z}
 use Rattle.integers.specs.Choice.{if◌then◌else◌}
 use Rattle.integers.specs.Machine.{back}
-use Rattle.terms.specs.Terms.{storedTerm, integralTerm}
-use Rattle.arithmetic_lines.specs.Calculations.{integralCalculation}
+use Rattle.terms.specs.Terms.{stored_term, integral_term}
+use Rattle.arithmetic_lines.specs.Calculations.{integral_calculation}
 use Rattle.arithmetic_lines.specs.Ranges.{read_back}
 use Rattle.arithmetic_lines.specs.declared.Calculation.TheVariants.{Number, NoCall}
 use Rattle.arithmetic_lines.proofs.integral.Statement.{statement}
 use Rattle.arithmetic_lines.proofs.integral.Tie as tie
 
-natural-at-requires : tie.Need-natural-at-requires
-natural-at-requires c κs = omega arith
+natural_at_requires : tie.Need-natural-at-requires
+natural_at_requires c κs = omega arith
 
-natural-at-requires-2 : tie.Need-natural-at-requires-2
-natural-at-requires-2 c κs = omega arith
+natural_at_requires_2 : tie.Need-natural-at-requires-2
+natural_at_requires_2 c κs = omega arith
 
-tuning-in-requires : tie.Need-tuning-in-requires
-tuning-in-requires c κs = (c.before.before.natural-at.ensures.2, omega arith)
+tuning_in_requires : tie.Need-tuning-in-requires
+tuning_in_requires c κs = (c.before.before.natural-at.ensures.2, omega arith)
 
-signed-at-requires : tie.Need-signed-at-requires
-signed-at-requires c κs = omega arith
+signed_at_requires : tie.Need-signed-at-requires
+signed_at_requires c κs = omega arith
 
 module _ (c : tie.After-signed-at) where
   abbrev setting : tie.After-tuning-in
@@ -40,17 +40,17 @@ module _ (c : tie.After-signed-at) where
   last = c.signed-at.result.value
 
   -- the machine reads back what the last argument is
-  last-back : to_z w64 (of_z w64 last) ≡ last
-  last-back = read_back last 19998 refl c.signed-at.ensures.1
+  last_back : to_z w64 (of_z w64 last) ≡ last
+  last_back = read_back last 19998 refl c.signed-at.ensures.1
 
   abbrev legal : Bool
   legal = setting.tuning-in.result.ok && ti.natural-at.result.ok && minutes.natural-at2.result.ok &&
       c.signed-at.result.ok
 
   -- the calculation of what the calls give
-  calculation : integralCalculation ti.before.args.values ≡
-      (if legal then Number (storedTerm (integralTerm setting.tuning-in.result.tuning last)) else NoCall)
-  unfolding integralCalculation
+  calculation : integral_calculation ti.before.args.values ≡
+      (if legal then Number (stored_term (integral_term setting.tuning-in.result.tuning last)) else NoCall)
+  unfolding integral_calculation
   calculation = rw (
     ← ti.natural-at.ensures.0,
     ← minutes.natural-at2.ensures.0,
@@ -58,10 +58,10 @@ module _ (c : tie.After-signed-at) where
     ← c.signed-at.ensures.0,
   ) refl
 
-integral-requires : tie.Need-integral-requires
-integral-requires c κs =
+integral_requires : tie.Need-integral-requires
+integral_requires c κs =
     let n = c.before.before.before.before.before.before.before in
-    rw (last-back n) ((setting n).tuning-in.ensures.1, n.signed-at.ensures.1)
+    rw (last_back n) ((setting n).tuning-in.ensures.1, n.signed-at.ensures.1)
 
 returns : tie.Need-returns
 returns c =
@@ -71,20 +71,20 @@ returns c =
       calculation n,
       test.if1.true,
       back w64 c.integral.result c.integral.type-inv,
-      rw (last-back n) at c.integral.ensures,
+      rw (last_back n) at c.integral.ensures,
     ) refl
 
-returns-2 : tie.Need-returns-2
-returns-2 c = rw (calculation c.before.before.before.before.before, c.if1.false) refl
+returns_2 : tie.Need-returns-2
+returns_2 c = rw (calculation c.before.before.before.before.before, c.if1.false) refl
 
-pub integral-spec : {M : Type 1} → statement M
-integral-spec =
+pub integral_spec : {M : Type 1} → statement M
+integral_spec =
     tie.close
     (tie.spec
-    natural-at-requires
-    natural-at-requires-2
-    tuning-in-requires
-    signed-at-requires
-    integral-requires
+    natural_at_requires
+    natural_at_requires_2
+    tuning_in_requires
+    signed_at_requires
+    integral_requires
     returns
-    returns-2)
+    returns_2)

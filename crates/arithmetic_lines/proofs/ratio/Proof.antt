@@ -6,16 +6,16 @@ use mir.Syntax.{w64}
 use mir.Val.{to_z, of_z}
 use Rattle.integers.specs.Machine.{back}
 use Rattle.scaling.specs.Ratio.{RatioRange}
-use Rattle.arithmetic_lines.specs.Calculations.{ratioCalculation}
+use Rattle.arithmetic_lines.specs.Calculations.{ratio_calculation}
 use Rattle.arithmetic_lines.specs.Ranges.{read_back}
 use Rattle.arithmetic_lines.proofs.ratio.Statement.{statement}
 use Rattle.arithmetic_lines.proofs.ratio.Tie as tie
 
-signed-at-requires : tie.Need-signed-at-requires
-signed-at-requires c κs = omega arith
+signed_at_requires : tie.Need-signed-at-requires
+signed_at_requires c κs = omega arith
 
-natural-at-requires : tie.Need-natural-at-requires
-natural-at-requires c κs = omega arith
+natural_at_requires : tie.Need-natural-at-requires
+natural_at_requires c κs = omega arith
 
 module _ (c : tie.After-natural-at) where
   abbrev q : ℤ
@@ -26,15 +26,15 @@ module _ (c : tie.After-natural-at) where
   q_back = read_back q 9999 refl c.before.signed-at.ensures.1
 
   range : RatioRange q c.natural-at.result.value
-  range = record { q-most = c.before.signed-at.ensures.1; s-some = c.natural-at.ensures.1; s-most = c.natural-at.ensures.2 }
+  range = record { q_most = c.before.signed-at.ensures.1; s_some = c.natural-at.ensures.1; s_most = c.natural-at.ensures.2 }
 
-inverse-ratio-requires : tie.Need-inverse-ratio-requires
-inverse-ratio-requires c κs =
+inverse_ratio_requires : tie.Need-inverse-ratio-requires
+inverse_ratio_requires c κs =
     let n = c.before.before.before.before.before in
     rw (q_back n) (range n)
 
 returns : tie.Need-returns
-unfolding ratioCalculation
+unfolding ratio_calculation
 returns c =
     let n = c.before.before.before.before.before.before in
     rw (
@@ -46,14 +46,14 @@ returns c =
       rw (q_back n) at c.inverse-ratio.ensures,
     ) refl
 
-ratio-requires : tie.Need-ratio-requires
-ratio-requires c κs =
+ratio_requires : tie.Need-ratio-requires
+ratio_requires c κs =
     let n = c.before.before.before.before.before in
     rw (q_back n) (range n)
 
-returns-2 : tie.Need-returns-2
-unfolding ratioCalculation
-returns-2 c =
+returns_2 : tie.Need-returns-2
+unfolding ratio_calculation
+returns_2 c =
     let n = c.before.before.before.before.before.before in
     rw (
       c.before.before.if2.false,
@@ -64,20 +64,20 @@ returns-2 c =
       rw (q_back n) at c.ratio.ensures,
     ) refl
 
-returns-3 : tie.Need-returns-3
-unfolding ratioCalculation
-returns-3 c =
+returns_3 : tie.Need-returns-3
+unfolding ratio_calculation
+returns_3 c =
     let n = c.before.before.before in
     rw (← n.before.signed-at.ensures.0, ← n.natural-at.ensures.0, c.if1.false) refl
 
-pub ratio-spec : {M : Type 1} → statement M
-ratio-spec =
+pub ratio_spec : {M : Type 1} → statement M
+ratio_spec =
     tie.close
     (tie.spec
-    signed-at-requires
-    natural-at-requires
-    inverse-ratio-requires
+    signed_at_requires
+    natural_at_requires
+    inverse_ratio_requires
     returns
-    ratio-requires
-    returns-2
-    returns-3)
+    ratio_requires
+    returns_2
+    returns_3)

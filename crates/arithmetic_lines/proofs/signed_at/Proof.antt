@@ -7,47 +7,47 @@ use mir.Syntax.{w64}
 use mir.Val.{to_z, of_z}
 use Rattle.integers.specs.Machine.{back}
 use Rattle.text.specs.Arguments.{argument}
-use Rattle.arithmetic_lines.specs.Calculations.{signedIn}
+use Rattle.arithmetic_lines.specs.Calculations.{signed_in}
 use Rattle.arithmetic_lines.proofs.signed_at.Statement.{statement}
 use Rattle.arithmetic_lines.proofs.signed_at.Tie as tie
 
-mul-value : tie.Need-overflow-mul-value
-mul-value c = omega arith
+mul_value : tie.Need-overflow-mul-value
+mul_value c = omega arith
 
-array-copy-out-value : tie.Need-array-copy-out-value
-array-copy-out-value c = omega arith
+array_copy_out_value : tie.Need-array-copy-out-value
+array_copy_out_value c = omega arith
 
-magnitude-requires : tie.Need-magnitude-requires
-magnitude-requires c κs = tt
+magnitude_requires : tie.Need-magnitude-requires
+magnitude_requires c κs = tt
 
 module _ (c : tie.After-magnitude) where
   abbrev value : ℤ
   value = argument c.before.before.args.t1 c.before.before.args.place
 
-  value-back : to_z w64 (of_z w64 value) ≡ value
-  value-back = back w64 value c.before.value.given
+  value_back : to_z w64 (of_z w64 value) ≡ value
+  value_back = back w64 value c.before.value.given
 
   size_is : c.magnitude.result ≡ nat_abs value
-  size_is = rw value-back at c.magnitude.ensures
+  size_is = rw value_back at c.magnitude.ensures
 
 returns : tie.Need-returns
-unfolding signedIn
+unfolding signed_in
 returns c = (rw (← (size_is c.before), lt-ltb _ _ c.if1.true) refl, omega arith)
 
-returns-2 : tie.Need-returns-2
-unfolding signedIn
-returns-2 c =
+returns_2 : tie.Need-returns-2
+unfolding signed_in
+returns_2 c =
     let n = c.before in (
-      rw (← (size_is n), le-ltb _ _ c.if1.false, value-back n) refl,
-      rw (value-back n, ← (size_is n)) c.if1.false,
+      rw (← (size_is n), le-ltb _ _ c.if1.false, value_back n) refl,
+      rw (value_back n, ← (size_is n)) c.if1.false,
     )
 
-pub signed-at-spec : {M : Type 1} → statement M
-signed-at-spec =
+pub signed_at_spec : {M : Type 1} → statement M
+signed_at_spec =
     tie.close
     (tie.spec
-    mul-value
-    array-copy-out-value
-    magnitude-requires
+    mul_value
+    array_copy_out_value
+    magnitude_requires
     returns
-    returns-2)
+    returns_2)

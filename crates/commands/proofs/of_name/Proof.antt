@@ -1,36 +1,36 @@
 -- `commands::of_name` meets its contract.
 use mathlib.Core.Path.{refl, sym, ◌∙◌}
-use Rattle.commands.specs.Commands.{namedCommand}
+use Rattle.commands.specs.Commands.{named_command}
 use Rattle.commands.proofs.of_name.Statement.{statement}
 use Rattle.commands.proofs.of_name.Tie as tie
 
-slice-aggregate-same : tie.Need-slice-aggregate-same
-slice-aggregate-same c = refl
+slice_aggregate_same : tie.Need-slice-aggregate-same
+slice_aggregate_same c = refl
 
-same-requires : tie.Need-same-requires
-same-requires c κs = tt
+same_requires : tie.Need-same-requires
+same_requires c κs = tt
 
-scan-requires : tie.Need-scan-requires
-scan-requires c κs = c.before.before.before.before.before.requires
+scan_requires : tie.Need-scan-requires
+scan_requires c κs = c.before.before.before.before.before.requires
 
 returns : tie.Need-returns
-unfolding namedCommand
+unfolding named_command
 returns c =
     let test1 = c.before in
     rw (sym test1.before.same.ensures ∙ test1.if1.true) c.scan.ensures
 
-slice-aggregate-same-2 : tie.Need-slice-aggregate-same-2
-slice-aggregate-same-2 c = refl
+slice_aggregate_same_2 : tie.Need-slice-aggregate-same-2
+slice_aggregate_same_2 c = refl
 
-same-requires-2 : tie.Need-same-requires-2
-same-requires-2 c κs = tt
+same_requires_2 : tie.Need-same-requires-2
+same_requires_2 c κs = tt
 
-feed-requires : tie.Need-feed-requires
-feed-requires c κs = c.before.before.before.before.before.before.before.before.requires
+feed_requires : tie.Need-feed-requires
+feed_requires c κs = c.before.before.before.before.before.before.before.before.requires
 
-returns-2 : tie.Need-returns-2
-unfolding namedCommand
-returns-2 c =
+returns_2 : tie.Need-returns-2
+unfolding named_command
+returns_2 c =
     let test2 = c.before in
     let test1 = test2.before.before.before in
     rw (
@@ -38,18 +38,18 @@ returns-2 c =
       sym test2.before.same2.ensures ∙ test2.if2.true,
     ) c.feed.ensures
 
-slice-aggregate-same-3 : tie.Need-slice-aggregate-same-3
-slice-aggregate-same-3 c = refl
+slice_aggregate_same_3 : tie.Need-slice-aggregate-same-3
+slice_aggregate_same_3 c = refl
 
-same-requires-3 : tie.Need-same-requires-3
-same-requires-3 c κs = tt
+same_requires_3 : tie.Need-same-requires-3
+same_requires_3 c κs = tt
 
-write-requires : tie.Need-write-requires
-write-requires c κs = c.before.before.before.before.before.before.before.before.before.before.before.requires
+write_requires : tie.Need-write-requires
+write_requires c κs = c.before.before.before.before.before.before.before.before.before.before.before.requires
 
-returns-3 : tie.Need-returns-3
-unfolding namedCommand
-returns-3 c =
+returns_3 : tie.Need-returns-3
+unfolding named_command
+returns_3 c =
     let test3 = c.before in
     let test2 = test3.before.before.before in
     let test1 = test2.before.before.before in
@@ -59,20 +59,20 @@ returns-3 c =
       sym test3.before.same3.ensures ∙ test3.if3.true,
     ) c.write.ensures
 
-slice-aggregate-same-4 : tie.Need-slice-aggregate-same-4
-slice-aggregate-same-4 c = refl
+slice_aggregate_same_4 : tie.Need-slice-aggregate-same-4
+slice_aggregate_same_4 c = refl
 
-same-requires-4 : tie.Need-same-requires-4
-same-requires-4 c κs = tt
+same_requires_4 : tie.Need-same-requires-4
+same_requires_4 c κs = tt
 
-access-requires : tie.Need-access-requires
-access-requires c κs =
+access_requires : tie.Need-access-requires
+access_requires c κs =
     let test3 = c.before.before.before.before in
     test3.before.before.before.before.before.before.before.before.before.before.requires
 
-returns-4 : tie.Need-returns-4
-unfolding namedCommand
-returns-4 c =
+returns_4 : tie.Need-returns-4
+unfolding named_command
+returns_4 c =
     let test4 = c.before in
     let test3 = test4.before.before.before in
     let test2 = test3.before.before.before in
@@ -84,21 +84,21 @@ returns-4 c =
       sym test4.before.same4.ensures ∙ test4.if4.true,
     ) c.access.ensures
 
-slice-aggregate-same-5 : tie.Need-slice-aggregate-same-5
-slice-aggregate-same-5 c = refl
+slice_aggregate_same_5 : tie.Need-slice-aggregate-same-5
+slice_aggregate_same_5 c = refl
 
-same-requires-5 : tie.Need-same-requires-5
-same-requires-5 c κs = tt
+same_requires_5 : tie.Need-same-requires-5
+same_requires_5 c κs = tt
 
-set-requires : tie.Need-set-requires
-set-requires c κs =
+set_requires : tie.Need-set-requires
+set_requires c κs =
     let test4 = c.before.before.before.before in
     let test2 = test4.before.before.before.before.before.before in
     test2.before.before.before.before.before.before.before.requires
 
-returns-5 : tie.Need-returns-5
-unfolding namedCommand
-returns-5 c =
+returns_5 : tie.Need-returns-5
+unfolding named_command
+returns_5 c =
     let test5 = c.before in
     let test4 = test5.before.before.before in
     let test3 = test4.before.before.before in
@@ -112,15 +112,15 @@ returns-5 c =
       sym test5.before.same5.ensures ∙ test5.if5.true,
     ) c.set.ensures
 
-parse-requires : tie.Need-parse-requires
-parse-requires c κs = tt
+parse_requires : tie.Need-parse-requires
+parse_requires c κs = tt
 
-of-numbers-requires : tie.Need-of-numbers-requires
-of-numbers-requires c κs = tt
+of_numbers_requires : tie.Need-of-numbers-requires
+of_numbers_requires c κs = tt
 
-returns-6 : tie.Need-returns-6
-unfolding namedCommand
-returns-6 c =
+returns_6 : tie.Need-returns-6
+unfolding named_command
+returns_6 c =
     let test5 = c.before.before in
     let test4 = test5.before.before.before in
     let test3 = test4.before.before.before in
@@ -134,30 +134,30 @@ returns-6 c =
       sym test5.before.same5.ensures ∙ test5.if5.false,
     ) (rw c.before.parse.ensures at c.of-numbers.ensures)
 
-pub of-name-spec : {M : Type 1} → statement M
-of-name-spec =
+pub of_name_spec : {M : Type 1} → statement M
+of_name_spec =
     tie.close
     (tie.spec
-    slice-aggregate-same
-    same-requires
-    scan-requires
+    slice_aggregate_same
+    same_requires
+    scan_requires
     returns
-    slice-aggregate-same-2
-    same-requires-2
-    feed-requires
-    returns-2
-    slice-aggregate-same-3
-    same-requires-3
-    write-requires
-    returns-3
-    slice-aggregate-same-4
-    same-requires-4
-    access-requires
-    returns-4
-    slice-aggregate-same-5
-    same-requires-5
-    set-requires
-    returns-5
-    parse-requires
-    of-numbers-requires
-    returns-6)
+    slice_aggregate_same_2
+    same_requires_2
+    feed_requires
+    returns_2
+    slice_aggregate_same_3
+    same_requires_3
+    write_requires
+    returns_3
+    slice_aggregate_same_4
+    same_requires_4
+    access_requires
+    returns_4
+    slice_aggregate_same_5
+    same_requires_5
+    set_requires
+    returns_5
+    parse_requires
+    of_numbers_requires
+    returns_6)

@@ -1,52 +1,52 @@
 -- `commands::parse` meets its contract.
 use borrow.Author.Tests.{le-leb, lt-leb}
 use native.Mathlib.Nat.{sub-zero}
-use Rattle.commands.specs.Commands.{commandOf, commandBytes, commandIn, bytesAfter}
+use Rattle.commands.specs.Commands.{command_of, command_bytes, command_in, bytes_after}
 use mathlib.Core.Path.{refl, sym, ◌∙◌}
 use native.Mathlib.Omega.{arith}
 use Rattle.commands.proofs.parse.Statement.{statement}
 use Rattle.commands.proofs.parse.Tie as tie
 
 returns : tie.Need-returns
-unfolding commandIn bytesAfter
+unfolding command_in bytes_after
 returns c = (rw (le-leb _ _ c.if1.true) refl, rw (le-leb _ _ c.if1.true) refl)
 
-sub-call : tie.Need-overflow-sub-call
-sub-call c = omega arith
+sub_call : tie.Need-overflow-sub-call
+sub_call c = omega arith
 
-part-call-start : tie.Need-slice-bounds-call-start
-part-call-start c = omega arith
+part_call_start : tie.Need-slice-bounds-call-start
+part_call_start c = omega arith
 
-part-call-end : tie.Need-slice-bounds-call-end
-part-call-end c = omega arith
+part_call_end : tie.Need-slice-bounds-call-end
+part_call_end c = omega arith
 
-word-requires : tie.Need-word-requires
-word-requires c κs = tt
+word_requires : tie.Need-word-requires
+word_requires c κs = tt
 
 sub_same : tie.Need-overflow-sub-same
 sub_same c = omega arith
 
-part-same-start : tie.Need-slice-bounds-same-start
-part-same-start c = omega arith
+part_same_start : tie.Need-slice-bounds-same-start
+part_same_start c = omega arith
 
-part-same-end : tie.Need-slice-bounds-same-end
-part-same-end c = omega arith
+part_same_end : tie.Need-slice-bounds-same-end
+part_same_end c = omega arith
 
-slice-aggregate-same : tie.Need-slice-aggregate-same
-slice-aggregate-same c = refl
+slice_aggregate_same : tie.Need-slice-aggregate-same
+slice_aggregate_same c = refl
 
-same-requires : tie.Need-same-requires
-same-requires c κs = tt
+same_requires : tie.Need-same-requires
+same_requires c κs = tt
 
-restart-requires : tie.Need-restart-requires
-restart-requires c κs = omega arith
+restart_requires : tie.Need-restart-requires
+restart_requires c κs = omega arith
 
 same_length : tie.Need-same-length
 same_length c = omega arith
 
-returns-2 : tie.Need-returns-2
-unfolding commandIn bytesAfter commandOf commandBytes
-returns-2 c =
+returns_2 : tie.Need-returns-2
+unfolding command_in bytes_after command_of command_bytes
+returns_2 c =
     let r = c.before.before in
     let s = r.before.before.before in
     let w = s.before.before.before in
@@ -57,30 +57,30 @@ returns-2 c =
       rw (h, ← one, is) (rw sub-zero at r.restart.ensures.1),
     )
 
-sub-same-2 : tie.Need-overflow-sub-same-2
-sub-same-2 c = omega arith
+sub_same_2 : tie.Need-overflow-sub-same-2
+sub_same_2 c = omega arith
 
-part-same-start-2 : tie.Need-slice-bounds-same-start-2
-part-same-start-2 c = omega arith
+part_same_start_2 : tie.Need-slice-bounds-same-start-2
+part_same_start_2 c = omega arith
 
-part-same-end-2 : tie.Need-slice-bounds-same-end-2
-part-same-end-2 c = omega arith
+part_same_end_2 : tie.Need-slice-bounds-same-end-2
+part_same_end_2 c = omega arith
 
-slice-aggregate-same-2 : tie.Need-slice-aggregate-same-2
-slice-aggregate-same-2 c = refl
+slice_aggregate_same_2 : tie.Need-slice-aggregate-same-2
+slice_aggregate_same_2 c = refl
 
-same-requires-2 : tie.Need-same-requires-2
-same-requires-2 c κs = tt
+same_requires_2 : tie.Need-same-requires-2
+same_requires_2 c κs = tt
 
-parse-requires : tie.Need-parse-requires
-parse-requires c κs = omega arith
+parse_requires : tie.Need-parse-requires
+parse_requires c κs = omega arith
 
-same-length-2 : tie.Need-same-length-2
-same-length-2 c = omega arith
+same_length_2 : tie.Need-same-length-2
+same_length_2 c = omega arith
 
-returns-3 : tie.Need-returns-3
-unfolding commandIn bytesAfter commandOf commandBytes
-returns-3 c =
+returns_3 : tie.Need-returns-3
+unfolding command_in bytes_after command_of command_bytes
+returns_3 c =
     let r = c.before.before in
     let t = r.before.before in
     let i = t.before.before.before.before in
@@ -94,21 +94,21 @@ returns-3 c =
       rw (h, ← one, isnot, is) (rw sub-zero at r.parse.ensures.1),
     )
 
-sub-of-name : tie.Need-overflow-sub-of-name
-sub-of-name c = omega arith
+sub_of_name : tie.Need-overflow-sub-of-name
+sub_of_name c = omega arith
 
-part-of-name-start : tie.Need-slice-bounds-of-name-start
-part-of-name-start c = omega arith
+part_of_name_start : tie.Need-slice-bounds-of-name-start
+part_of_name_start c = omega arith
 
-part-of-name-end : tie.Need-slice-bounds-of-name-end
-part-of-name-end c = omega arith
+part_of_name_end : tie.Need-slice-bounds-of-name-end
+part_of_name_end c = omega arith
 
-of-name-requires : tie.Need-of-name-requires
-of-name-requires c κs = omega arith
+of_name_requires : tie.Need-of-name-requires
+of_name_requires c κs = omega arith
 
-returns-4 : tie.Need-returns-4
-unfolding commandIn bytesAfter commandOf commandBytes
-returns-4 c =
+returns_4 : tie.Need-returns-4
+unfolding command_in bytes_after command_of command_bytes
+returns_4 c =
     let l = c.before.before in
     let i = l.before.before.before.before in
     let s = i.before in
@@ -121,33 +121,33 @@ returns-4 c =
       rw (h, ← one, isnot, noline) refl,
     )
 
-pub parse-spec : {M : Type 1} → statement M
-parse-spec =
+pub parse_spec : {M : Type 1} → statement M
+parse_spec =
     tie.close
     (tie.spec
     returns
-    sub-call
-    part-call-start
-    part-call-end
-    word-requires
+    sub_call
+    part_call_start
+    part_call_end
+    word_requires
     sub_same
-    part-same-start
-    part-same-end
-    slice-aggregate-same
-    same-requires
-    restart-requires
+    part_same_start
+    part_same_end
+    slice_aggregate_same
+    same_requires
+    restart_requires
     same_length
-    returns-2
-    sub-same-2
-    part-same-start-2
-    part-same-end-2
-    slice-aggregate-same-2
-    same-requires-2
-    parse-requires
-    same-length-2
-    returns-3
-    sub-of-name
-    part-of-name-start
-    part-of-name-end
-    of-name-requires
-    returns-4)
+    returns_2
+    sub_same_2
+    part_same_start_2
+    part_same_end_2
+    slice_aggregate_same_2
+    same_requires_2
+    parse_requires
+    same_length_2
+    returns_3
+    sub_of_name
+    part_of_name_start
+    part_of_name_end
+    of_name_requires
+    returns_4)

@@ -5,36 +5,36 @@ use native.Mathlib.Omega.{arith}
 use lib.ListN.{length}
 use borrow.Author.Rules.{rules}
 use Rattle.lines.specs.Lines.{start_of}
-use Rattle.lines.specs.LinesLaws.{start-most}
-use Rattle.console.specs.Lines.{lineSaved, lineStep}
-use Rattle.replies.specs.ReplyLaws.{reply-fits}
+use Rattle.lines.specs.LinesLaws.{start_most}
+use Rattle.console.specs.Lines.{line_saved, line_step}
+use Rattle.replies.specs.ReplyLaws.{reply_fits}
 use Rattle.console.specs.declared.session.SessionStep.{SessionStep}
 use Rattle.console.proofs.line_answer.Statement.{statement}
 use Rattle.console.proofs.line_answer.Tie as tie
 
-room-requires : tie.Need-room-requires
-room-requires c κs = search rules
+room_requires : tie.Need-room-requires
+room_requires c κs = search rules
 
-buffer-requires : tie.Need-buffer-requires
-buffer-requires c κs = search rules
+buffer_requires : tie.Need-buffer-requires
+buffer_requires c κs = search rules
 
-slice-aggregate-parse : tie.Need-slice-aggregate-parse
-slice-aggregate-parse c = search rules
+slice_aggregate_parse : tie.Need-slice-aggregate-parse
+slice_aggregate_parse c = search rules
 
-parse-requires : tie.Need-parse-requires
-parse-requires c κs = search rules
+parse_requires : tie.Need-parse-requires
+parse_requires c κs = search rules
 
-slice-aggregate-perform : tie.Need-slice-aggregate-perform
-slice-aggregate-perform c = search rules
+slice_aggregate_perform : tie.Need-slice-aggregate-perform
+slice_aggregate_perform c = search rules
 
-perform-requires : tie.Need-perform-requires
-perform-requires c κs = search rules
+perform_requires : tie.Need-perform-requires
+perform_requires c κs = search rules
 
-slice-aggregate-append-reply : tie.Need-slice-aggregate-append-reply
-slice-aggregate-append-reply c = search rules
+slice_aggregate_append_reply : tie.Need-slice-aggregate-append-reply
+slice_aggregate_append_reply c = search rules
 
-append-reply-requires : tie.Need-append-reply-requires
-append-reply-requires c κs = search rules
+append_reply_requires : tie.Need-append-reply-requires
+append_reply_requires c κs = search rules
 
 same_length : tie.Need-same-length
 same_length c = search rules
@@ -50,12 +50,12 @@ returns c =
     let line = start.args.line.now in
     let len = start.args.len in
     let session = start.args.session in
-    let step = lineStep session line len in
+    let step = line_step session line len in
     let parsed = rw empty.buffer.ensures.0 at q.parse.ensures in
     let result = rw (parsed.0, parsed.1) at p.perform.ensures in
     let reply = ap (λ (s : SessionStep). s.reply) result.0 in
     let sheet = ap (λ (s : SessionStep). s.session.sheet.sheet) result.0 in
-    let short : length (lineSaved session line len) ≤ 346 =
+    let short : length (line_saved session line len) ≤ 346 =
     rw (← result.1) (omega (arith, p.perform.auto.1.1.0, q.parse.auto.1.1.0, empty.buffer.ensures.1)) in
     let o = rw (room.room.ensures, reply, sheet, result.1) at a.append-reply.ensures.0 in (
       p.perform.ensures.2,
@@ -64,22 +64,22 @@ returns c =
         output = o;
         whole = λ size.
             o ∙
-            reply-fits step.reply (lineSaved session line len) step.session.sheet.sheet start.args.out.now
-            (start_of start.args.used) (rw (reply, sheet) at a.append-reply.ensures.1) short (start-most start.args.used) size;
+            reply_fits step.reply (line_saved session line len) step.session.sheet.sheet start.args.out.now
+            (start_of start.args.used) (rw (reply, sheet) at a.append-reply.ensures.1) short (start_most start.args.used) size;
       },
     )
 
-pub line-answer-spec : {M : Type 1} → statement M
-line-answer-spec =
+pub line_answer_spec : {M : Type 1} → statement M
+line_answer_spec =
     tie.close
     (tie.spec
-    room-requires
-    buffer-requires
-    slice-aggregate-parse
-    parse-requires
-    slice-aggregate-perform
-    perform-requires
-    slice-aggregate-append-reply
-    append-reply-requires
+    room_requires
+    buffer_requires
+    slice_aggregate_parse
+    parse_requires
+    slice_aggregate_perform
+    perform_requires
+    slice_aggregate_append_reply
+    append_reply_requires
     same_length
     returns)

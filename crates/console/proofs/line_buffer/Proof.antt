@@ -6,5 +6,5 @@ use Rattle.console.proofs.line_buffer.Tie as tie
 returns : tie.Need-returns
 returns c = refl
 
-pub line-buffer-spec : {M : Type 1} → statement M
-line-buffer-spec = tie.close (tie.spec returns)
+pub line_buffer_spec : {M : Type 1} → statement M
+line_buffer_spec = tie.close (tie.spec returns)

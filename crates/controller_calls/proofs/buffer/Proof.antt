@@ -6,5 +6,5 @@ use Rattle.controller_calls.proofs.buffer.Tie as tie
 returns : tie.Need-returns
 returns c = (refl, refl)
 
-pub buffer-spec : {M : Type 1} → statement M
-buffer-spec = tie.close (tie.spec returns)
+pub buffer_spec : {M : Type 1} → statement M
+buffer_spec = tie.close (tie.spec returns)

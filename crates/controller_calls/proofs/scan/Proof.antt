@@ -5,14 +5,14 @@ use Rattle.controller_calls.specs.Calls.{step_of}
 use Rattle.controller_calls.proofs.scan.Statement.{statement}
 use Rattle.controller_calls.proofs.scan.Tie as tie
 
-scan-requires : tie.Need-scan-requires
-scan-requires c κs = search rules
+scan_requires : tie.Need-scan-requires
+scan_requires c κs = search rules
 
-reply-of-requires : tie.Need-reply-of-requires
-reply-of-requires c κs = tt
+reply_of_requires : tie.Need-reply-of-requires
+reply_of_requires c κs = tt
 
 returns : tie.Need-returns
 returns c = rw c.reply-of.ensures (ap step_of c.before.before.scan.ensures.0)
 
-pub scan-spec : {M : Type 1} → statement M
-scan-spec = tie.close (tie.spec scan-requires reply-of-requires returns)
+pub scan_spec : {M : Type 1} → statement M
+scan_spec = tie.close (tie.spec scan_requires reply_of_requires returns)

@@ -1,33 +1,33 @@
 -- `drum_run::offer` meets its contract.
 use mathlib.Core.Path.{sym, ◌∙◌}
-use Rattle.drum_run.specs.Runs.{stopped, afterOffer}
+use Rattle.drum_run.specs.Runs.{stopped, after_offer}
 use borrow.Author.Rules.{rules}
 use Rattle.drum_run.proofs.offer.Statement.{statement}
 use Rattle.drum_run.proofs.offer.Tie as tie
 
-offer-requires : tie.Need-offer-requires
-offer-requires c κs = search rules
+offer_requires : tie.Need-offer-requires
+offer_requires c κs = search rules
 
-enum-known-offered : tie.Need-enum-known-offered
-enum-known-offered c = search rules
+enum_known_offered : tie.Need-enum-known-offered
+enum_known_offered c = search rules
 
-number-requires : tie.Need-number-requires
-number-requires c κs = search rules
+number_requires : tie.Need-number-requires
+number_requires c κs = search rules
 
-stop-requires : tie.Need-stop-requires
-stop-requires c κs = search rules
+stop_requires : tie.Need-stop-requires
+stop_requires c κs = search rules
 
-enum-known-offered-2 : tie.Need-enum-known-offered-2
-enum-known-offered-2 c = search rules
+enum_known_offered_2 : tie.Need-enum-known-offered-2
+enum_known_offered_2 c = search rules
 
-input-at-requires : tie.Need-input-at-requires
-input-at-requires c κs = search rules
+input_at_requires : tie.Need-input-at-requires
+input_at_requires c κs = search rules
 
-scan-requires : tie.Need-scan-requires
-scan-requires c κs = search rules
+scan_requires : tie.Need-scan-requires
+scan_requires c κs = search rules
 
 returns : tie.Need-returns
-unfolding stopped afterOffer
+unfolding stopped after_offer
 returns c =
     let number = c.before in
     let offered = number.before.before in
@@ -38,25 +38,25 @@ returns c =
       rw is start.requires.0,
     )
 
-returns-2 : tie.Need-returns-2
-unfolding afterOffer
-returns-2 c =
+returns_2 : tie.Need-returns-2
+unfolding after_offer
+returns_2 c =
     let input = c.before in
     let offered = input.before.before in
     let offer = offered.before.before in
     let is = rw input.input-at.ensures at c.scan.ensures.0 in
     (rw (sym offer.offer.ensures ∙ offered.offered2.given.1) is, c.scan.ensures.1)
 
-pub offer-spec : {M : Type 1} → statement M
-offer-spec =
+pub offer_spec : {M : Type 1} → statement M
+offer_spec =
     tie.close
     (tie.spec
-    offer-requires
-    enum-known-offered
-    number-requires
-    stop-requires
-    enum-known-offered-2
-    input-at-requires
-    scan-requires
+    offer_requires
+    enum_known_offered
+    number_requires
+    stop_requires
+    enum_known_offered_2
+    input_at_requires
+    scan_requires
     returns
-    returns-2)
+    returns_2)

@@ -8,5 +8,5 @@ returns : tie.Need-returns
 unfolding stopped
 returns c = refl
 
-pub stop-spec : {M : Type 1} → statement M
-stop-spec = tie.close (tie.spec returns)
+pub stop_spec : {M : Type 1} → statement M
+stop_spec = tie.close (tie.spec returns)

@@ -2,28 +2,28 @@
 use mathlib.Core.Path.{refl, sym, ap, ◌∙◌}
 use Rattle.drum.specs.declared.StepResult.{StepResult}
 use Rattle.drum_session.specs.DrumSessions.{stepped}
-use Rattle.drum_session.specs.DrumSessionLaws.{step-finite}
+use Rattle.drum_session.specs.DrumSessionLaws.{step_finite}
 use borrow.Author.Rules.{rules}
 use Rattle.drum_session.proofs.step_held.Statement.{statement}
 use Rattle.drum_session.proofs.step_held.Tie as tie
 
-step-requires : tie.Need-step-requires
-step-requires c κs = search rules
+step_requires : tie.Need-step-requires
+step_requires c κs = search rules
 
 enum_told : tie.Need-enum-told
 enum_told c = search rules
 
-bits-of-requires : tie.Need-bits-of-requires
-bits-of-requires c κs =
+bits_of_requires : tie.Need-bits-of-requires
+bits_of_requires c κs =
     let s = c.before.before.before in
     let a = s.before.before.args in
-    rw (← s.step.ensures, c.enum_told.given.1) at (step-finite a.held.drum a.output)
+    rw (← s.step.ensures, c.enum_told.given.1) at (step_finite a.held.drum a.output)
 
-enum-known-verdict : tie.Need-enum-known-verdict
-enum-known-verdict c = search rules
+enum_known_verdict : tie.Need-enum-known-verdict
+enum_known_verdict c = search rules
 
-number-requires : tie.Need-number-requires
-number-requires c κs = search rules
+number_requires : tie.Need-number-requires
+number_requires c κs = search rules
 
 returns : tie.Need-returns
 unfolding stepped
@@ -36,21 +36,21 @@ returns c =
       ← s.step.ensures,
     ) refl
 
-returns-2 : tie.Need-returns-2
+returns_2 : tie.Need-returns-2
 unfolding stepped
-returns-2 c =
+returns_2 c =
     let told = c.before.before in
     let s = told.before.before.before in
     rw (c.number.ensures, sym (ap (λ (r : StepResult). r.verdict) s.step.ensures) ∙ told.verdict.given.1) refl
 
-pub step-held-spec : {M : Type 1} → statement M
-step-held-spec =
+pub step_held_spec : {M : Type 1} → statement M
+step_held_spec =
     tie.close
     (tie.spec
-    step-requires
+    step_requires
     enum_told
-    bits-of-requires
-    enum-known-verdict
-    number-requires
+    bits_of_requires
+    enum_known_verdict
+    number_requires
     returns
-    returns-2)
+    returns_2)

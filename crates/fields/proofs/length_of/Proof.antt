@@ -8,13 +8,13 @@ returns : tie.Need-returns
 unfolding length_of
 returns c = simp (lt-ltb _ _ c.if1.true)
 
-returns-2 : tie.Need-returns-2
+returns_2 : tie.Need-returns-2
 unfolding length_of
-returns-2 c = simp (le-ltb _ _ c.before.if1.false, lt-ltb _ _ c.if2.true)
+returns_2 c = simp (le-ltb _ _ c.before.if1.false, lt-ltb _ _ c.if2.true)
 
-returns-3 : tie.Need-returns-3
+returns_3 : tie.Need-returns-3
 unfolding length_of
-returns-3 c = simp (le-ltb _ _ c.before.if1.false, le-ltb _ _ c.if2.false)
+returns_3 c = simp (le-ltb _ _ c.before.if1.false, le-ltb _ _ c.if2.false)
 
-pub length-of-spec : {M : Type 1} → statement M
-length-of-spec = tie.close (tie.spec returns returns-2 returns-3)
+pub length_of_spec : {M : Type 1} → statement M
+length_of_spec = tie.close (tie.spec returns returns_2 returns_3)

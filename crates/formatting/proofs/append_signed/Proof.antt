@@ -7,20 +7,20 @@ use Rattle.formatting.specs.Laws.{then}
 use Rattle.formatting.proofs.append_signed.Statement.{statement}
 use Rattle.formatting.proofs.append_signed.Tie as tie
 
-magnitude-requires : tie.Need-magnitude-requires
-magnitude-requires c κs = tt
+magnitude_requires : tie.Need-magnitude-requires
+magnitude_requires c κs = tt
 
-negative-requires : tie.Need-negative-requires
-negative-requires c κs = tt
+negative_requires : tie.Need-negative-requires
+negative_requires c κs = tt
 
-append-byte-requires : tie.Need-append-byte-requires
-append-byte-requires c κs = tt
+append_byte_requires : tie.Need-append-byte-requires
+append_byte_requires c κs = tt
 
-append-decimal-requires : tie.Need-append-decimal-requires
-append-decimal-requires c κs = tt
+append_decimal_requires : tie.Need-append-decimal-requires
+append_decimal_requires c κs = tt
 
-append-decimal-requires-2 : tie.Need-append-decimal-requires-2
-append-decimal-requires-2 c κs = tt
+append_decimal_requires_2 : tie.Need-append-decimal-requires-2
+append_decimal_requires_2 c κs = tt
 
 same_length : tie.Need-same-length
 same_length c = c.before.before.append-decimal.auto.0 ∙ c.before.before.before.before.before.before.append-byte.auto.0
@@ -36,12 +36,12 @@ returns c =
     let sign = rw (to_z-of_z s.ranges.number) at (sym t.before.negative.ensures ∙ t.if1.true) in
     simp sign (then (buffer s.args.out.now s.args.used) _ _ b.append-byte.ensures size)
 
-same-length-2 : tie.Need-same-length-2
-same-length-2 c = c.before.before.append-decimal2.auto.0
+same_length_2 : tie.Need-same-length-2
+same_length_2 c = c.before.before.append-decimal2.auto.0
 
-returns-2 : tie.Need-returns-2
+returns_2 : tie.Need-returns-2
 unfolding decimal
-returns-2 c =
+returns_2 c =
     let d = c.before.before in
     let t = d.before.before in
     let s = t.before.before.before.before in
@@ -49,16 +49,16 @@ returns-2 c =
     let sign = rw (to_z-of_z s.ranges.number) at (sym t.before.negative.ensures ∙ t.if1.false) in
     simp sign size
 
-pub append-signed-spec : {M : Type 1} → statement M
-append-signed-spec =
+pub append_signed_spec : {M : Type 1} → statement M
+append_signed_spec =
     tie.close
     (tie.spec
-    magnitude-requires
-    negative-requires
-    append-byte-requires
-    append-decimal-requires
+    magnitude_requires
+    negative_requires
+    append_byte_requires
+    append_decimal_requires
     same_length
     returns
-    append-decimal-requires-2
-    same-length-2
-    returns-2)
+    append_decimal_requires_2
+    same_length_2
+    returns_2)

@@ -10,11 +10,11 @@ use Rattle.handheld.proofs.kept.Tie as tie
 returns : tie.Need-returns
 returns c = search rules
 
-returns-2 : tie.Need-returns-2
-returns-2 c =
+returns_2 : tie.Need-returns-2
+returns_2 c =
     let s = c.before in
     let line = s.args.line.now in
     (omega arith, take_all (length line) line (omega arith) ∙ sym (take_all s.args.len line (omega arith)))
 
-pub kept-spec : {M : Type 1} → statement M
-kept-spec = tie.close (tie.spec returns returns-2)
+pub kept_spec : {M : Type 1} → statement M
+kept_spec = tie.close (tie.spec returns returns_2)

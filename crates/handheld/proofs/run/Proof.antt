@@ -6,55 +6,55 @@ use Rattle.controller.specs.Valid.{Valid}
 use Rattle.handheld.proofs.run.Statement.{statement}
 use Rattle.handheld.proofs.run.Tie as tie
 
-abbrev invariant-loop : tie.invariant-loop
-invariant-loop input₀ line₀ out₀ session₀ place₀ turns₀ input line out session place turns = (length input ≡ length input₀) ×
+abbrev invariant_loop : tie.invariant_loop
+invariant_loop input₀ line₀ out₀ session₀ place₀ turns₀ input line out session place turns = (length input ≡ length input₀) ×
     (length line ≡ length line₀) × (length out ≡ length out₀) × Valid session.controller
 
-abbrev decreases-loop : tie.decreases-loop
-decreases-loop input₀ line₀ out₀ session₀ place₀ turns₀ input line out session place turns = turns
+abbrev decreases_loop : tie.decreases_loop
+decreases_loop input₀ line₀ out₀ session₀ place₀ turns₀ input line out session place turns = turns
 
-first-requires : tie.Need-first-requires invariant-loop decreases-loop
-first-requires c κs = tt
+first_requires : tie.Need-first-requires invariant_loop decreases_loop
+first_requires c κs = tt
 
-start-requires : tie.Need-start-requires invariant-loop decreases-loop
-start-requires c κs = tt
+start_requires : tie.Need-start-requires invariant_loop decreases_loop
+start_requires c κs = tt
 
-loop-holds : tie.Need-loop-init invariant-loop decreases-loop
-loop-holds c = (refl, refl, refl, c.before.first.ensures.1)
+loop_holds : tie.Need-loop-init invariant_loop decreases_loop
+loop_holds c = (refl, refl, refl, c.before.first.ensures.1)
 
-next-line-requires : tie.Need-next-line-requires invariant-loop decreases-loop
-next-line-requires c κs = tt
+next_line_requires : tie.Need-next-line-requires invariant_loop decreases_loop
+next_line_requires c κs = tt
 
-same_length : tie.Need-same-length invariant-loop decreases-loop
+same_length : tie.Need-same-length invariant_loop decreases_loop
 same_length c = c.before.before.before.before.before.before.next-line.auto.0 ∙
     c.before.before.before.before.before.before.before.before.before.before.before.loop.invariant.0
 
-same-length-2 : tie.Need-same-length-2 invariant-loop decreases-loop
-same-length-2 c = c.before.before.before.before.before.before.next-line.auto.1.0 ∙
+same_length_2 : tie.Need-same-length-2 invariant_loop decreases_loop
+same_length_2 c = c.before.before.before.before.before.before.next-line.auto.1.0 ∙
     c.before.before.before.before.before.before.before.before.before.before.before.loop.invariant.1
 
-same-length-3 : tie.Need-same-length-3 invariant-loop decreases-loop
-same-length-3 c = c.before.before.before.before.before.before.before.before.before.before.before.loop.invariant.2
+same_length_3 : tie.Need-same-length-3 invariant_loop decreases_loop
+same_length_3 c = c.before.before.before.before.before.before.before.before.before.before.before.loop.invariant.2
 
-returns : tie.Need-returns invariant-loop decreases-loop
+returns : tie.Need-returns invariant_loop decreases_loop
 returns c = tt
 
-line-answer-requires : tie.Need-line-answer-requires invariant-loop decreases-loop
-line-answer-requires c κs = let l =
+line_answer_requires : tie.Need-line-answer-requires invariant_loop decreases_loop
+line_answer_requires c κs = let l =
     c.before.before.before.before.before.before.before.before.before.before.before.before.before in l.loop.inv.3
 
-sub-turns : tie.Need-overflow-sub-turns invariant-loop decreases-loop
-sub-turns c =
+sub_turns : tie.Need-overflow-sub-turns invariant_loop decreases_loop
+sub_turns c =
     let n = c.before.before.before.before.before.before.before.before.before.before.before.before in
     omega (arith, n.before.before.before.before.loop-test)
 
-loop-less : tie.Need-loop-smaller invariant-loop decreases-loop
-loop-less c =
+loop_less : tie.Need-loop-smaller invariant_loop decreases_loop
+loop_less c =
     let n = c.before.before.before.before.before.before.before.before.before.before.before.before in
     omega (arith, n.before.before.before.before.loop-test)
 
-loop-again : tie.Need-loop-preserved invariant-loop decreases-loop
-loop-again c =
+loop_again : tie.Need-loop-preserved invariant_loop decreases_loop
+loop_again c =
     let a = c.before.before.before in
     let n = c.before.before.before.before.before.before.before.before.before.before.before.before in
     let l = n.before.before.before.before.before in (
@@ -64,37 +64,37 @@ loop-again c =
       a.line-answer.ensures.0,
     )
 
-same-length-4 : tie.Need-same-length-4 invariant-loop decreases-loop
-same-length-4 c = c.before.loop.invariant.0
+same_length_4 : tie.Need-same-length-4 invariant_loop decreases_loop
+same_length_4 c = c.before.loop.invariant.0
 
-same-length-5 : tie.Need-same-length-5 invariant-loop decreases-loop
-same-length-5 c = c.before.loop.invariant.1
+same_length_5 : tie.Need-same-length-5 invariant_loop decreases_loop
+same_length_5 c = c.before.loop.invariant.1
 
-same-length-6 : tie.Need-same-length-6 invariant-loop decreases-loop
-same-length-6 c = c.before.loop.invariant.2
+same_length_6 : tie.Need-same-length-6 invariant_loop decreases_loop
+same_length_6 c = c.before.loop.invariant.2
 
-returns-2 : tie.Need-returns-2 invariant-loop decreases-loop
-returns-2 c = tt
+returns_2 : tie.Need-returns-2 invariant_loop decreases_loop
+returns_2 c = tt
 
 pub run_spec : {M : Type 1} → statement M
 run_spec =
     tie.close
     (tie.spec
-    invariant-loop
-    decreases-loop
-    first-requires
-    start-requires
-    loop-holds
-    next-line-requires
+    invariant_loop
+    decreases_loop
+    first_requires
+    start_requires
+    loop_holds
+    next_line_requires
     same_length
-    same-length-2
-    same-length-3
+    same_length_2
+    same_length_3
     returns
-    line-answer-requires
-    sub-turns
-    loop-less
-    loop-again
-    same-length-4
-    same-length-5
-    same-length-6
-    returns-2)
+    line_answer_requires
+    sub_turns
+    loop_less
+    loop_again
+    same_length_4
+    same_length_5
+    same_length_6
+    returns_2)

@@ -6,8 +6,8 @@ use Rattle.integers.proofs.choose.Tie as tie
 returns : tie.Need-returns
 returns c = simp (to_z-of_z c.before.ranges.x, c.if1.true)
 
-returns-2 : tie.Need-returns-2
-returns-2 c = simp (to_z-of_z c.before.ranges.y, c.if1.false)
+returns_2 : tie.Need-returns-2
+returns_2 c = simp (to_z-of_z c.before.ranges.y, c.if1.false)
 
 pub choose_spec : {M : Type 1} → statement M
-choose_spec = tie.close (tie.spec returns returns-2)
+choose_spec = tie.close (tie.spec returns returns_2)

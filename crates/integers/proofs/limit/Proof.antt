@@ -8,19 +8,19 @@ use Rattle.integers.specs.Machine.{back}
 use Rattle.integers.proofs.limit.Statement.{statement}
 use Rattle.integers.proofs.limit.Tie as tie
 
-at-least-requires : tie.Need-at-least-requires
-at-least-requires c κs = search rules
+at_least_requires : tie.Need-at-least-requires
+at_least_requires c κs = search rules
 
-at-most-requires : tie.Need-at-most-requires
-at-most-requires c κs = search rules
+at_most_requires : tie.Need-at-most-requires
+at_most_requires c κs = search rules
 
 returns : tie.Need-returns
 unfolding limited
 returns c =
     let f = c.before.before.ranges in
-    back w64 _ c.at-most.type-inv ∙ c.at-most.ensures ∙
+    back w64 _ c.at_most_lem.type-inv ∙ c.at_most_lem.ensures ∙
     rw (back w64 c.before.at_least_lem.result c.before.at_least_lem.type-inv, c.before.at_least_lem.ensures)
     (simp (to_z-of_z, f.low, f.high, f.value))
 
-pub limit-spec : {M : Type 1} → statement M
-limit-spec = tie.close (tie.spec at-least-requires at-most-requires returns)
+pub limit_spec : {M : Type 1} → statement M
+limit_spec = tie.close (tie.spec at_least_requires at_most_requires returns)

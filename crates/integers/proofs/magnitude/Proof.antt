@@ -17,9 +17,9 @@ use Rattle.integers.proofs.magnitude.Tie as tie
 
 -- what the code makes of a number below zero: the next number, and that turned about
 record Turned (x : ℤ) : Type 0 where
-  next-held : mag (x +ℤ pos 1) ≤ mag x
+  next_held : mag (x +ℤ pos 1) ≤ mag x
   held : mag (pos 0 -ℤ (x +ℤ pos 1)) ≤ mag x
-  not-below : below (pos 0 -ℤ (x +ℤ pos 1)) ≡ 0
+  not_below : below (pos 0 -ℤ (x +ℤ pos 1)) ≡ 0
   size : nat_abs (pos 0 -ℤ (x +ℤ pos 1)) + 1 ≡ nat_abs x
   most : nat_abs x ≤ suc (mag x)
 
@@ -43,33 +43,33 @@ module _ (c : tie.Then1) where
   next_fits : SFits w64 (c.before.args.x +ℤ pos 1)
   next_fits = omega (arith, taken, c.before.ranges.x)
 
-  turned-fits : SFits w64 (pos 0 -ℤ (c.before.args.x +ℤ pos 1))
-  turned-fits = omega (arith, taken, c.before.ranges.x)
+  turned_fits : SFits w64 (pos 0 -ℤ (c.before.args.x +ℤ pos 1))
+  turned_fits = omega (arith, taken, c.before.ranges.x)
 
-add-result : tie.Need-overflow-add-result
-add-result c = simp (to_z-of_z c.before.ranges.x) (next_fits c)
+add_result : tie.Need-overflow-add-result
+add_result c = simp (to_z-of_z c.before.ranges.x) (next_fits c)
 
-sub-result : tie.Need-overflow-sub-result
-sub-result c = simp (to_z-of_z, c.before.ranges.x, next_fits c) (turned-fits c)
+sub_result : tie.Need-overflow-sub-result
+sub_result c = simp (to_z-of_z, c.before.ranges.x, next_fits c) (turned_fits c)
 
-cast-result : tie.Need-overflow-cast-result
-cast-result c =
-    simp (to_z-of_z, c.before.ranges.x, next_fits c, turned-fits c) (omega (arith, integers, taken c, c.before.ranges.x))
+cast_result : tie.Need-overflow-cast-result
+cast_result c =
+    simp (to_z-of_z, c.before.ranges.x, next_fits c, turned_fits c) (omega (arith, integers, taken c, c.before.ranges.x))
 
-add-result-2 : tie.Need-overflow-add-result-2
-add-result-2 c =
-    simp (to_z-of_z, c.before.ranges.x, next_fits c, turned-fits c) (omega (arith, taken c, c.before.ranges.x))
+add_result_2 : tie.Need-overflow-add-result-2
+add_result_2 c =
+    simp (to_z-of_z, c.before.ranges.x, next_fits c, turned_fits c) (omega (arith, taken c, c.before.ranges.x))
 
-cast-result-2 : tie.Need-overflow-cast-result-2
-cast-result-2 c = omega (arith, integers, reads c.before.ranges.x, known c.before.args.x)
+cast_result_2 : tie.Need-overflow-cast-result-2
+cast_result_2 c = omega (arith, integers, reads c.before.ranges.x, known c.before.args.x)
 
 returns : tie.Need-returns
-returns c = simp (to_z-of_z, c.before.ranges.x, next_fits c, turned-fits c) (taken c).size
+returns c = simp (to_z-of_z, c.before.ranges.x, next_fits c, turned_fits c) (taken c).size
 
-returns-2 : tie.Need-returns-2
-returns-2 c = search rules
+returns_2 : tie.Need-returns-2
+returns_2 c = search rules
 
-pub magnitude-spec : {M : Type 1} → statement M
-magnitude-spec =
+pub magnitude_spec : {M : Type 1} → statement M
+magnitude_spec =
     tie.close
-    (tie.spec add-result sub-result cast-result add-result-2 cast-result-2 returns returns-2)
+    (tie.spec add_result sub_result cast_result add_result_2 cast_result_2 returns returns_2)

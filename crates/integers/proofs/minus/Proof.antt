@@ -21,11 +21,11 @@ fits c =
       c.requires.1.small,
     )
 
-sub-result : tie.Need-overflow-sub-result
-sub-result c = simp (to_z-of_z c.ranges.a, to_z-of_z c.ranges.b) (fits c)
+sub_result : tie.Need-overflow-sub-result
+sub_result c = simp (to_z-of_z c.ranges.a, to_z-of_z c.ranges.b) (fits c)
 
 returns : tie.Need-returns
 returns c = simp (to_z-of_z c.ranges.a, to_z-of_z c.ranges.b) (to_z-of_z (fits c))
 
-pub minus-spec : {M : Type 1} → statement M
-minus-spec = tie.close (tie.spec sub-result returns)
+pub minus_spec : {M : Type 1} → statement M
+minus_spec = tie.close (tie.spec sub_result returns)

@@ -8,11 +8,11 @@ use Rattle.integers.proofs.narrow.Tie as tie
 narrowed : (c : tie.Start) → SFits w32 c.args.x
 narrowed c = record { sfits = c.requires }
 
-cast-result : tie.Need-overflow-cast-result
-cast-result c = simp (to_z-of_z c.ranges.x) (narrowed c)
+cast_result : tie.Need-overflow-cast-result
+cast_result c = simp (to_z-of_z c.ranges.x) (narrowed c)
 
 returns : tie.Need-returns
 returns c = simp (to_z-of_z c.ranges.x) (simp (to_z-of_z (narrowed c)))
 
-pub narrow-spec : {M : Type 1} → statement M
-narrow-spec = tie.close (tie.spec cast-result returns)
+pub narrow_spec : {M : Type 1} → statement M
+narrow_spec = tie.close (tie.spec cast_result returns)

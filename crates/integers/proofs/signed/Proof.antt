@@ -5,30 +5,30 @@ use mir.Facts.{to_z-of_z}
 use mir.Syntax.{w64}
 use mir.Val.{SFits}
 use borrow.Author.Rules.{rules}
-use Rattle.integers.specs.Machine.{cast-back}
+use Rattle.integers.specs.Machine.{cast_back}
 use Rattle.integers.specs.Operations.{difference}
 use Rattle.integers.proofs.signed.Statement.{statement}
 use Rattle.integers.proofs.signed.Tie as tie
 
-cast-result : tie.Need-overflow-cast-result
-cast-result c = search rules
+cast_result : tie.Need-overflow-cast-result
+cast_result c = search rules
 
-minus-fits : (c : tie.Start) → SFits w64 (pos 0 -ℤ pos c.args.m)
-minus-fits c = omega (arith, difference (pos 0) (pos c.args.m), c.requires)
+minus_fits : (c : tie.Start) → SFits w64 (pos 0 -ℤ pos c.args.m)
+minus_fits c = omega (arith, difference (pos 0) (pos c.args.m), c.requires)
 
-sub-result : tie.Need-overflow-sub-result
-sub-result c = simp (cast-back w64 c.before.args.m c.before.requires) (minus-fits c.before)
+sub_result : tie.Need-overflow-sub-result
+sub_result c = simp (cast_back w64 c.before.args.m c.before.requires) (minus_fits c.before)
 
-cast-result-2 : tie.Need-overflow-cast-result-2
-cast-result-2 c = search rules
+cast_result_2 : tie.Need-overflow-cast-result-2
+cast_result_2 c = search rules
 
 returns : tie.Need-returns
 returns c =
-    simp (c.if1.true, cast-back w64 c.before.args.m c.before.requires, to_z-of_z (minus-fits c.before))
+    simp (c.if1.true, cast_back w64 c.before.args.m c.before.requires, to_z-of_z (minus_fits c.before))
     (+ℤ_idl _)
 
-returns-2 : tie.Need-returns-2
-returns-2 c = simp (c.if1.false, cast-back w64 c.before.args.m c.before.requires)
+returns_2 : tie.Need-returns-2
+returns_2 c = simp (c.if1.false, cast_back w64 c.before.args.m c.before.requires)
 
-pub signed-spec : {M : Type 1} → statement M
-signed-spec = tie.close (tie.spec cast-result sub-result cast-result-2 returns returns-2)
+pub signed_spec : {M : Type 1} → statement M
+signed_spec = tie.close (tie.spec cast_result sub_result cast_result_2 returns returns_2)

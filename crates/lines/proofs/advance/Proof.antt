@@ -3,37 +3,37 @@ use mathlib.Core.Path.{ap, ◌∙◌}
 use Prim.Native.Nat.{min}
 use native.Mathlib.Omega.{arith}
 use borrow.Author.Rules.{rules}
-use Rattle.lines.specs.ReadingLaws.{advance-fits, advanced}
+use Rattle.lines.specs.ReadingLaws.{advance_fits, advanced}
 use Rattle.lines.proofs.advance.Statement.{statement}
 use Rattle.lines.proofs.advance.Tie as tie
 
-least-requires : tie.Need-least-requires
-least-requires c κs = search rules
+least_requires : tie.Need-least-requires
+least_requires c κs = search rules
 
-least-requires-2 : tie.Need-least-requires-2
-least-requires-2 c κs = search rules
+least_requires_2 : tie.Need-least-requires-2
+least_requires_2 c κs = search rules
 
-sub-append-line : tie.Need-overflow-sub-append-line
-sub-append-line c = search rules
+sub_append_line : tie.Need-overflow-sub-append-line
+sub_append_line c = search rules
 
-part-append-line-start : tie.Need-slice-bounds-append-line-start
-part-append-line-start c = search rules
+part_append_line_start : tie.Need-slice-bounds-append-line-start
+part_append_line_start c = search rules
 
-part-append-line-end : tie.Need-slice-bounds-append-line-end
-part-append-line-end c = search rules
+part_append_line_end : tie.Need-slice-bounds-append-line-end
+part_append_line_end c = search rules
 
-append-line-requires : tie.Need-append-line-requires
-append-line-requires c κs = search rules
+append_line_requires : tie.Need-append-line-requires
+append_line_requires c κs = search rules
 
-add-t7 : tie.Need-overflow-add-t7
-add-t7 c =
+add_t7 : tie.Need-overflow-add-t7
+add_t7 c =
     let s = c.before.before.before.before.before.before.before.before.before.before in
     let a = c.before.before.before.append-line in
     let first = c.before.before.before.before.before.before.least2 in
     let last = c.before.before.before.before.before.before.before.least in
     omega (
       arith,
-      advance-fits
+      advance_fits
           s.args.input.now s.args.line.now a.new.1.0 s.args.place first.result last.result a.result
           (first.ensures ∙ ap (min s.args.place.at) last.ensures) last.ensures a.ensures,
     )
@@ -51,16 +51,16 @@ returns c =
     s.args.input.now s.args.line.now a.new.1.0 s.args.place first.result last.result a.result
     (first.ensures ∙ ap (min s.args.place.at) last.ensures) last.ensures a.ensures
 
-pub advance-spec : {M : Type 1} → statement M
-advance-spec =
+pub advance_spec : {M : Type 1} → statement M
+advance_spec =
     tie.close
     (tie.spec
-    least-requires
-    least-requires-2
-    sub-append-line
-    part-append-line-start
-    part-append-line-end
-    append-line-requires
-    add-t7
+    least_requires
+    least_requires_2
+    sub_append_line
+    part_append_line_start
+    part_append_line_end
+    append_line_requires
+    add_t7
     same_length
     returns)

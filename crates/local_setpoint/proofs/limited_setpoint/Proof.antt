@@ -6,14 +6,14 @@ use Rattle.integers.specs.Machine.{back}
 use Rattle.local_setpoint.proofs.limited_setpoint.Statement.{statement}
 use Rattle.local_setpoint.proofs.limited_setpoint.Tie as tie
 
-get-requires : tie.Need-get-requires
-get-requires c κs = search rules
+get_requires : tie.Need-get-requires
+get_requires c κs = search rules
 
-get-requires-2 : tie.Need-get-requires-2
-get-requires-2 c κs = search rules
+get_requires_2 : tie.Need-get-requires-2
+get_requires_2 c κs = search rules
 
-limit-requires : tie.Need-limit-requires
-limit-requires c κs = search rules
+limit_requires : tie.Need-limit-requires
+limit_requires c κs = search rules
 
 returns : tie.Need-returns
 returns c =
@@ -27,5 +27,5 @@ returns c =
     (simp get2.ensures
     (simp get.ensures)))
 
-pub limited-setpoint-spec : {M : Type 1} → statement M
-limited-setpoint-spec = tie.close (tie.spec get-requires get-requires-2 limit-requires returns)
+pub limited_setpoint_spec : {M : Type 1} → statement M
+limited_setpoint_spec = tie.close (tie.spec get_requires get_requires_2 limit_requires returns)

@@ -9,23 +9,23 @@ use Rattle.local_setpoint.proofs.moved.Tie as tie
 enum_told : tie.Need-enum-told
 enum_told c = search rules
 
-plus-requires : tie.Need-plus-requires
-plus-requires c κs = search rules
+plus_requires : tie.Need-plus-requires
+plus_requires c κs = search rules
 
-limit-requires : tie.Need-limit-requires
-limit-requires c κs = search rules
+limit_requires : tie.Need-limit-requires
+limit_requires c κs = search rules
 
-enum-told-2 : tie.Need-enum-told-2
-enum-told-2 c = search rules
+enum_told_2 : tie.Need-enum-told-2
+enum_told_2 c = search rules
 
-minus-requires : tie.Need-minus-requires
-minus-requires c κs = search rules
+minus_requires : tie.Need-minus-requires
+minus_requires c κs = search rules
 
-limit-requires-2 : tie.Need-limit-requires-2
-limit-requires-2 c κs = search rules
+limit_requires_2 : tie.Need-limit-requires-2
+limit_requires_2 c κs = search rules
 
-enum-told-3 : tie.Need-enum-told-3
-enum-told-3 c = search rules
+enum_told_3 : tie.Need-enum-told-3
+enum_told_3 c = search rules
 
 returns : tie.Need-returns
 returns c =
@@ -36,8 +36,8 @@ returns c =
     (simp (limit.ensures, back w64 plus.result plus.type-inv, to_z-of_z start.ranges.low, to_z-of_z start.ranges.high)
     (simp (plus.ensures, to_z-of_z start.ranges.by, to_z-of_z start.ranges.v)))
 
-returns-2 : tie.Need-returns-2
-returns-2 c =
+returns_2 : tie.Need-returns-2
+returns_2 c =
     let limit2 = c.limit2 in
     let minus = c.before.minus in
     let start = c.before.before.before.before in
@@ -45,20 +45,20 @@ returns-2 c =
     (simp (limit2.ensures, back w64 minus.result minus.type-inv, to_z-of_z start.ranges.low, to_z-of_z start.ranges.high)
     (simp (minus.ensures, to_z-of_z start.ranges.by, to_z-of_z start.ranges.v)))
 
-returns-3 : tie.Need-returns-3
-returns-3 c = simp (to_z-of_z c.before.before.ranges.v, c.enum-told3.given.1)
+returns_3 : tie.Need-returns-3
+returns_3 c = simp (to_z-of_z c.before.before.ranges.v, c.enum-told3.given.1)
 
-pub moved-spec : {M : Type 1} → statement M
-moved-spec =
+pub moved_spec : {M : Type 1} → statement M
+moved_spec =
     tie.close
     (tie.spec
     enum_told
-    plus-requires
-    limit-requires
-    enum-told-2
-    minus-requires
-    limit-requires-2
-    enum-told-3
+    plus_requires
+    limit_requires
+    enum_told_2
+    minus_requires
+    limit_requires_2
+    enum_told_3
     returns
-    returns-2
-    returns-3)
+    returns_2
+    returns_3)

@@ -3,36 +3,36 @@ use mir.Facts.{to_z-of_z}
 use mir.Syntax.{w64}
 use borrow.Author.Rules.{rules}
 use Rattle.integers.specs.Machine.{back}
-use Rattle.local_setpoint.specs.LocalSetpoint.{movedByHand}
+use Rattle.local_setpoint.specs.LocalSetpoint.{moved_by_hand}
 use Rattle.local_setpoint.proofs.moved_by_hand.Statement.{statement}
 use Rattle.local_setpoint.proofs.moved_by_hand.Tie as tie
 
-buttons-of-requires : tie.Need-buttons-of-requires
-buttons-of-requires c κs = search rules
+buttons_of_requires : tie.Need-buttons-of-requires
+buttons_of_requires c κs = search rules
 
-adjustment-of-requires : tie.Need-adjustment-of-requires
-adjustment-of-requires c κs = search rules
+adjustment_of_requires : tie.Need-adjustment-of-requires
+adjustment_of_requires c κs = search rules
 
-get-requires : tie.Need-get-requires
-get-requires c κs = search rules
+get_requires : tie.Need-get-requires
+get_requires c κs = search rules
 
-get-requires-2 : tie.Need-get-requires-2
-get-requires-2 c κs = search rules
+get_requires_2 : tie.Need-get-requires-2
+get_requires_2 c κs = search rules
 
-get-requires-3 : tie.Need-get-requires-3
-get-requires-3 c κs = search rules
+get_requires_3 : tie.Need-get-requires-3
+get_requires_3 c κs = search rules
 
-moved-requires : tie.Need-moved-requires
-moved-requires c κs =
+moved_requires : tie.Need-moved-requires
+moved_requires c κs =
     let get = c.before.before.get in
     let start = c.before.before.before.before.before in
     simp (back w64 get.result get.type-inv, to_z-of_z start.ranges.by) (start.requires.0, rw get.ensures start.requires.1)
 
-choose-requires : tie.Need-choose-requires
-choose-requires c κs = search rules
+choose_requires : tie.Need-choose-requires
+choose_requires c κs = search rules
 
 returns : tie.Need-returns
-unfolding movedByHand
+unfolding moved_by_hand
 returns c =
     let choose = c.choose in
     let b1 = c.before.before in
@@ -53,15 +53,15 @@ returns c =
     (simp adjustment-of.ensures
     (simp buttons-of.ensures)))))
 
-pub moved-by-hand-spec : {M : Type 1} → statement M
-moved-by-hand-spec =
+pub moved_by_hand_spec : {M : Type 1} → statement M
+moved_by_hand_spec =
     tie.close
     (tie.spec
-    buttons-of-requires
-    adjustment-of-requires
-    get-requires
-    get-requires-2
-    get-requires-3
-    moved-requires
-    choose-requires
+    buttons_of_requires
+    adjustment_of_requires
+    get_requires
+    get_requires_2
+    get_requires_3
+    moved_requires
+    choose_requires
     returns)

@@ -5,16 +5,16 @@ use Rattle.modes.specs.Modes.{counted}
 use Rattle.modes.proofs.counted.Statement.{statement}
 use Rattle.modes.proofs.counted.Tie as tie
 
-add-result : tie.Need-overflow-add-result
-add-result c = search rules
+add_result : tie.Need-overflow-add-result
+add_result c = search rules
 
 returns : tie.Need-returns
 unfolding counted
 returns c = omega arith
 
-returns-2 : tie.Need-returns-2
+returns_2 : tie.Need-returns-2
 unfolding counted
-returns-2 c = omega arith
+returns_2 c = omega arith
 
 pub counted_spec : {M : Type 1} → statement M
-counted_spec = tie.close (tie.spec add-result returns returns-2)
+counted_spec = tie.close (tie.spec add_result returns returns_2)

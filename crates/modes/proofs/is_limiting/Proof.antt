@@ -4,16 +4,16 @@ use mathlib.Core.Bool.{true, false}
 use mathlib.Core.List.{[], ◌∷◌}
 use denote.Enum.Declared.{tag_of}
 use Rattle.modes.specs.ModeLaws.{arm_is}
-use Rattle.modes.specs.Modes.{isLimiting}
+use Rattle.modes.specs.Modes.{is_limiting}
 use Rattle.modes.specs.contracts.Mode.{the_type}
 use Rattle.modes.proofs.is_limiting.Statement.{statement}
 use Rattle.modes.proofs.is_limiting.Tie as tie
 
 returns : tie.Need-returns
-returns c = arm_is isLimiting false (tag_of the_type) (0 ∷ 1 ∷ []) refl c.before.args.mode c.match.keys1
+returns c = arm_is is_limiting false (tag_of the_type) (0 ∷ 1 ∷ []) refl c.before.args.mode c.match.keys1
 
-returns-2 : tie.Need-returns-2
-returns-2 c = arm_is isLimiting true (tag_of the_type) (2 ∷ 3 ∷ 4 ∷ 5 ∷ 6 ∷ 7 ∷ []) refl c.before.args.mode c.match.keys2
+returns_2 : tie.Need-returns-2
+returns_2 c = arm_is is_limiting true (tag_of the_type) (2 ∷ 3 ∷ 4 ∷ 5 ∷ 6 ∷ 7 ∷ []) refl c.before.args.mode c.match.keys2
 
-pub is-limiting-spec : {M : Type 1} → statement M
-is-limiting-spec = tie.close (tie.spec returns returns-2)
+pub is_limiting_spec : {M : Type 1} → statement M
+is_limiting_spec = tie.close (tie.spec returns returns_2)

@@ -6,5 +6,5 @@ use Rattle.modes.proofs.is_open_cause.Tie as tie
 returns : tie.Need-returns
 returns c = refl
 
-pub is-open-cause-spec : {M : Type 1} → statement M
-is-open-cause-spec = tie.close (tie.spec returns)
+pub is_open_cause_spec : {M : Type 1} → statement M
+is_open_cause_spec = tie.close (tie.spec returns)

@@ -4,7 +4,7 @@ use mathlib.Core.Bool.{true, false}
 use mathlib.Core.List.{[], ◌∷◌}
 use denote.Enum.Declared.{tag_of}
 use Rattle.modes.specs.ModeLaws.{arm_is}
-use Rattle.modes.specs.Modes.{isRatio}
+use Rattle.modes.specs.Modes.{is_ratio}
 use Rattle.modes.specs.contracts.Mode.{the_type}
 use Rattle.modes.proofs.is_ratio.Statement.{statement}
 use Rattle.modes.proofs.is_ratio.Tie as tie
@@ -13,10 +13,10 @@ enum_told : tie.Need-enum-told
 enum_told c = c.match.keys1
 
 returns : tie.Need-returns
-returns c = arm_is isRatio true (tag_of the_type) (6 ∷ []) refl c.before.before.args.mode c.before.match.keys1
+returns c = arm_is is_ratio true (tag_of the_type) (6 ∷ []) refl c.before.before.args.mode c.before.match.keys1
 
-returns-2 : tie.Need-returns-2
-returns-2 c = arm_is isRatio false (tag_of the_type) (0 ∷ 1 ∷ 2 ∷ 3 ∷ 4 ∷ 5 ∷ 7 ∷ []) refl c.before.args.mode c.match.keys2
+returns_2 : tie.Need-returns-2
+returns_2 c = arm_is is_ratio false (tag_of the_type) (0 ∷ 1 ∷ 2 ∷ 3 ∷ 4 ∷ 5 ∷ 7 ∷ []) refl c.before.args.mode c.match.keys2
 
-pub is-ratio-spec : {M : Type 1} → statement M
-is-ratio-spec = tie.close (tie.spec enum_told returns returns-2)
+pub is_ratio_spec : {M : Type 1} → statement M
+is_ratio_spec = tie.close (tie.spec enum_told returns returns_2)

@@ -4,7 +4,7 @@ use mathlib.Core.Bool.{true, false}
 use mathlib.Core.List.{[], ◌∷◌}
 use denote.Enum.Declared.{tag_of}
 use Rattle.modes.specs.ModeLaws.{arm_is}
-use Rattle.modes.specs.Modes.{isTrack}
+use Rattle.modes.specs.Modes.{is_track}
 use Rattle.modes.specs.contracts.Mode.{the_type}
 use Rattle.modes.proofs.is_track.Statement.{statement}
 use Rattle.modes.proofs.is_track.Tie as tie
@@ -13,10 +13,10 @@ enum_told : tie.Need-enum-told
 enum_told c = c.match.keys1
 
 returns : tie.Need-returns
-returns c = arm_is isTrack true (tag_of the_type) (1 ∷ []) refl c.before.before.args.mode c.before.match.keys1
+returns c = arm_is is_track true (tag_of the_type) (1 ∷ []) refl c.before.before.args.mode c.before.match.keys1
 
-returns-2 : tie.Need-returns-2
-returns-2 c = arm_is isTrack false (tag_of the_type) (0 ∷ 2 ∷ 3 ∷ 4 ∷ 5 ∷ 6 ∷ 7 ∷ []) refl c.before.args.mode c.match.keys2
+returns_2 : tie.Need-returns-2
+returns_2 c = arm_is is_track false (tag_of the_type) (0 ∷ 2 ∷ 3 ∷ 4 ∷ 5 ∷ 6 ∷ 7 ∷ []) refl c.before.args.mode c.match.keys2
 
-pub is-track-spec : {M : Type 1} → statement M
-is-track-spec = tie.close (tie.spec enum_told returns returns-2)
+pub is_track_spec : {M : Type 1} → statement M
+is_track_spec = tie.close (tie.spec enum_told returns returns_2)

@@ -3,18 +3,18 @@ use borrow.Author.Rules.{rules}
 use Rattle.modes.proofs.sets_setpoint.Statement.{statement}
 use Rattle.modes.proofs.sets_setpoint.Tie as tie
 
-is-remote-requires : tie.Need-is-remote-requires
-is-remote-requires c κs = search rules
+is_remote_requires : tie.Need-is-remote-requires
+is_remote_requires c κs = search rules
 
-is-ratio-requires : tie.Need-is-ratio-requires
-is-ratio-requires c κs = search rules
+is_ratio_requires : tie.Need-is-ratio-requires
+is_ratio_requires c κs = search rules
 
-is-automatic-requires : tie.Need-is-automatic-requires
-is-automatic-requires c κs = search rules
+is_automatic_requires : tie.Need-is-automatic-requires
+is_automatic_requires c κs = search rules
 
 returns : tie.Need-returns
 returns c = simp (c.is-automatic.ensures, c.before.is-ratio.ensures, c.before.before.is-remote.ensures)
 
-pub sets-setpoint-spec : {M : Type 1} → statement M
-sets-setpoint-spec =
-    tie.close (tie.spec is-remote-requires is-ratio-requires is-automatic-requires returns)
+pub sets_setpoint_spec : {M : Type 1} → statement M
+sets_setpoint_spec =
+    tie.close (tie.spec is_remote_requires is_ratio_requires is_automatic_requires returns)

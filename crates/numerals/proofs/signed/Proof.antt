@@ -5,45 +5,45 @@ use native.Mathlib.Omega.{arith}
 use mir.Syntax.{w64}
 use borrow.Author.Rules.{rules}
 use Rattle.integers.specs.Machine.{back}
-use Rattle.numerals.specs.Numerals.{digitsOf, with_sign}
-use Rattle.numerals.specs.Parsed.{parsedNumber}
-use Rattle.numerals.specs.ParsedLaws.{told, untold, few-digits}
+use Rattle.numerals.specs.Numerals.{digits_of, with_sign}
+use Rattle.numerals.specs.Parsed.{parsed_number}
+use Rattle.numerals.specs.ParsedLaws.{told, untold, few_digits}
 use Rattle.numerals.specs.declared.ParsedNumber.TheVariants.{Number}
 use Rattle.numerals.proofs.signed.Statement.{statement}
 use Rattle.numerals.proofs.signed.Tie as tie
 
-digits-requires : tie.Need-digits-requires
-digits-requires c κs = search rules
+digits_requires : tie.Need-digits-requires
+digits_requires c κs = search rules
 
-enum-known-reading : tie.Need-enum-known-reading
-enum-known-reading c = search rules
+enum_known_reading : tie.Need-enum-known-reading
+enum_known_reading c = search rules
 
 read : (c : tie.After-reading) →
-    digitsOf 10 c.before.before.before.before.args.most c.before.before.before.before.args.s.now ≡
+    digits_of 10 c.before.before.before.before.args.most c.before.before.before.before.args.s.now ≡
     some c.reading.given.0.0
 read c = told _ _ (sym c.before.before.digits.ensures ∙ c.reading.given.1)
 
-signed-requires : tie.Need-signed-requires
-signed-requires c κs =
+signed_requires : tie.Need-signed-requires
+signed_requires c κs =
     let s = c.before.before.before.before.before in
-    omega (arith, few-digits s.args.most _ s.args.s.now s.requires (read c.before))
+    omega (arith, few_digits s.args.most _ s.args.s.now s.requires (read c.before))
 
 enum_told : tie.Need-enum-told
 enum_told c = search rules
 
 returns : tie.Need-returns
-unfolding with_sign parsedNumber
+unfolding with_sign parsed_number
 returns c = rw (read c.before.before) (ap Number (back w64 _ c.signed.type-inv ∙ c.signed.ensures))
 
-returns-2 : tie.Need-returns-2
-unfolding with_sign parsedNumber
-returns-2 c =
+returns_2 : tie.Need-returns-2
+unfolding with_sign parsed_number
+returns_2 c =
     let s = c.before.before.before.before in
-    let number = digitsOf 10 s.args.most s.args.s.now in
-    rw (untold number (λ n e. omega (arith, few-digits s.args.most n s.args.s.now s.requires e))
+    let number = digits_of 10 s.args.most s.args.s.now in
+    rw (untold number (λ n e. omega (arith, few_digits s.args.most n s.args.s.now s.requires e))
     (sym c.before.before.digits.ensures ∙ c.enum_told.given.1))
 
-pub signed-spec : {M : Type 1} → statement M
-signed-spec =
+pub signed_spec : {M : Type 1} → statement M
+signed_spec =
     tie.close
-    (tie.spec digits-requires enum-known-reading signed-requires enum_told returns returns-2)
+    (tie.spec digits_requires enum_known_reading signed_requires enum_told returns returns_2)

@@ -3,21 +3,21 @@ use mir.Facts.{to_z-of_z}
 use mir.Syntax.{w64}
 use borrow.Author.Rules.{rules}
 use Rattle.integers.specs.Machine.{back}
-use Rattle.outputs.specs.ControlDifference.{controlDifference}
+use Rattle.outputs.specs.ControlDifference.{control_difference}
 use Rattle.outputs.proofs.control_difference.Statement.{statement}
 use Rattle.outputs.proofs.control_difference.Tie as tie
 
-minus-requires : tie.Need-minus-requires
-minus-requires c κs = search rules
+minus_requires : tie.Need-minus-requires
+minus_requires c κs = search rules
 
-minus-requires-2 : tie.Need-minus-requires-2
-minus-requires-2 c κs = search rules
+minus_requires_2 : tie.Need-minus-requires-2
+minus_requires_2 c κs = search rules
 
-choose-requires : tie.Need-choose-requires
-choose-requires c κs = search rules
+choose_requires : tie.Need-choose-requires
+choose_requires c κs = search rules
 
 returns : tie.Need-returns
-unfolding controlDifference
+unfolding control_difference
 returns c =
     let choose = c.choose in
     let minus2 = c.before.minus2 in
@@ -29,5 +29,5 @@ returns c =
     (simp (minus2.ensures, to_z-of_z start.ranges.sp, to_z-of_z start.ranges.pv)
     (simp (minus.ensures, to_z-of_z start.ranges.sp, to_z-of_z start.ranges.pv))))
 
-pub control-difference-spec : {M : Type 1} → statement M
-control-difference-spec = tie.close (tie.spec minus-requires minus-requires-2 choose-requires returns)
+pub control_difference_spec : {M : Type 1} → statement M
+control_difference_spec = tie.close (tie.spec minus_requires minus_requires_2 choose_requires returns)

@@ -3,18 +3,18 @@ use mir.Facts.{to_z-of_z}
 use mir.Syntax.{w64}
 use borrow.Author.Rules.{rules}
 use Rattle.integers.specs.Machine.{back}
-use Rattle.outputs.specs.ControlDifference.{earlierSetpoint}
+use Rattle.outputs.specs.ControlDifference.{earlier_setpoint}
 use Rattle.outputs.proofs.earlier_setpoint.Statement.{statement}
 use Rattle.outputs.proofs.earlier_setpoint.Tie as tie
 
-is-auto-or-fallback-requires : tie.Need-is-auto-or-fallback-requires
-is-auto-or-fallback-requires c κs = search rules
+is_auto_or_fallback_requires : tie.Need-is-auto-or-fallback-requires
+is_auto_or_fallback_requires c κs = search rules
 
-choose-requires : tie.Need-choose-requires
-choose-requires c κs = search rules
+choose_requires : tie.Need-choose-requires
+choose_requires c κs = search rules
 
 returns : tie.Need-returns
-unfolding earlierSetpoint
+unfolding earlier_setpoint
 returns c =
     let choose = c.choose in
     let b1 = c.before.before.before.before in
@@ -22,12 +22,12 @@ returns c =
     let start = b1.before in
     let r-pv = to_z-of_z {w = w64} {z = start.args.r.pv} (search rules) in
     let r-sp = to_z-of_z {w = w64} {z = start.args.r.sp} (search rules) in
-    let past-pv = to_z-of_z {w = w64} {z = start.args.past.pv} (search rules) in
-    let past-sp = to_z-of_z {w = w64} {z = start.args.past.sp} (search rules) in
-    let past-before = to_z-of_z {w = w64} {z = start.args.past.before} (search rules) in
+    let past_pv = to_z-of_z {w = w64} {z = start.args.past.pv} (search rules) in
+    let past_sp = to_z-of_z {w = w64} {z = start.args.past.sp} (search rules) in
+    let past_before = to_z-of_z {w = w64} {z = start.args.past.before} (search rules) in
     simp (back w64 choose.result choose.type-inv)
-    (simp (choose.ensures, r-sp, past-sp)
+    (simp (choose.ensures, r-sp, past_sp)
     (simp is-auto-or-fallback.ensures))
 
-pub earlier-setpoint-spec : {M : Type 1} → statement M
-earlier-setpoint-spec = tie.close (tie.spec is-auto-or-fallback-requires choose-requires returns)
+pub earlier_setpoint_spec : {M : Type 1} → statement M
+earlier_setpoint_spec = tie.close (tie.spec is_auto_or_fallback_requires choose_requires returns)

@@ -2,21 +2,21 @@
 use mir.Syntax.{w64}
 use borrow.Author.Rules.{rules}
 use Rattle.integers.specs.Machine.{back}
-use Rattle.outputs.specs.Outputs.{minimumOf}
+use Rattle.outputs.specs.Outputs.{minimum_of}
 use Rattle.outputs.proofs.minimum_of.Statement.{statement}
 use Rattle.outputs.proofs.minimum_of.Tie as tie
 
-get-requires : tie.Need-get-requires
-get-requires c κs = search rules
+get_requires : tie.Need-get-requires
+get_requires c κs = search rules
 
-get-requires-2 : tie.Need-get-requires-2
-get-requires-2 c κs = search rules
+get_requires_2 : tie.Need-get-requires-2
+get_requires_2 c κs = search rules
 
-choose-requires : tie.Need-choose-requires
-choose-requires c κs = search rules
+choose_requires : tie.Need-choose-requires
+choose_requires c κs = search rules
 
 returns : tie.Need-returns
-unfolding minimumOf
+unfolding minimum_of
 returns c =
     let choose = c.choose in
     let get2 = c.before.get2 in
@@ -27,5 +27,5 @@ returns c =
     (simp get2.ensures
     (simp get.ensures)))
 
-pub minimum-of-spec : {M : Type 1} → statement M
-minimum-of-spec = tie.close (tie.spec get-requires get-requires-2 choose-requires returns)
+pub minimum_of_spec : {M : Type 1} → statement M
+minimum_of_spec = tie.close (tie.spec get_requires get_requires_2 choose_requires returns)

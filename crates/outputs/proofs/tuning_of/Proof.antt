@@ -1,51 +1,51 @@
 -- `outputs::tuning_of` meets its contract.
 use mir.Syntax.{w64}
 use borrow.Author.Rules.{rules}
-use Rattle.setpoints.specs.ComputationLaws.{reading_small, low-reading, high-reading}
+use Rattle.setpoints.specs.ComputationLaws.{reading_small, low_reading, high_reading}
 use Rattle.integers.specs.Machine.{back}
-use Rattle.outputs.specs.ControlDifference.{tuningOf}
+use Rattle.outputs.specs.ControlDifference.{tuning_of}
 use Rattle.outputs.proofs.tuning_of.Statement.{statement}
 use Rattle.outputs.proofs.tuning_of.Tie as tie
 
-get-requires : tie.Need-get-requires
-get-requires c κs = search rules
+get_requires : tie.Need-get-requires
+get_requires c κs = search rules
 
-magnitude-requires : tie.Need-magnitude-requires
-magnitude-requires c κs = search rules
+magnitude_requires : tie.Need-magnitude-requires
+magnitude_requires c κs = search rules
 
-get-requires-2 : tie.Need-get-requires-2
-get-requires-2 c κs = search rules
+get_requires_2 : tie.Need-get-requires-2
+get_requires_2 c κs = search rules
 
-get-requires-3 : tie.Need-get-requires-3
-get-requires-3 c κs = search rules
+get_requires_3 : tie.Need-get-requires-3
+get_requires_3 c κs = search rules
 
-minus-requires : tie.Need-minus-requires
-minus-requires c κs =
+minus_requires : tie.Need-minus-requires
+minus_requires c κs =
     let get3 = c.get3 in
     let get2 = c.before.get2 in
     let start = c.before.before.before.before in
     simp (back w64 get2.result get2.type-inv, back w64 get3.result get3.type-inv) (
-      rw get2.ensures (reading_small _ (high-reading start.args.p start.requires)),
-      rw get3.ensures (reading_small _ (low-reading start.args.p start.requires)),
+      rw get2.ensures (reading_small _ (high_reading start.args.p start.requires)),
+      rw get3.ensures (reading_small _ (low_reading start.args.p start.requires)),
     )
 
-get-requires-4 : tie.Need-get-requires-4
-get-requires-4 c κs = search rules
+get_requires_4 : tie.Need-get-requires-4
+get_requires_4 c κs = search rules
 
-magnitude-requires-2 : tie.Need-magnitude-requires-2
-magnitude-requires-2 c κs = search rules
+magnitude_requires_2 : tie.Need-magnitude-requires-2
+magnitude_requires_2 c κs = search rules
 
-get-requires-5 : tie.Need-get-requires-5
-get-requires-5 c κs = search rules
+get_requires_5 : tie.Need-get-requires-5
+get_requires_5 c κs = search rules
 
-magnitude-requires-3 : tie.Need-magnitude-requires-3
-magnitude-requires-3 c κs = search rules
+magnitude_requires_3 : tie.Need-magnitude-requires-3
+magnitude_requires_3 c κs = search rules
 
-magnitude-requires-4 : tie.Need-magnitude-requires-4
-magnitude-requires-4 c κs = search rules
+magnitude_requires_4 : tie.Need-magnitude-requires-4
+magnitude_requires_4 c κs = search rules
 
 returns : tie.Need-returns
-unfolding tuningOf
+unfolding tuning_of
 returns c =
     let magnitude4 = c.magnitude4 in
     let magnitude3 = c.before.magnitude3 in
@@ -72,18 +72,18 @@ returns c =
     (simp (magnitude.ensures, back w64 get.result get.type-inv)
     (simp get.ensures)))))))))
 
-pub tuning-of-spec : {M : Type 1} → statement M
-tuning-of-spec =
+pub tuning_of_spec : {M : Type 1} → statement M
+tuning_of_spec =
     tie.close
     (tie.spec
-    get-requires
-    magnitude-requires
-    get-requires-2
-    get-requires-3
-    minus-requires
-    get-requires-4
-    magnitude-requires-2
-    get-requires-5
-    magnitude-requires-3
-    magnitude-requires-4
+    get_requires
+    magnitude_requires
+    get_requires_2
+    get_requires_3
+    minus_requires
+    get_requires_4
+    magnitude_requires_2
+    get_requires_5
+    magnitude_requires_3
+    magnitude_requires_4
     returns)

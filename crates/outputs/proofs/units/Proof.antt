@@ -4,20 +4,20 @@ use lib.IntN.{pos, ◌*ℤ◌}
 use mir.Facts.{to_z-of_z}
 use mir.Syntax.{w64}
 use mir.Val.{SFits}
-use Rattle.integers.specs.Operations.{number, natAbs-product}
-use Rattle.terms.specs.Fraction.{storedUnits}
+use Rattle.integers.specs.Operations.{number, nat_abs-product}
+use Rattle.terms.specs.Fraction.{stored_units}
 use Rattle.outputs.proofs.units.Statement.{statement}
 use Rattle.outputs.proofs.units.Tie as tie
 
 fits : (c : tie.Start) → SFits w64 (c.args.u *ℤ pos 65536)
-fits c = omega (arith, number (c.args.u *ℤ pos 65536), natAbs-product c.args.u (pos 65536), c.requires)
+fits c = omega (arith, number (c.args.u *ℤ pos 65536), nat_abs-product c.args.u (pos 65536), c.requires)
 
-mul-result : tie.Need-overflow-mul-result
-mul-result c = simp (to_z-of_z c.ranges.u) (fits c)
+mul_result : tie.Need-overflow-mul-result
+mul_result c = simp (to_z-of_z c.ranges.u) (fits c)
 
 returns : tie.Need-returns
-unfolding storedUnits
+unfolding stored_units
 returns c = simp (to_z-of_z c.ranges.u) (to_z-of_z (fits c))
 
-pub units-spec : {M : Type 1} → statement M
-units-spec = tie.close (tie.spec mul-result returns)
+pub units_spec : {M : Type 1} → statement M
+units_spec = tie.close (tie.spec mul_result returns)

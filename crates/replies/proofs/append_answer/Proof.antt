@@ -3,30 +3,30 @@ use mathlib.Core.Path.{ap, ◌∙◌}
 use mir.Syntax.{w32, w64}
 use Rattle.integers.specs.Machine.{back}
 use Rattle.numerals.specs.Numerals.{decimal}
-use Rattle.formatting.specs.Buffer.{buffer, appendAll}
+use Rattle.formatting.specs.Buffer.{buffer, append_all}
 use Rattle.formatting.specs.Laws.{then}
-use Rattle.replies.specs.Replies.{answerText}
-use Rattle.replies.specs.ReplyLaws.{value-most}
+use Rattle.replies.specs.Replies.{answer_text}
+use Rattle.replies.specs.ReplyLaws.{value_most}
 use Rattle.replies.proofs.append_answer.Statement.{statement}
 use Rattle.replies.proofs.append_answer.Tie as tie
 
-append-words-requires : tie.Need-append-words-requires
-append-words-requires c κs = tt
+append_words_requires : tie.Need-append-words-requires
+append_words_requires c κs = tt
 
-append-byte-requires : tie.Need-append-byte-requires
-append-byte-requires c κs = tt
+append_byte_requires : tie.Need-append-byte-requires
+append_byte_requires c κs = tt
 
-append-mode-requires : tie.Need-append-mode-requires
-append-mode-requires c κs = tt
+append_mode_requires : tie.Need-append-mode-requires
+append_mode_requires c κs = tt
 
-append-byte-requires-2 : tie.Need-append-byte-requires-2
-append-byte-requires-2 c κs = tt
+append_byte_requires_2 : tie.Need-append-byte-requires-2
+append_byte_requires_2 c κs = tt
 
-wide-requires : tie.Need-wide-requires
-wide-requires c κs = tt
+wide_requires : tie.Need-wide-requires
+wide_requires c κs = tt
 
-append-signed-requires : tie.Need-append-signed-requires
-append-signed-requires c κs = tt
+append_signed_requires : tie.Need-append-signed-requires
+append_signed_requires c κs = tt
 
 -- the appends one after another
 module _ (c : tie.After-slice-known6) where
@@ -54,7 +54,7 @@ same_length c =
     (words c).append-words.auto.0
 
 returns : tie.Need-returns
-unfolding answerText
+unfolding answer_text
 returns c =
     let s = start c in
     let o = buffer s.args.out.now s.args.used in
@@ -63,20 +63,20 @@ returns c =
     let to-gap = then o _ _ to-mode (gap c).append-byte2.ensures in
     let w = (pv c).before.wide in
     let fits = (pv c).before.before.struct_told.given.1.1.1.1.1.0.1 in
-    let pv-is = back w64 w.result w.ok ∙ w.ensures ∙ back w32 s.args.values.pv fits in (
-      then o _ _ to-gap ((pv c).append-signed.ensures ∙ ap (appendAll _) (ap decimal pv-is)),
-      record { words = (words c).append-words.ensures.1; pv = value-most s.args.values.pv fits },
+    let pv_is = back w64 w.result w.ok ∙ w.ensures ∙ back w32 s.args.values.pv fits in (
+      then o _ _ to-gap ((pv c).append-signed.ensures ∙ ap (append_all _) (ap decimal pv_is)),
+      record { words = (words c).append-words.ensures.1; pv = value_most s.args.values.pv fits },
     )
 
-pub append-answer-spec : {M : Type 1} → statement M
-append-answer-spec =
+pub append_answer_spec : {M : Type 1} → statement M
+append_answer_spec =
     tie.close
     (tie.spec
-    append-words-requires
-    append-byte-requires
-    append-mode-requires
-    append-byte-requires-2
-    wide-requires
-    append-signed-requires
+    append_words_requires
+    append_byte_requires
+    append_mode_requires
+    append_byte_requires_2
+    wide_requires
+    append_signed_requires
     same_length
     returns)

@@ -1,22 +1,22 @@
 -- `replies::append_reply` meets its contract.
 use mathlib.Core.Path.{◌∙◌}
-use Rattle.replies.specs.Replies.{replyLine}
+use Rattle.replies.specs.Replies.{reply_line}
 use Rattle.formatting.specs.Buffer.{buffer}
 use Rattle.formatting.specs.Laws.{then}
 use Rattle.replies.proofs.append_reply.Statement.{statement}
 use Rattle.replies.proofs.append_reply.Tie as tie
 
-append-text-requires : tie.Need-append-text-requires
-append-text-requires c κs = tt
+append_text_requires : tie.Need-append-text-requires
+append_text_requires c κs = tt
 
-append-byte-requires : tie.Need-append-byte-requires
-append-byte-requires c κs = tt
+append_byte_requires : tie.Need-append-byte-requires
+append_byte_requires c κs = tt
 
 same_length : tie.Need-same-length
 same_length c = c.before.before.append-byte.auto.0 ∙ c.before.before.before.before.before.before.append-text.auto.0
 
 returns : tie.Need-returns
-unfolding replyLine
+unfolding reply_line
 returns c =
     let e = c.before.before in
     let t = e.before.before.before.before in
@@ -25,6 +25,6 @@ returns c =
       t.append-text.ensures.1,
     )
 
-pub append-reply-spec : {M : Type 1} → statement M
-append-reply-spec =
-    tie.close (tie.spec append-text-requires append-byte-requires same_length returns)
+pub append_reply_spec : {M : Type 1} → statement M
+append_reply_spec =
+    tie.close (tie.spec append_text_requires append_byte_requires same_length returns)

@@ -1,35 +1,35 @@
 -- `replies::append_run` meets its contract.
 use Rattle.formatting.specs.Buffer.{buffer}
 use Rattle.formatting.specs.Laws.{then}
-use Rattle.replies.specs.Replies.{runText}
+use Rattle.replies.specs.Replies.{run_text}
 use native.Mathlib.Omega.{arith}
 use borrow.Author.Rules.{rules}
 use Rattle.replies.proofs.append_run.Statement.{statement}
 use Rattle.replies.proofs.append_run.Tie as tie
 
-slice-aggregate-append-bytes : tie.Need-slice-aggregate-append-bytes
-slice-aggregate-append-bytes c = search rules
+slice_aggregate_append_bytes : tie.Need-slice-aggregate-append-bytes
+slice_aggregate_append_bytes c = search rules
 
-append-bytes-requires : tie.Need-append-bytes-requires
-append-bytes-requires c κs = search rules
+append_bytes_requires : tie.Need-append-bytes-requires
+append_bytes_requires c κs = search rules
 
-append-spaced-requires : tie.Need-append-spaced-requires
-append-spaced-requires c κs = search rules
+append_spaced_requires : tie.Need-append-spaced-requires
+append_spaced_requires c κs = search rules
 
-append-spaced-requires-2 : tie.Need-append-spaced-requires-2
-append-spaced-requires-2 c κs = search rules
+append_spaced_requires_2 : tie.Need-append-spaced-requires-2
+append_spaced_requires_2 c κs = search rules
 
-append-byte-requires : tie.Need-append-byte-requires
-append-byte-requires c κs = search rules
+append_byte_requires : tie.Need-append-byte-requires
+append_byte_requires c κs = search rules
 
-append-bits-requires : tie.Need-append-bits-requires
-append-bits-requires c κs = search rules
+append_bits_requires : tie.Need-append-bits-requires
+append_bits_requires c κs = search rules
 
 same_length : tie.Need-same-length
 same_length c = search rules
 
 returns : tie.Need-returns
-unfolding runText
+unfolding run_text
 returns c =
     let bits = c.before.before in
     let blank = bits.before.before.before.before in
@@ -44,15 +44,15 @@ returns c =
       record { done = omega (arith, s.ranges.turns); refusal = omega (arith, s.ranges.number) },
     )
 
-pub append-run-spec : {M : Type 1} → statement M
-append-run-spec =
+pub append_run_spec : {M : Type 1} → statement M
+append_run_spec =
     tie.close
     (tie.spec
-    slice-aggregate-append-bytes
-    append-bytes-requires
-    append-spaced-requires
-    append-spaced-requires-2
-    append-byte-requires
-    append-bits-requires
+    slice_aggregate_append_bytes
+    append_bytes_requires
+    append_spaced_requires
+    append_spaced_requires_2
+    append_byte_requires
+    append_bits_requires
     same_length
     returns)

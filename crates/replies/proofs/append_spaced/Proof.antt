@@ -6,11 +6,11 @@ use Rattle.replies.specs.Replies.{spaced}
 use Rattle.replies.proofs.append_spaced.Statement.{statement}
 use Rattle.replies.proofs.append_spaced.Tie as tie
 
-append-byte-requires : tie.Need-append-byte-requires
-append-byte-requires c κs = tt
+append_byte_requires : tie.Need-append-byte-requires
+append_byte_requires c κs = tt
 
-append-decimal-requires : tie.Need-append-decimal-requires
-append-decimal-requires c κs = tt
+append_decimal_requires : tie.Need-append-decimal-requires
+append_decimal_requires c κs = tt
 
 same_length : tie.Need-same-length
 same_length c = c.before.before.append-decimal.auto.0 ∙ c.before.before.before.before.before.before.append-byte.auto.0
@@ -23,6 +23,6 @@ returns c =
     let s = b.before.before.before in
     then (buffer s.args.out.now s.args.used) _ _ b.append-byte.ensures d.append-decimal.ensures
 
-pub append-spaced-spec : {M : Type 1} → statement M
-append-spaced-spec =
-    tie.close (tie.spec append-byte-requires append-decimal-requires same_length returns)
+pub append_spaced_spec : {M : Type 1} → statement M
+append_spaced_spec =
+    tie.close (tie.spec append_byte_requires append_decimal_requires same_length returns)

@@ -3,39 +3,39 @@ use mathlib.Core.Path.{refl, ◌∙◌}
 use native.Mathlib.Omega.{arith}
 use Rattle.formatting.specs.Buffer.{buffer}
 use Rattle.formatting.specs.Laws.{then}
-use Rattle.replies.specs.Replies.{wordsText}
+use Rattle.replies.specs.Replies.{words_text}
 use Rattle.replies.proofs.append_words.Statement.{statement}
 use Rattle.replies.proofs.append_words.Tie as tie
 
-slice-aggregate-append-bytes : tie.Need-slice-aggregate-append-bytes
-slice-aggregate-append-bytes c = refl
+slice_aggregate_append_bytes : tie.Need-slice-aggregate-append-bytes
+slice_aggregate_append_bytes c = refl
 
-append-bytes-requires : tie.Need-append-bytes-requires
-append-bytes-requires c κs = tt
+append_bytes_requires : tie.Need-append-bytes-requires
+append_bytes_requires c κs = tt
 
-cast-append-spaced : tie.Need-overflow-cast-append-spaced
-cast-append-spaced c = omega arith
+cast_append_spaced : tie.Need-overflow-cast-append-spaced
+cast_append_spaced c = omega arith
 
-append-spaced-requires : tie.Need-append-spaced-requires
-append-spaced-requires c κs = tt
+append_spaced_requires : tie.Need-append-spaced-requires
+append_spaced_requires c κs = tt
 
-cast-append-spaced-2 : tie.Need-overflow-cast-append-spaced-2
-cast-append-spaced-2 c = omega arith
+cast_append_spaced_2 : tie.Need-overflow-cast-append-spaced-2
+cast_append_spaced_2 c = omega arith
 
-append-spaced-requires-2 : tie.Need-append-spaced-requires-2
-append-spaced-requires-2 c κs = tt
+append_spaced_requires_2 : tie.Need-append-spaced-requires-2
+append_spaced_requires_2 c κs = tt
 
-cast-append-spaced-3 : tie.Need-overflow-cast-append-spaced-3
-cast-append-spaced-3 c = omega arith
+cast_append_spaced_3 : tie.Need-overflow-cast-append-spaced-3
+cast_append_spaced_3 c = omega arith
 
-append-spaced-requires-3 : tie.Need-append-spaced-requires-3
-append-spaced-requires-3 c κs = tt
+append_spaced_requires_3 : tie.Need-append-spaced-requires-3
+append_spaced_requires_3 c κs = tt
 
-cast-append-spaced-4 : tie.Need-overflow-cast-append-spaced-4
-cast-append-spaced-4 c = omega arith
+cast_append_spaced_4 : tie.Need-overflow-cast-append-spaced-4
+cast_append_spaced_4 c = omega arith
 
-append-spaced-requires-4 : tie.Need-append-spaced-requires-4
-append-spaced-requires-4 c κs = tt
+append_spaced_requires_4 : tie.Need-append-spaced-requires-4
+append_spaced_requires_4 c κs = tt
 
 -- the appends one after another
 module _ (c : tie.After-slice-known6) where
@@ -63,7 +63,7 @@ same_length c =
     (name c).append-bytes.auto.0
 
 returns : tie.Need-returns
-unfolding wordsText
+unfolding words_text
 returns c =
     let s = start c in
     let o = buffer s.args.out.now s.args.used in
@@ -79,19 +79,19 @@ returns c =
       },
     )
 
-pub append-words-spec : {M : Type 1} → statement M
-append-words-spec =
+pub append_words_spec : {M : Type 1} → statement M
+append_words_spec =
     tie.close
     (tie.spec
-    slice-aggregate-append-bytes
-    append-bytes-requires
-    cast-append-spaced
-    append-spaced-requires
-    cast-append-spaced-2
-    append-spaced-requires-2
-    cast-append-spaced-3
-    append-spaced-requires-3
-    cast-append-spaced-4
-    append-spaced-requires-4
+    slice_aggregate_append_bytes
+    append_bytes_requires
+    cast_append_spaced
+    append_spaced_requires
+    cast_append_spaced_2
+    append_spaced_requires_2
+    cast_append_spaced_3
+    append_spaced_requires_3
+    cast_append_spaced_4
+    append_spaced_requires_4
     same_length
     returns)

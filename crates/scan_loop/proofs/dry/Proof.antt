@@ -5,37 +5,37 @@ use Rattle.controller.specs.Valid.{Valid}
 use Rattle.scan_loop.proofs.dry.Statement.{statement}
 use Rattle.scan_loop.proofs.dry.Tie as tie
 
-abbrev invariant-loop : tie.invariant-loop
-invariant-loop turns dryer₀ turn₀ dryer turn = Valid dryer.controller × ValidSheet dryer.sheet
+abbrev invariant_loop : tie.invariant_loop
+invariant_loop turns dryer₀ turn₀ dryer turn = Valid dryer.controller × ValidSheet dryer.sheet
 
-abbrev decreases-loop : tie.decreases-loop
-decreases-loop turns dryer₀ turn₀ dryer turn = turns - turn
+abbrev decreases_loop : tie.decreases_loop
+decreases_loop turns dryer₀ turn₀ dryer turn = turns - turn
 
-fresh-requires : tie.Need-fresh-requires invariant-loop decreases-loop
-fresh-requires c κs = search rules
+fresh_requires : tie.Need-fresh-requires invariant_loop decreases_loop
+fresh_requires c κs = search rules
 
-empty-requires : tie.Need-empty-requires invariant-loop decreases-loop
-empty-requires c κs = search rules
+empty_requires : tie.Need-empty-requires invariant_loop decreases_loop
+empty_requires c κs = search rules
 
-loop-holds : tie.Need-loop-init invariant-loop decreases-loop
-loop-holds c = search rules
+loop_holds : tie.Need-loop-init invariant_loop decreases_loop
+loop_holds c = search rules
 
-turned-requires : tie.Need-turned-requires invariant-loop decreases-loop
-turned-requires c κs = search rules
+turned_requires : tie.Need-turned-requires invariant_loop decreases_loop
+turned_requires c κs = search rules
 
-add_turn : tie.Need-overflow-add-turn invariant-loop decreases-loop
+add_turn : tie.Need-overflow-add-turn invariant_loop decreases_loop
 add_turn c = search rules
 
-loop-less : tie.Need-loop-smaller invariant-loop decreases-loop
-loop-less c = search rules
+loop_less : tie.Need-loop-smaller invariant_loop decreases_loop
+loop_less c = search rules
 
-loop-again : tie.Need-loop-preserved invariant-loop decreases-loop
-loop-again c = search rules
+loop_again : tie.Need-loop-preserved invariant_loop decreases_loop
+loop_again c = search rules
 
-returns : tie.Need-returns invariant-loop decreases-loop
+returns : tie.Need-returns invariant_loop decreases_loop
 returns c = search rules
 
-pub dry-spec : {M : Type 1} → statement M
-dry-spec =
+pub dry_spec : {M : Type 1} → statement M
+dry_spec =
     tie.close
-    (tie.spec invariant-loop decreases-loop fresh-requires empty-requires loop-holds turned-requires add_turn loop-less loop-again returns)
+    (tie.spec invariant_loop decreases_loop fresh_requires empty_requires loop_holds turned_requires add_turn loop_less loop_again returns)

@@ -5,14 +5,14 @@ use Rattle.integers.specs.Machine.{back}
 use Rattle.setpoints.proofs.channel.Statement.{statement}
 use Rattle.setpoints.proofs.channel.Tie as tie
 
-get-requires : tie.Need-get-requires
-get-requires c κs = search rules
+get_requires : tie.Need-get-requires
+get_requires c κs = search rules
 
-get-requires-2 : tie.Need-get-requires-2
-get-requires-2 c κs = search rules
+get_requires_2 : tie.Need-get-requires-2
+get_requires_2 c κs = search rules
 
-scale-requires : tie.Need-scale-requires
-scale-requires c κs =
+scale_requires : tie.Need-scale-requires
+scale_requires c κs =
     let get2 = c.get2 in
     let get = c.before.get in
     simp (back w64 get.result get.type-inv, back w64 get2.result get2.type-inv) (rw (get.ensures, get2.ensures) c.before.before.requires)
@@ -28,5 +28,5 @@ returns c =
     (simp get2.ensures
     (simp get.ensures)))
 
-pub channel-spec : {M : Type 1} → statement M
-channel-spec = tie.close (tie.spec get-requires get-requires-2 scale-requires returns)
+pub channel_spec : {M : Type 1} → statement M
+channel_spec = tie.close (tie.spec get_requires get_requires_2 scale_requires returns)

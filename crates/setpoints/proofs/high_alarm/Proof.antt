@@ -3,24 +3,24 @@ use mir.Facts.{to_z-of_z}
 use mir.Syntax.{w64}
 use borrow.Author.Rules.{rules}
 use Rattle.integers.specs.Machine.{back}
-use Rattle.setpoints.specs.Computation.{highAlarm}
+use Rattle.setpoints.specs.Computation.{high_alarm}
 use Rattle.setpoints.proofs.high_alarm.Statement.{statement}
 use Rattle.setpoints.proofs.high_alarm.Tie as tie
 
-get-requires : tie.Need-get-requires
-get-requires c κs = search rules
+get_requires : tie.Need-get-requires
+get_requires c κs = search rules
 
-get-requires-2 : tie.Need-get-requires-2
-get-requires-2 c κs = search rules
+get_requires_2 : tie.Need-get-requires-2
+get_requires_2 c κs = search rules
 
-less-requires : tie.Need-less-requires
-less-requires c κs = search rules
+less_requires : tie.Need-less-requires
+less_requires c κs = search rules
 
-less-requires-2 : tie.Need-less-requires-2
-less-requires-2 c κs = search rules
+less_requires_2 : tie.Need-less-requires-2
+less_requires_2 c κs = search rules
 
 returns : tie.Need-returns
-unfolding highAlarm
+unfolding high_alarm
 returns c =
     let less2 = c.less2 in
     let b1 = c.before.before in
@@ -36,6 +36,6 @@ returns c =
     (simp get2.ensures
     (simp get.ensures)))
 
-pub high-alarm-spec : {M : Type 1} → statement M
-high-alarm-spec =
-    tie.close (tie.spec get-requires get-requires-2 less-requires less-requires-2 returns)
+pub high_alarm_spec : {M : Type 1} → statement M
+high_alarm_spec =
+    tie.close (tie.spec get_requires get_requires_2 less_requires less_requires_2 returns)

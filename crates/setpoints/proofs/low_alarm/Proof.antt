@@ -3,33 +3,33 @@ use native.Mathlib.Omega.{arith}
 use mir.Facts.{to_z-of_z}
 use mir.Syntax.{w64}
 use borrow.Author.Rules.{rules}
-use Rattle.setpoints.specs.ComputationLaws.{deviation-small, zero_minus}
+use Rattle.setpoints.specs.ComputationLaws.{deviation_small, zero_minus}
 use Rattle.integers.specs.Machine.{back}
-use Rattle.setpoints.specs.Computation.{lowAlarm}
+use Rattle.setpoints.specs.Computation.{low_alarm}
 use Rattle.setpoints.proofs.low_alarm.Statement.{statement}
 use Rattle.setpoints.proofs.low_alarm.Tie as tie
 
-get-requires : tie.Need-get-requires
-get-requires c κs = search rules
+get_requires : tie.Need-get-requires
+get_requires c κs = search rules
 
-get-requires-2 : tie.Need-get-requires-2
-get-requires-2 c κs = search rules
+get_requires_2 : tie.Need-get-requires-2
+get_requires_2 c κs = search rules
 
-minus-requires : tie.Need-minus-requires
-minus-requires c κs =
+minus_requires : tie.Need-minus-requires
+minus_requires c κs =
     let get2 = c.get2 in
     let start = c.before.before in
     simp (back w64 get2.result get2.type-inv)
-    (record { small = omega arith }, rw get2.ensures (deviation-small start.args.p start.requires))
+    (record { small = omega arith }, rw get2.ensures (deviation_small start.args.p start.requires))
 
-less-requires : tie.Need-less-requires
-less-requires c κs = search rules
+less_requires : tie.Need-less-requires
+less_requires c κs = search rules
 
-less-requires-2 : tie.Need-less-requires-2
-less-requires-2 c κs = search rules
+less_requires_2 : tie.Need-less-requires-2
+less_requires_2 c κs = search rules
 
 returns : tie.Need-returns
-unfolding lowAlarm
+unfolding low_alarm
 returns c =
     let less2 = c.less2 in
     let b1 = c.before.before in
@@ -48,7 +48,7 @@ returns c =
     (simp get2.ensures
     (simp get.ensures))))
 
-pub low-alarm-spec : {M : Type 1} → statement M
-low-alarm-spec =
+pub low_alarm_spec : {M : Type 1} → statement M
+low_alarm_spec =
     tie.close
-    (tie.spec get-requires get-requires-2 minus-requires less-requires less-requires-2 returns)
+    (tie.spec get_requires get_requires_2 minus_requires less_requires less_requires_2 returns)

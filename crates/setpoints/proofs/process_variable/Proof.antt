@@ -3,29 +3,29 @@ use mir.Syntax.{w64}
 use borrow.Author.Rules.{rules}
 use Rattle.setpoints.specs.ComputationLaws.{range1}
 use Rattle.integers.specs.Machine.{back}
-use Rattle.setpoints.specs.Setpoints.{processVariable}
+use Rattle.setpoints.specs.Setpoints.{process_variable}
 use Rattle.setpoints.proofs.process_variable.Statement.{statement}
 use Rattle.setpoints.proofs.process_variable.Tie as tie
 
-first-sample-requires : tie.Need-first-sample-requires
-first-sample-requires c κs = search rules
+first_sample_requires : tie.Need-first-sample-requires
+first_sample_requires c κs = search rules
 
-get-requires : tie.Need-get-requires
-get-requires c κs = search rules
+get_requires : tie.Need-get-requires
+get_requires c κs = search rules
 
-channel-requires : tie.Need-channel-requires
-channel-requires c κs =
+channel_requires : tie.Need-channel-requires
+channel_requires c κs =
     let start = c.before.before in
     range1 start.args.p start.requires.0 c.before.first-sample.result c.before.first-sample.ensures.1
 
-is-open-requires : tie.Need-is-open-requires
-is-open-requires c κs = search rules
+is_open_requires : tie.Need-is-open-requires
+is_open_requires c κs = search rules
 
-choose-requires : tie.Need-choose-requires
-choose-requires c κs = search rules
+choose_requires : tie.Need-choose-requires
+choose_requires c κs = search rules
 
 returns : tie.Need-returns
-unfolding processVariable
+unfolding process_variable
 returns c =
     let choose = c.choose in
     let is_open = c.before.is_open in
@@ -41,13 +41,13 @@ returns c =
     (simp get.ensures
     (simp first-sample.ensures.0)))))
 
-pub process-variable-spec : {M : Type 1} → statement M
-process-variable-spec =
+pub process_variable_spec : {M : Type 1} → statement M
+process_variable_spec =
     tie.close
     (tie.spec
-    first-sample-requires
-    get-requires
-    channel-requires
-    is-open-requires
-    choose-requires
+    first_sample_requires
+    get_requires
+    channel_requires
+    is_open_requires
+    choose_requires
     returns)

@@ -9,34 +9,34 @@ use Rattle.integers.specs.Limit.{limited}
 use Rattle.scaling.specs.Scale.{scaled}
 use Rattle.scaling.specs.Ratio.{RatioRange}
 use Rattle.parameters.specs.Table.{H2, L2, HR, LR}
-use Rattle.setpoints.specs.ComputationLaws.{range2, ratio-range, quotient-small, bias-small}
+use Rattle.setpoints.specs.ComputationLaws.{range2, ratio_range, quotient_small, bias_small}
 use Rattle.integers.specs.Machine.{back}
-use Rattle.setpoints.specs.Setpoints.{ratioSetpoint}
+use Rattle.setpoints.specs.Setpoints.{ratio_setpoint}
 use Rattle.setpoints.proofs.ratio_setpoint.Statement.{statement}
 use Rattle.setpoints.proofs.ratio_setpoint.Tie as tie
 
-channel-requires : tie.Need-channel-requires
-channel-requires c κs = range2 c.args.p c.requires.0 c.args.input.sample2 c.requires.1.second
+channel_requires : tie.Need-channel-requires
+channel_requires c κs = range2 c.args.p c.requires.0 c.args.input.sample2 c.requires.1.second
 
-get-requires : tie.Need-get-requires
-get-requires c κs = search rules
+get_requires : tie.Need-get-requires
+get_requires c κs = search rules
 
-get-requires-2 : tie.Need-get-requires-2
-get-requires-2 c κs = search rules
+get_requires_2 : tie.Need-get-requires-2
+get_requires_2 c κs = search rules
 
-plus-requires : tie.Need-plus-requires
-plus-requires c κs = search rules
+plus_requires : tie.Need-plus-requires
+plus_requires c κs = search rules
 
-limit-requires : tie.Need-limit-requires
-limit-requires c κs = search rules
+limit_requires : tie.Need-limit-requires
+limit_requires c κs = search rules
 
-magnitude-requires : tie.Need-magnitude-requires
-magnitude-requires c κs = search rules
+magnitude_requires : tie.Need-magnitude-requires
+magnitude_requires c κs = search rules
 
 -- s, in the definition's words
-s-is : (c : tie.After-magnitude) → let start = c.before.before.before.before.before.before in
+s_is : (c : tie.After-magnitude) → let start = c.before.before.before.before.before.before in
     c.magnitude.result ≡ nat_abs (limited (LR start.args.p) (HR start.args.p) (start.args.rs +ℤ start.args.trim))
-s-is c =
+s_is c =
     let limit = c.before.limit in
     let plus = c.before.before.plus in
     let get2 = c.before.before.before.get2 in
@@ -46,35 +46,35 @@ s-is c =
     (simp (limit.ensures, back w64 plus.result plus.type-inv, back w64 get2.result get2.type-inv, back w64 get.result get.type-inv)
     (simp (plus.ensures, get2.ensures, get.ensures, to_z-of_z start.ranges.rs, to_z-of_z start.ranges.trim)))
 
-q-is : (c : tie.After-channel) →
+q_is : (c : tie.After-channel) →
     to_z w64 (of_z w64 c.channel.result) ≡ scaled (L2 c.before.args.p) (H2 c.before.args.p) c.before.args.input.sample2
-q-is c = back w64 c.channel.result c.channel.type-inv ∙ c.channel.ensures
+q_is c = back w64 c.channel.result c.channel.type-inv ∙ c.channel.ensures
 
-in-range : (c : tie.After-magnitude) →
+in_range_lem : (c : tie.After-magnitude) →
     RatioRange (to_z w64 (of_z w64 c.before.before.before.before.before.channel.result)) c.magnitude.result
-in-range c =
+in_range_lem c =
     let start = c.before.before.before.before.before.before in
-    rw (q-is c.before.before.before.before.before, s-is c)
-    (ratio-range start.args.p start.requires.0 start.args.input start.requires.1 _)
+    rw (q_is c.before.before.before.before.before, s_is c)
+    (ratio_range start.args.p start.requires.0 start.args.input start.requires.1 _)
 
-ratio-quotient-requires : tie.Need-ratio-quotient-requires
-ratio-quotient-requires c κs = in-range c
+ratio_quotient_requires : tie.Need-ratio-quotient-requires
+ratio_quotient_requires c κs = in_range_lem c
 
-get-requires-3 : tie.Need-get-requires-3
-get-requires-3 c κs = search rules
+get_requires_3 : tie.Need-get-requires-3
+get_requires_3 c κs = search rules
 
-plus-requires-2 : tie.Need-plus-requires-2
-plus-requires-2 c κs =
+plus_requires_2 : tie.Need-plus-requires-2
+plus_requires_2 c κs =
     let quotient = c.before.ratio-quotient in
     let get3 = c.get3 in
     let start = c.before.before.before.before.before.before.before.before in
     simp (back w64 quotient.result quotient.type-inv, back w64 get3.result get3.type-inv) (
-      rw quotient.ensures (quotient-small start.args.inverse _ _ (in-range c.before.before)),
-      rw get3.ensures (bias-small start.args.p start.requires.0),
+      rw quotient.ensures (quotient_small start.args.inverse _ _ (in_range_lem c.before.before)),
+      rw get3.ensures (bias_small start.args.p start.requires.0),
     )
 
 returns : tie.Need-returns
-unfolding ratioSetpoint
+unfolding ratio_setpoint
 returns c =
     let plus2 = c.plus2 in
     let get3 = c.before.get3 in
@@ -101,17 +101,17 @@ returns c =
     (simp get.ensures
     (simp channel.ensures)))))))))
 
-pub ratio-setpoint-spec : {M : Type 1} → statement M
-ratio-setpoint-spec =
+pub ratio_setpoint_spec : {M : Type 1} → statement M
+ratio_setpoint_spec =
     tie.close
     (tie.spec
-    channel-requires
-    get-requires
-    get-requires-2
-    plus-requires
-    limit-requires
-    magnitude-requires
-    ratio-quotient-requires
-    get-requires-3
-    plus-requires-2
+    channel_requires
+    get_requires
+    get_requires_2
+    plus_requires
+    limit_requires
+    magnitude_requires
+    ratio_quotient_requires
+    get_requires_3
+    plus_requires_2
     returns)

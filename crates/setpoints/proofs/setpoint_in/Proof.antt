@@ -4,21 +4,21 @@ use mir.Facts.{to_z-of_z}
 use mir.Syntax.{w64}
 use borrow.Author.Rules.{rules}
 use Rattle.integers.specs.Machine.{back}
-use Rattle.setpoints.specs.Setpoints.{setpointIn}
+use Rattle.setpoints.specs.Setpoints.{setpoint_in}
 use Rattle.setpoints.proofs.setpoint_in.Statement.{statement}
 use Rattle.setpoints.proofs.setpoint_in.Tie as tie
 
-is-remote-requires : tie.Need-is-remote-requires
-is-remote-requires c κs = search rules
+is_remote_requires : tie.Need-is-remote-requires
+is_remote_requires c κs = search rules
 
-is-ratio-requires : tie.Need-is-ratio-requires
-is-ratio-requires c κs = search rules
+is_ratio_requires : tie.Need-is-ratio-requires
+is_ratio_requires c κs = search rules
 
-remote-setpoint-requires : tie.Need-remote-setpoint-requires
-remote-setpoint-requires c κs = search rules
+remote_setpoint_requires : tie.Need-remote-setpoint-requires
+remote_setpoint_requires c κs = search rules
 
 returns : tie.Need-returns
-unfolding setpointIn
+unfolding setpoint_in
 returns c =
     let b = c.before.before in
     let start = b.before.before in
@@ -26,12 +26,12 @@ returns c =
     simp (back w64 call.result call.type-inv)
     (simp (call.ensures, to_z-of_z start.ranges.trim, sym b.before.is-remote.ensures ∙ c.before.if1.true))
 
-ratio-setpoint-requires : tie.Need-ratio-setpoint-requires
-ratio-setpoint-requires c κs = search rules
+ratio_setpoint_requires : tie.Need-ratio-setpoint-requires
+ratio_setpoint_requires c κs = search rules
 
-returns-2 : tie.Need-returns-2
-unfolding setpointIn
-returns-2 c =
+returns_2 : tie.Need-returns-2
+unfolding setpoint_in
+returns_2 c =
     let b = c.before.before.before in
     let start = b.before.before in
     let call = c.ratio-setpoint in
@@ -44,12 +44,12 @@ returns-2 c =
       sym b.is-ratio.ensures ∙ c.before.if2.true,
     ))
 
-local-setpoint-requires : tie.Need-local-setpoint-requires
-local-setpoint-requires c κs = search rules
+local_setpoint_requires : tie.Need-local-setpoint-requires
+local_setpoint_requires c κs = search rules
 
-returns-3 : tie.Need-returns-3
-unfolding setpointIn
-returns-3 c =
+returns_3 : tie.Need-returns-3
+unfolding setpoint_in
+returns_3 c =
     let b = c.before.before.before in
     let start = b.before.before in
     let call = c.local-setpoint in
@@ -62,15 +62,15 @@ returns-3 c =
       sym b.is-ratio.ensures ∙ c.before.if2.false,
     ))
 
-pub setpoint-in-spec : {M : Type 1} → statement M
-setpoint-in-spec =
+pub setpoint_in_spec : {M : Type 1} → statement M
+setpoint_in_spec =
     tie.close
     (tie.spec
-    is-remote-requires
-    is-ratio-requires
-    remote-setpoint-requires
+    is_remote_requires
+    is_ratio_requires
+    remote_setpoint_requires
     returns
-    ratio-setpoint-requires
-    returns-2
-    local-setpoint-requires
-    returns-3)
+    ratio_setpoint_requires
+    returns_2
+    local_setpoint_requires
+    returns_3)

@@ -2,21 +2,21 @@
 use mir.Syntax.{w64}
 use borrow.Author.Rules.{rules}
 use Rattle.integers.specs.Machine.{back}
-use Rattle.setpoints.specs.Setpoints.{trimOf}
+use Rattle.setpoints.specs.Setpoints.{trim_of}
 use Rattle.setpoints.proofs.trim_of.Statement.{statement}
 use Rattle.setpoints.proofs.trim_of.Tie as tie
 
-third-channel-requires : tie.Need-third-channel-requires
-third-channel-requires c κs = search rules
+third_channel_requires : tie.Need-third-channel-requires
+third_channel_requires c κs = search rules
 
-is-track-requires : tie.Need-is-track-requires
-is-track-requires c κs = search rules
+is_track_requires : tie.Need-is-track-requires
+is_track_requires c κs = search rules
 
-choose-requires : tie.Need-choose-requires
-choose-requires c κs = search rules
+choose_requires : tie.Need-choose-requires
+choose_requires c κs = search rules
 
 returns : tie.Need-returns
-unfolding trimOf
+unfolding trim_of
 returns c =
     let choose = c.choose in
     let is-track = c.before.is-track in
@@ -27,6 +27,6 @@ returns c =
     (simp is-track.ensures
     (simp third-channel.ensures)))
 
-pub trim-of-spec : {M : Type 1} → statement M
-trim-of-spec =
-    tie.close (tie.spec third-channel-requires is-track-requires choose-requires returns)
+pub trim_of_spec : {M : Type 1} → statement M
+trim_of_spec =
+    tie.close (tie.spec third_channel_requires is_track_requires choose_requires returns)

@@ -5,57 +5,57 @@ use native.Mathlib.Omega.{arith}
 use lib.IntN.{ℤ}
 use mir.Syntax.{w64}
 use Rattle.integers.specs.Machine.{back}
-use Rattle.sheet_numbers.specs.Numbers.{number_at, countIn, countsIn}
+use Rattle.sheet_numbers.specs.Numbers.{number_at, count_in, counts_in}
 use Rattle.sheet_numbers.proofs.counts_in.Statement.{statement}
 use Rattle.sheet_numbers.proofs.counts_in.Tie as tie
 
-array-copy-out-count-in : tie.Need-array-copy-out-count-in
-array-copy-out-count-in c = omega arith
+array_copy_out_count_in : tie.Need-array-copy-out-count-in
+array_copy_out_count_in c = omega arith
 
-count-in-requires : tie.Need-count-in-requires
-count-in-requires c κs = tt
+count_in_requires : tie.Need-count-in-requires
+count_in_requires c κs = tt
 
-array-copy-out-count-in-2 : tie.Need-array-copy-out-count-in-2
-array-copy-out-count-in-2 c = omega arith
+array_copy_out_count_in_2 : tie.Need-array-copy-out-count-in-2
+array_copy_out_count_in_2 c = omega arith
 
-count-in-requires-2 : tie.Need-count-in-requires-2
-count-in-requires-2 c κs = tt
+count_in_requires_2 : tie.Need-count-in-requires-2
+count_in_requires_2 c κs = tt
 
-array-copy-out-count-in-3 : tie.Need-array-copy-out-count-in-3
-array-copy-out-count-in-3 c = omega arith
+array_copy_out_count_in_3 : tie.Need-array-copy-out-count-in-3
+array_copy_out_count_in_3 c = omega arith
 
-count-in-requires-3 : tie.Need-count-in-requires-3
-count-in-requires-3 c κs = tt
+count_in_requires_3 : tie.Need-count-in-requires-3
+count_in_requires_3 c κs = tt
 
-array-copy-out-count-in-4 : tie.Need-array-copy-out-count-in-4
-array-copy-out-count-in-4 c = omega arith
+array_copy_out_count_in_4 : tie.Need-array-copy-out-count-in-4
+array_copy_out_count_in_4 c = omega arith
 
-count-in-requires-4 : tie.Need-count-in-requires-4
-count-in-requires-4 c κs = tt
+count_in_requires_4 : tie.Need-count-in-requires-4
+count_in_requires_4 c κs = tt
 
-array-copy-out-count-in-5 : tie.Need-array-copy-out-count-in-5
-array-copy-out-count-in-5 c = omega arith
+array_copy_out_count_in_5 : tie.Need-array-copy-out-count-in-5
+array_copy_out_count_in_5 c = omega arith
 
-count-in-requires-5 : tie.Need-count-in-requires-5
-count-in-requires-5 c κs = tt
+count_in_requires_5 : tie.Need-count-in-requires-5
+count_in_requires_5 c κs = tt
 
-array-copy-out-count-in-6 : tie.Need-array-copy-out-count-in-6
-array-copy-out-count-in-6 c = omega arith
+array_copy_out_count_in_6 : tie.Need-array-copy-out-count-in-6
+array_copy_out_count_in_6 c = omega arith
 
-count-in-requires-6 : tie.Need-count-in-requires-6
-count-in-requires-6 c κs = tt
+count_in_requires_6 : tie.Need-count-in-requires-6
+count_in_requires_6 c κs = tt
 
-array-copy-out-count-in-7 : tie.Need-array-copy-out-count-in-7
-array-copy-out-count-in-7 c = omega arith
+array_copy_out_count_in_7 : tie.Need-array-copy-out-count-in-7
+array_copy_out_count_in_7 c = omega arith
 
-count-in-requires-7 : tie.Need-count-in-requires-7
-count-in-requires-7 c κs = tt
+count_in_requires_7 : tie.Need-count-in-requires-7
+count_in_requires_7 c κs = tt
 
-array-copy-out-count-in-8 : tie.Need-array-copy-out-count-in-8
-array-copy-out-count-in-8 c = omega arith
+array_copy_out_count_in_8 : tie.Need-array-copy-out-count-in-8
+array_copy_out_count_in_8 c = omega arith
 
-count-in-requires-8 : tie.Need-count-in-requires-8
-count-in-requires-8 c κs = tt
+count_in_requires_8 : tie.Need-count-in-requires-8
+count_in_requires_8 c κs = tt
 
 -- what each call of `count_in` gives
 module _ (eight : tie.After-count-in8) where
@@ -83,63 +83,63 @@ module _ (eight : tie.After-count-in8) where
   abbrev numbers : List ℤ
   numbers = one.before.before.args.t1
 
-  hold-is : one.count-in.result ≡ countIn (number_at numbers 1)
-  hold-is = rw (back w64 (number_at numbers 1) one.before.count-in-arg.given) at one.count-in.ensures
+  hold_is : one.count-in.result ≡ count_in (number_at numbers 1)
+  hold_is = rw (back w64 (number_at numbers 1) one.before.count-in-arg.given) at one.count-in.ensures
 
-  track-is : two.count-in2.result ≡ countIn (number_at numbers 2)
-  track-is = rw (back w64 (number_at numbers 2) two.before.count-in-arg2.given) at two.count-in2.ensures
+  track_is : two.count-in2.result ≡ count_in (number_at numbers 2)
+  track_is = rw (back w64 (number_at numbers 2) two.before.count-in-arg2.given) at two.count-in2.ensures
 
-  forced-is : three.count-in3.result ≡ countIn (number_at numbers 3)
-  forced-is = rw (back w64 (number_at numbers 3) three.before.count-in-arg3.given) at three.count-in3.ensures
+  forced_is : three.count-in3.result ≡ count_in (number_at numbers 3)
+  forced_is = rw (back w64 (number_at numbers 3) three.before.count-in-arg3.given) at three.count-in3.ensures
 
-  manual-is : four.count-in4.result ≡ countIn (number_at numbers 4)
-  manual-is = rw (back w64 (number_at numbers 4) four.before.count-in-arg4.given) at four.count-in4.ensures
+  manual_is : four.count-in4.result ≡ count_in (number_at numbers 4)
+  manual_is = rw (back w64 (number_at numbers 4) four.before.count-in-arg4.given) at four.count-in4.ensures
 
-  auto-is : five.count-in5.result ≡ countIn (number_at numbers 5)
-  auto-is = rw (back w64 (number_at numbers 5) five.before.count-in-arg5.given) at five.count-in5.ensures
+  auto_is : five.count-in5.result ≡ count_in (number_at numbers 5)
+  auto_is = rw (back w64 (number_at numbers 5) five.before.count-in-arg5.given) at five.count-in5.ensures
 
-  remote-is : six.count-in6.result ≡ countIn (number_at numbers 6)
-  remote-is = rw (back w64 (number_at numbers 6) six.before.count-in-arg6.given) at six.count-in6.ensures
+  remote_is : six.count-in6.result ≡ count_in (number_at numbers 6)
+  remote_is = rw (back w64 (number_at numbers 6) six.before.count-in-arg6.given) at six.count-in6.ensures
 
-  ratio-is : seven.count-in7.result ≡ countIn (number_at numbers 7)
-  ratio-is = rw (back w64 (number_at numbers 7) seven.before.count-in-arg7.given) at seven.count-in7.ensures
+  ratio_is : seven.count-in7.result ≡ count_in (number_at numbers 7)
+  ratio_is = rw (back w64 (number_at numbers 7) seven.before.count-in-arg7.given) at seven.count-in7.ensures
 
-  fallback-is : eight.count-in8.result ≡ countIn (number_at numbers 8)
-  fallback-is = rw (back w64 (number_at numbers 8) eight.before.count-in-arg8.given) at eight.count-in8.ensures
+  fallback_is : eight.count-in8.result ≡ count_in (number_at numbers 8)
+  fallback_is = rw (back w64 (number_at numbers 8) eight.before.count-in-arg8.given) at eight.count-in8.ensures
 
 returns : tie.Need-returns
-unfolding countsIn
+unfolding counts_in
 returns c =
     let n = c.before.before.before.before.before.before.before.before in
     rw (
-      ← hold-is n,
-      ← track-is n,
-      ← forced-is n,
-      ← manual-is n,
-      ← auto-is n,
-      ← remote-is n,
-      ← ratio-is n,
-      ← fallback-is n,
+      ← hold_is n,
+      ← track_is n,
+      ← forced_is n,
+      ← manual_is n,
+      ← auto_is n,
+      ← remote_is n,
+      ← ratio_is n,
+      ← fallback_is n,
     ) refl
 
-pub counts-in-spec : {M : Type 1} → statement M
-counts-in-spec =
+pub counts_in_spec : {M : Type 1} → statement M
+counts_in_spec =
     tie.close
     (tie.spec
-    array-copy-out-count-in
-    count-in-requires
-    array-copy-out-count-in-2
-    count-in-requires-2
-    array-copy-out-count-in-3
-    count-in-requires-3
-    array-copy-out-count-in-4
-    count-in-requires-4
-    array-copy-out-count-in-5
-    count-in-requires-5
-    array-copy-out-count-in-6
-    count-in-requires-6
-    array-copy-out-count-in-7
-    count-in-requires-7
-    array-copy-out-count-in-8
-    count-in-requires-8
+    array_copy_out_count_in
+    count_in_requires
+    array_copy_out_count_in_2
+    count_in_requires_2
+    array_copy_out_count_in_3
+    count_in_requires_3
+    array_copy_out_count_in_4
+    count_in_requires_4
+    array_copy_out_count_in_5
+    count_in_requires_5
+    array_copy_out_count_in_6
+    count_in_requires_6
+    array_copy_out_count_in_7
+    count_in_requires_7
+    array_copy_out_count_in_8
+    count_in_requires_8
     returns)

@@ -6,5 +6,5 @@ use Rattle.sheet_numbers.proofs.no_numbers.Tie as tie
 returns : tie.Need-returns
 returns c = refl
 
-pub no-numbers-spec : {M : Type 1} → statement M
-no-numbers-spec = tie.close (tie.spec returns)
+pub no_numbers_spec : {M : Type 1} → statement M
+no_numbers_spec = tie.close (tie.spec returns)

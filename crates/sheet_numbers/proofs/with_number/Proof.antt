@@ -7,11 +7,11 @@ use Rattle.sheet_numbers.specs.Numbers.{with_number}
 use Rattle.sheet_numbers.proofs.with_number.Statement.{statement}
 use Rattle.sheet_numbers.proofs.with_number.Tie as tie
 
-mul-numbers : tie.Need-overflow-mul-numbers
-mul-numbers c = search rules
+mul_numbers : tie.Need-overflow-mul-numbers
+mul_numbers c = search rules
 
-array-set-from-numbers : tie.Need-array-set-from-numbers
-array-set-from-numbers c = search rules
+array_set_from_numbers : tie.Need-array-set-from-numbers
+array_set_from_numbers c = search rules
 
 returns : tie.Need-returns
 unfolding with_number
@@ -19,9 +19,9 @@ returns c =
     let s = c.before in
     rw (lt-ltb s.args.place 16 c.if1.true, to_z-of_z s.ranges.value) refl
 
-returns-2 : tie.Need-returns-2
+returns_2 : tie.Need-returns-2
 unfolding with_number
-returns-2 c = rw (le-ltb c.before.args.place 16 c.if1.false) refl
+returns_2 c = rw (le-ltb c.before.args.place 16 c.if1.false) refl
 
-pub with-number-spec : {M : Type 1} → statement M
-with-number-spec = tie.close (tie.spec mul-numbers array-set-from-numbers returns returns-2)
+pub with_number_spec : {M : Type 1} → statement M
+with_number_spec = tie.close (tie.spec mul_numbers array_set_from_numbers returns returns_2)

@@ -3,127 +3,127 @@ use mathlib.Core.Path.{refl}
 use Rattle.sheet_session.proofs.last_after.Statement.{statement}
 use Rattle.sheet_session.proofs.last_after.Tie as tie
 
-enum-known-reply : tie.Need-enum-known-reply
-enum-known-reply c = c.match.keys1
+enum_known_reply : tie.Need-enum-known-reply
+enum_known_reply c = c.match.keys1
 
 enum_told : tie.Need-enum-told
 enum_told c = c.match.keys2
 
-enum-told-2 : tie.Need-enum-told-2
-enum-told-2 c = c.match.keys3
+enum_told_2 : tie.Need-enum-told-2
+enum_told_2 c = c.match.keys3
 
-enum-told-3 : tie.Need-enum-told-3
-enum-told-3 c = c.match.keys4
+enum_told_3 : tie.Need-enum-told-3
+enum_told_3 c = c.match.keys4
 
-enum-told-4 : tie.Need-enum-told-4
-enum-told-4 c = c.match.keys5
+enum_told_4 : tie.Need-enum-told-4
+enum_told_4 c = c.match.keys5
 
-enum-told-5 : tie.Need-enum-told-5
-enum-told-5 c = c.match.keys6
+enum_told_5 : tie.Need-enum-told-5
+enum_told_5 c = c.match.keys6
 
-enum-told-6 : tie.Need-enum-told-6
-enum-told-6 c = c.match.keys7
+enum_told_6 : tie.Need-enum-told-6
+enum_told_6 c = c.match.keys7
 
-enum-told-7 : tie.Need-enum-told-7
-enum-told-7 c = c.match.keys8
+enum_told_7 : tie.Need-enum-told-7
+enum_told_7 c = c.match.keys8
 
-enum-told-8 : tie.Need-enum-told-8
-enum-told-8 c = c.match.keys9
+enum_told_8 : tie.Need-enum-told-8
+enum_told_8 c = c.match.keys9
 
-enum-told-9 : tie.Need-enum-told-9
-enum-told-9 c = c.match.keys10
+enum_told_9 : tie.Need-enum-told-9
+enum_told_9 c = c.match.keys10
 
-enum-told-10 : tie.Need-enum-told-10
-enum-told-10 c = c.match.keys11
+enum_told_10 : tie.Need-enum-told-10
+enum_told_10 c = c.match.keys11
 
-enum-told-11 : tie.Need-enum-told-11
-enum-told-11 c = c.match.keys12
+enum_told_11 : tie.Need-enum-told-11
+enum_told_11 c = c.match.keys12
 
-enum-told-12 : tie.Need-enum-told-12
-enum-told-12 c = c.match.keys13
+enum_told_12 : tie.Need-enum-told-12
+enum_told_12 c = c.match.keys13
 
-enum-told-13 : tie.Need-enum-told-13
-enum-told-13 c = c.match.keys14
+enum_told_13 : tie.Need-enum-told-13
+enum_told_13 c = c.match.keys14
 
-enum-told-14 : tie.Need-enum-told-14
-enum-told-14 c = c.match.keys15
+enum_told_14 : tie.Need-enum-told-14
+enum_told_14 c = c.match.keys15
 
 returns : tie.Need-returns
 returns c = rw c.before.reply.given.1 refl
 
-returns-2 : tie.Need-returns-2
-returns-2 c = rw c.enum_told.given.1 refl
+returns_2 : tie.Need-returns-2
+returns_2 c = rw c.enum_told.given.1 refl
 
-returns-3 : tie.Need-returns-3
-returns-3 c = rw c.enum-told2.given.1 refl
+returns_3 : tie.Need-returns-3
+returns_3 c = rw c.enum-told2.given.1 refl
 
-returns-4 : tie.Need-returns-4
-returns-4 c = rw c.enum-told3.given.1 refl
+returns_4 : tie.Need-returns-4
+returns_4 c = rw c.enum-told3.given.1 refl
 
-returns-5 : tie.Need-returns-5
-returns-5 c = rw c.enum-told4.given.1 refl
+returns_5 : tie.Need-returns-5
+returns_5 c = rw c.enum-told4.given.1 refl
 
-returns-6 : tie.Need-returns-6
-returns-6 c = rw c.enum-told5.given.1 refl
+returns_6 : tie.Need-returns-6
+returns_6 c = rw c.enum-told5.given.1 refl
 
-returns-7 : tie.Need-returns-7
-returns-7 c = rw c.enum-told6.given.1 refl
+returns_7 : tie.Need-returns-7
+returns_7 c = rw c.enum-told6.given.1 refl
 
-returns-8 : tie.Need-returns-8
-returns-8 c = rw c.enum-told7.given.1 refl
+returns_8 : tie.Need-returns-8
+returns_8 c = rw c.enum-told7.given.1 refl
 
-returns-9 : tie.Need-returns-9
-returns-9 c = rw c.enum-told8.given.1 refl
+returns_9 : tie.Need-returns-9
+returns_9 c = rw c.enum-told8.given.1 refl
 
-returns-10 : tie.Need-returns-10
-returns-10 c = rw c.enum-told9.given.1 refl
+returns_10 : tie.Need-returns-10
+returns_10 c = rw c.enum-told9.given.1 refl
 
-returns-11 : tie.Need-returns-11
-returns-11 c = rw c.enum-told10.given.1 refl
+returns_11 : tie.Need-returns-11
+returns_11 c = rw c.enum-told10.given.1 refl
 
-returns-12 : tie.Need-returns-12
-returns-12 c = rw c.enum-told11.given.1 refl
+returns_12 : tie.Need-returns-12
+returns_12 c = rw c.enum-told11.given.1 refl
 
-returns-13 : tie.Need-returns-13
-returns-13 c = rw c.enum-told12.given.1 refl
+returns_13 : tie.Need-returns-13
+returns_13 c = rw c.enum-told12.given.1 refl
 
-returns-14 : tie.Need-returns-14
-returns-14 c = rw c.enum-told13.given.1 refl
+returns_14 : tie.Need-returns-14
+returns_14 c = rw c.enum-told13.given.1 refl
 
-returns-15 : tie.Need-returns-15
-returns-15 c = rw c.enum-told14.given.1 refl
+returns_15 : tie.Need-returns-15
+returns_15 c = rw c.enum-told14.given.1 refl
 
-pub last-after-spec : {M : Type 1} → statement M
-last-after-spec =
+pub last_after_spec : {M : Type 1} → statement M
+last_after_spec =
     tie.close
     (tie.spec
-    enum-known-reply
+    enum_known_reply
     enum_told
-    enum-told-2
-    enum-told-3
-    enum-told-4
-    enum-told-5
-    enum-told-6
-    enum-told-7
-    enum-told-8
-    enum-told-9
-    enum-told-10
-    enum-told-11
-    enum-told-12
-    enum-told-13
-    enum-told-14
+    enum_told_2
+    enum_told_3
+    enum_told_4
+    enum_told_5
+    enum_told_6
+    enum_told_7
+    enum_told_8
+    enum_told_9
+    enum_told_10
+    enum_told_11
+    enum_told_12
+    enum_told_13
+    enum_told_14
     returns
-    returns-2
-    returns-3
-    returns-4
-    returns-5
-    returns-6
-    returns-7
-    returns-8
-    returns-9
-    returns-10
-    returns-11
-    returns-12
-    returns-13
-    returns-14
-    returns-15)
+    returns_2
+    returns_3
+    returns_4
+    returns_5
+    returns_6
+    returns_7
+    returns_8
+    returns_9
+    returns_10
+    returns_11
+    returns_12
+    returns_13
+    returns_14
+    returns_15)

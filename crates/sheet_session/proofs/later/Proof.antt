@@ -7,14 +7,14 @@ use Rattle.sheet_session.proofs.later.Tie as tie
 enum_told : tie.Need-enum-told
 enum_told c = search rules
 
-enum-known-last : tie.Need-enum-known-last
-enum-known-last c = search rules
+enum_known_last : tie.Need-enum-known-last
+enum_known_last c = search rules
 
 returns : tie.Need-returns
 returns c = search rules
 
-returns-2 : tie.Need-returns-2
-returns-2 c = rw c.before.last.given.1 refl
+returns_2 : tie.Need-returns-2
+returns_2 c = rw c.before.last.given.1 refl
 
-pub later-spec : {M : Type 1} → statement M
-later-spec = tie.close (tie.spec enum_told enum-known-last returns returns-2)
+pub later_spec : {M : Type 1} → statement M
+later_spec = tie.close (tie.spec enum_told enum_known_last returns returns_2)

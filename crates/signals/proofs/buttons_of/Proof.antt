@@ -1,29 +1,29 @@
 -- `signals::buttons_of` meets its contract.
 use borrow.Author.Rules.{rules}
-use Rattle.signals.specs.Signals.{buttonsOf}
+use Rattle.signals.specs.Signals.{buttons_of}
 use Rattle.signals.proofs.buttons_of.Statement.{statement}
 use Rattle.signals.proofs.buttons_of.Tie as tie
 
-bit-requires : tie.Need-bit-requires
-bit-requires c κs = search rules
+bit_requires : tie.Need-bit-requires
+bit_requires c κs = search rules
 
-bit-requires-2 : tie.Need-bit-requires-2
-bit-requires-2 c κs = search rules
+bit_requires_2 : tie.Need-bit-requires-2
+bit_requires_2 c κs = search rules
 
-bit-requires-3 : tie.Need-bit-requires-3
-bit-requires-3 c κs = search rules
+bit_requires_3 : tie.Need-bit-requires-3
+bit_requires_3 c κs = search rules
 
-bit-requires-4 : tie.Need-bit-requires-4
-bit-requires-4 c κs = search rules
+bit_requires_4 : tie.Need-bit-requires-4
+bit_requires_4 c κs = search rules
 
-bit-requires-5 : tie.Need-bit-requires-5
-bit-requires-5 c κs = search rules
+bit_requires_5 : tie.Need-bit-requires-5
+bit_requires_5 c κs = search rules
 
-bit-requires-6 : tie.Need-bit-requires-6
-bit-requires-6 c κs = search rules
+bit_requires_6 : tie.Need-bit-requires-6
+bit_requires_6 c κs = search rules
 
 returns : tie.Need-returns
-unfolding buttonsOf
+unfolding buttons_of
 returns c =
     let earlier = c.before.before.before in
     simp (
@@ -35,14 +35,14 @@ returns c =
       earlier.before.before.bit.ensures,
     )
 
-pub buttons-of-spec : {M : Type 1} → statement M
-buttons-of-spec =
+pub buttons_of_spec : {M : Type 1} → statement M
+buttons_of_spec =
     tie.close
     (tie.spec
-    bit-requires
-    bit-requires-2
-    bit-requires-3
-    bit-requires-4
-    bit-requires-5
-    bit-requires-6
+    bit_requires
+    bit_requires_2
+    bit_requires_3
+    bit_requires_4
+    bit_requires_5
+    bit_requires_6
     returns)

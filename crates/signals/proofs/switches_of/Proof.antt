@@ -1,35 +1,35 @@
 -- `signals::switches_of` meets its contract.
 use borrow.Author.Rules.{rules}
-use Rattle.signals.specs.Signals.{switchesOf}
+use Rattle.signals.specs.Signals.{switches_of}
 use Rattle.signals.proofs.switches_of.Statement.{statement}
 use Rattle.signals.proofs.switches_of.Tie as tie
 
-bit-requires : tie.Need-bit-requires
-bit-requires c κs = search rules
+bit_requires : tie.Need-bit-requires
+bit_requires c κs = search rules
 
-bit-requires-2 : tie.Need-bit-requires-2
-bit-requires-2 c κs = search rules
+bit_requires_2 : tie.Need-bit-requires-2
+bit_requires_2 c κs = search rules
 
-bit-requires-3 : tie.Need-bit-requires-3
-bit-requires-3 c κs = search rules
+bit_requires_3 : tie.Need-bit-requires-3
+bit_requires_3 c κs = search rules
 
-bit-requires-4 : tie.Need-bit-requires-4
-bit-requires-4 c κs = search rules
+bit_requires_4 : tie.Need-bit-requires-4
+bit_requires_4 c κs = search rules
 
-bit-requires-5 : tie.Need-bit-requires-5
-bit-requires-5 c κs = search rules
+bit_requires_5 : tie.Need-bit-requires-5
+bit_requires_5 c κs = search rules
 
-bit-requires-6 : tie.Need-bit-requires-6
-bit-requires-6 c κs = search rules
+bit_requires_6 : tie.Need-bit-requires-6
+bit_requires_6 c κs = search rules
 
-bit-requires-7 : tie.Need-bit-requires-7
-bit-requires-7 c κs = search rules
+bit_requires_7 : tie.Need-bit-requires-7
+bit_requires_7 c κs = search rules
 
-bit-requires-8 : tie.Need-bit-requires-8
-bit-requires-8 c κs = search rules
+bit_requires_8 : tie.Need-bit-requires-8
+bit_requires_8 c κs = search rules
 
 returns : tie.Need-returns
-unfolding switchesOf
+unfolding switches_of
 returns c =
     let earlier = c.before.before.before.before in
     simp (
@@ -43,16 +43,16 @@ returns c =
       earlier.before.before.before.bit.ensures,
     )
 
-pub switches-of-spec : {M : Type 1} → statement M
-switches-of-spec =
+pub switches_of_spec : {M : Type 1} → statement M
+switches_of_spec =
     tie.close
     (tie.spec
-    bit-requires
-    bit-requires-2
-    bit-requires-3
-    bit-requires-4
-    bit-requires-5
-    bit-requires-6
-    bit-requires-7
-    bit-requires-8
+    bit_requires
+    bit_requires_2
+    bit_requires_3
+    bit_requires_4
+    bit_requires_5
+    bit_requires_6
+    bit_requires_7
+    bit_requires_8
     returns)

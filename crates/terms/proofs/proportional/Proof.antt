@@ -6,45 +6,45 @@ use mir.Facts.{to_z-of_z}
 use mir.Syntax.{w64}
 use borrow.Author.Rules.{rules}
 use Rattle.integers.specs.Machine.{back}
-use Rattle.terms.specs.TermLaws.{band-some, proportional-parts}
-use Rattle.terms.specs.Terms.{storedTerm}
+use Rattle.terms.specs.TermLaws.{band_some, proportional_parts}
+use Rattle.terms.specs.Terms.{stored_term}
 use Rattle.terms.proofs.proportional.Statement.{statement}
 use Rattle.terms.proofs.proportional.Tie as tie
 
-magnitude-requires : tie.Need-magnitude-requires
-magnitude-requires c κs = search rules
+magnitude_requires : tie.Need-magnitude-requires
+magnitude_requires c κs = search rules
 
 size_is : (c : tie.After-magnitude) → c.magnitude.result ≡ nat_abs c.before.args.change
 size_is c = simp (to_z-of_z, c.before.ranges.change) at c.magnitude.ensures
 
-mul-numerator : tie.Need-overflow-mul-numerator
-mul-numerator c = omega (arith, size_is c)
+mul_numerator : tie.Need-overflow-mul-numerator
+mul_numerator c = omega (arith, size_is c)
 
-negative-requires : tie.Need-negative-requires
-negative-requires c κs = search rules
+negative_requires : tie.Need-negative-requires
+negative_requires c κs = search rules
 
-band-requires : tie.Need-band-requires
-band-requires c κs = search rules
+band_requires : tie.Need-band-requires
+band_requires c κs = search rules
 
-stored-term-requires : tie.Need-stored-term-requires
-stored-term-requires c κs =
+stored_term_requires : tie.Need-stored-term-requires
+stored_term_requires c κs =
     let s = c.before.before.before in
-    omega (arith, size_is c.before.before, c.band.ensures, band-some s.args.t s.requires.0)
+    omega (arith, size_is c.before.before, c.band.ensures, band_some s.args.t s.requires.0)
 
 returns : tie.Need-returns
 returns c =
     let s = c.before.before.before.before in
     back w64 _ c.stored-term.type-inv ∙ c.stored-term.ensures ∙
     simp (c.before.band.ensures, c.before.before.negative.ensures, size_is c.before.before.before, to_z-of_z s.ranges.change)
-    (ap storedTerm (proportional-parts s.args.t s.args.change))
+    (ap stored_term (proportional_parts s.args.t s.args.change))
 
-pub proportional-spec : {M : Type 1} → statement M
-proportional-spec =
+pub proportional_spec : {M : Type 1} → statement M
+proportional_spec =
     tie.close
     (tie.spec
-    magnitude-requires
-    mul-numerator
-    negative-requires
-    band-requires
-    stored-term-requires
+    magnitude_requires
+    mul_numerator
+    negative_requires
+    band_requires
+    stored_term_requires
     returns)

@@ -5,8 +5,8 @@ use Rattle.terms.proofs.scan_denominator.Tie as tie
 returns : tie.Need-returns
 returns c = simp c.if1.true
 
-returns-2 : tie.Need-returns-2
-returns-2 c = simp c.if1.false
+returns_2 : tie.Need-returns-2
+returns_2 c = simp c.if1.false
 
-pub scan-denominator-spec : {M : Type 1} → statement M
-scan-denominator-spec = tie.close (tie.spec returns returns-2)
+pub scan_denominator_spec : {M : Type 1} → statement M
+scan_denominator_spec = tie.close (tie.spec returns returns_2)

@@ -1,23 +1,23 @@
 -- `words::ds_low` meets its contract.
 use borrow.Author.Rules.{rules}
-use Rattle.words.specs.Words.{dsLow}
+use Rattle.words.specs.Words.{ds_low}
 use Rattle.words.proofs.ds_low.Statement.{statement}
 use Rattle.words.proofs.ds_low.Tie as tie
 
-is-cause-requires : tie.Need-is-cause-requires
-is-cause-requires c κs = search rules
+is_cause_requires : tie.Need-is-cause-requires
+is_cause_requires c κs = search rules
 
-ds-bit-5-requires : tie.Need-ds-bit-5-requires
-ds-bit-5-requires c κs = search rules
+ds_bit_5_requires : tie.Need-ds-bit-5-requires
+ds_bit_5_requires c κs = search rules
 
-ds-bit-4-requires : tie.Need-ds-bit-4-requires
-ds-bit-4-requires c κs = search rules
+ds_bit_4_requires : tie.Need-ds-bit-4-requires
+ds_bit_4_requires c κs = search rules
 
-byte-requires : tie.Need-byte-requires
-byte-requires c κs = search rules
+byte_requires : tie.Need-byte-requires
+byte_requires c κs = search rules
 
 returns : tie.Need-returns
-unfolding dsLow
+unfolding ds_low
 returns c =
     let bits = c.before.before.before.before in (
       simp (
@@ -29,6 +29,6 @@ returns c =
       c.byte.ensures.1,
     )
 
-pub ds-low-spec : {M : Type 1} → statement M
-ds-low-spec =
-    tie.close (tie.spec is-cause-requires ds-bit-5-requires ds-bit-4-requires byte-requires returns)
+pub ds_low_spec : {M : Type 1} → statement M
+ds_low_spec =
+    tie.close (tie.spec is_cause_requires ds_bit_5_requires ds_bit_4_requires byte_requires returns)

@@ -1,23 +1,23 @@
 -- `words::md_high` meets its contract.
 use borrow.Author.Rules.{rules}
-use Rattle.words.specs.Words.{mdHigh}
+use Rattle.words.specs.Words.{md_high}
 use Rattle.words.proofs.md_high.Statement.{statement}
 use Rattle.words.proofs.md_high.Tie as tie
 
-mode-bit-requires : tie.Need-mode-bit-requires
-mode-bit-requires c κs = search rules
+mode_bit_requires : tie.Need-mode-bit-requires
+mode_bit_requires c κs = search rules
 
-pins-of-requires : tie.Need-pins-of-requires
-pins-of-requires c κs = search rules
+pins_of_requires : tie.Need-pins-of-requires
+pins_of_requires c κs = search rules
 
-is-open-cause-requires : tie.Need-is-open-cause-requires
-is-open-cause-requires c κs = search rules
+is_open_cause_requires : tie.Need-is-open-cause-requires
+is_open_cause_requires c κs = search rules
 
-byte-requires : tie.Need-byte-requires
-byte-requires c κs = search rules
+byte_requires : tie.Need-byte-requires
+byte_requires c κs = search rules
 
 returns : tie.Need-returns
-unfolding mdHigh
+unfolding md_high
 returns c = (
   simp (
     c.byte.ensures.0,
@@ -28,7 +28,7 @@ returns c = (
   c.byte.ensures.1,
 )
 
-pub md-high-spec : {M : Type 1} → statement M
-md-high-spec =
+pub md_high_spec : {M : Type 1} → statement M
+md_high_spec =
     tie.close
-    (tie.spec mode-bit-requires pins-of-requires is-open-cause-requires byte-requires returns)
+    (tie.spec mode_bit_requires pins_of_requires is_open_cause_requires byte_requires returns)

@@ -1,33 +1,33 @@
 -- `words::nibble` meets its contract.
 use native.Mathlib.Omega.{arith}
 use borrow.Author.Rules.{rules}
-use Rattle.words.specs.Words.{nibbleOf}
+use Rattle.words.specs.Words.{nibble_of}
 use Rattle.words.proofs.nibble.Statement.{statement}
 use Rattle.words.proofs.nibble.Tie as tie
 
-weight-requires : tie.Need-weight-requires
-weight-requires c κs = search rules
+weight_requires : tie.Need-weight-requires
+weight_requires c κs = search rules
 
-weight-requires-2 : tie.Need-weight-requires-2
-weight-requires-2 c κs = search rules
+weight_requires_2 : tie.Need-weight-requires-2
+weight_requires_2 c κs = search rules
 
-add-result : tie.Need-overflow-add-result
-add-result c = search rules
+add_result : tie.Need-overflow-add-result
+add_result c = search rules
 
-weight-requires-3 : tie.Need-weight-requires-3
-weight-requires-3 c κs = search rules
+weight_requires_3 : tie.Need-weight-requires-3
+weight_requires_3 c κs = search rules
 
-add-result-2 : tie.Need-overflow-add-result-2
-add-result-2 c = search rules
+add_result_2 : tie.Need-overflow-add-result-2
+add_result_2 c = search rules
 
-weight-requires-4 : tie.Need-weight-requires-4
-weight-requires-4 c κs = search rules
+weight_requires_4 : tie.Need-weight-requires-4
+weight_requires_4 c κs = search rules
 
-add-result-3 : tie.Need-overflow-add-result-3
-add-result-3 c = search rules
+add_result_3 : tie.Need-overflow-add-result-3
+add_result_3 c = search rules
 
 returns : tie.Need-returns
-unfolding nibbleOf
+unfolding nibble_of
 returns c = (
   simp (
     c.weight4.ensures.0,
@@ -38,15 +38,15 @@ returns c = (
   omega arith,
 )
 
-pub nibble-spec : {M : Type 1} → statement M
-nibble-spec =
+pub nibble_spec : {M : Type 1} → statement M
+nibble_spec =
     tie.close
     (tie.spec
-    weight-requires
-    weight-requires-2
-    add-result
-    weight-requires-3
-    add-result-2
-    weight-requires-4
-    add-result-3
+    weight_requires
+    weight_requires_2
+    add_result
+    weight_requires_3
+    add_result_2
+    weight_requires_4
+    add_result_3
     returns)

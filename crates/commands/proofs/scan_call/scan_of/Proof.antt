@@ -4,75 +4,75 @@ use lib.IntN.{ℤ}
 use mathlib.Core.List.{List}
 use mir.Syntax.{w64}
 use Rattle.integers.specs.Machine.{back}
-use Rattle.text.specs.Arguments.{argument, naturalIn}
-use Rattle.commands.specs.Commands.{scanOf}
+use Rattle.text.specs.Arguments.{argument, natural_in}
+use Rattle.commands.specs.Commands.{scan_of}
 use native.Mathlib.Omega.{arith}
 use Rattle.commands.proofs.scan_call.scan_of.Statement.{statement}
 use Rattle.commands.proofs.scan_call.scan_of.Tie as tie
 
-array-copy-out-natural-in : tie.Need-array-copy-out-natural-in
-array-copy-out-natural-in c = omega arith
+array_copy_out_natural_in : tie.Need-array-copy-out-natural-in
+array_copy_out_natural_in c = omega arith
 
-natural-in-requires : tie.Need-natural-in-requires
-natural-in-requires c κs = tt
+natural_in_requires : tie.Need-natural-in-requires
+natural_in_requires c κs = tt
 
-array-copy-out-natural-in-2 : tie.Need-array-copy-out-natural-in-2
-array-copy-out-natural-in-2 c = omega arith
+array_copy_out_natural_in_2 : tie.Need-array-copy-out-natural-in-2
+array_copy_out_natural_in_2 c = omega arith
 
-natural-in-requires-2 : tie.Need-natural-in-requires-2
-natural-in-requires-2 c κs = tt
+natural_in_requires_2 : tie.Need-natural-in-requires-2
+natural_in_requires_2 c κs = tt
 
-array-copy-out-natural-in-3 : tie.Need-array-copy-out-natural-in-3
-array-copy-out-natural-in-3 c = omega arith
+array_copy_out_natural_in_3 : tie.Need-array-copy-out-natural-in-3
+array_copy_out_natural_in_3 c = omega arith
 
-natural-in-requires-3 : tie.Need-natural-in-requires-3
-natural-in-requires-3 c κs = tt
+natural_in_requires_3 : tie.Need-natural-in-requires-3
+natural_in_requires_3 c κs = tt
 
-array-copy-out-natural-in-4 : tie.Need-array-copy-out-natural-in-4
-array-copy-out-natural-in-4 c = omega arith
+array_copy_out_natural_in_4 : tie.Need-array-copy-out-natural-in-4
+array_copy_out_natural_in_4 c = omega arith
 
-natural-in-requires-4 : tie.Need-natural-in-requires-4
-natural-in-requires-4 c κs = tt
+natural_in_requires_4 : tie.Need-natural-in-requires-4
+natural_in_requires_4 c κs = tt
 
-array-copy-out-natural-in-5 : tie.Need-array-copy-out-natural-in-5
-array-copy-out-natural-in-5 c = omega arith
+array_copy_out_natural_in_5 : tie.Need-array-copy-out-natural-in-5
+array_copy_out_natural_in_5 c = omega arith
 
-natural-in-requires-5 : tie.Need-natural-in-requires-5
-natural-in-requires-5 c κs = tt
+natural_in_requires_5 : tie.Need-natural-in-requires-5
+natural_in_requires_5 c κs = tt
 
-array-copy-out-natural-in-6 : tie.Need-array-copy-out-natural-in-6
-array-copy-out-natural-in-6 c = omega arith
+array_copy_out_natural_in_6 : tie.Need-array-copy-out-natural-in-6
+array_copy_out_natural_in_6 c = omega arith
 
-natural-in-requires-6 : tie.Need-natural-in-requires-6
-natural-in-requires-6 c κs = tt
+natural_in_requires_6 : tie.Need-natural-in-requires-6
+natural_in_requires_6 c κs = tt
 
-cast-t28 : tie.Need-overflow-cast-t28
-cast-t28 c =
+cast_t28 : tie.Need-overflow-cast-t28
+cast_t28 c =
     let six = c.before.before.before.before.before.before.before.before in
     omega (arith, six.before.before.before.before.before.before.before.before.before.before.natural-in.ensures.2)
 
-cast-t29 : tie.Need-overflow-cast-t29
-cast-t29 c =
+cast_t29 : tie.Need-overflow-cast-t29
+cast_t29 c =
     let six = c.before.before.before.before.before.before.before.before.before in
     omega (arith, six.before.before.before.before.before.before.before.before.natural-in2.ensures.2)
 
-cast-t30 : tie.Need-overflow-cast-t30
-cast-t30 c =
+cast_t30 : tie.Need-overflow-cast-t30
+cast_t30 c =
     let six = c.before.before.before.before.before.before.before.before.before.before in
     omega (arith, six.before.before.before.before.before.before.natural-in3.ensures.2)
 
-cast-t31 : tie.Need-overflow-cast-t31
-cast-t31 c =
+cast_t31 : tie.Need-overflow-cast-t31
+cast_t31 c =
     let six = c.before.before.before.before.before.before.before.before.before.before.before in
     omega (arith, six.before.before.before.before.natural-in4.ensures.2)
 
-cast-t32 : tie.Need-overflow-cast-t32
-cast-t32 c =
+cast_t32 : tie.Need-overflow-cast-t32
+cast_t32 c =
     let six = c.before.before.before.before.before.before.before.before.before.before.before.before in
     omega (arith, six.before.before.natural-in5.ensures.2)
 
-cast-t33 : tie.Need-overflow-cast-t33
-cast-t33 c =
+cast_t33 : tie.Need-overflow-cast-t33
+cast_t33 c =
     let six = c.before.before.before.before.before.before.before.before.before.before.before.before.before in
     omega (arith, six.natural-in6.ensures.2)
 
@@ -96,58 +96,58 @@ module _ (six : tie.After-natural-in6) where
   abbrev values : List ℤ
   values = one.before.before.args.t1
 
-  pins-is : one.natural-in.result ≡ naturalIn (argument values 0) 0 255
-  pins-is = rw (back w64 (argument values 0) one.before.natural-in-arg.given) at one.natural-in.ensures.0
+  pins_is : one.natural-in.result ≡ natural_in (argument values 0) 0 255
+  pins_is = rw (back w64 (argument values 0) one.before.natural-in-arg.given) at one.natural-in.ensures.0
 
-  sample1-is : two.natural-in2.result ≡ naturalIn (argument values 1) 0 65535
-  sample1-is = rw (back w64 (argument values 1) two.before.natural-in-arg2.given) at two.natural-in2.ensures.0
+  sample1_is : two.natural-in2.result ≡ natural_in (argument values 1) 0 65535
+  sample1_is = rw (back w64 (argument values 1) two.before.natural-in-arg2.given) at two.natural-in2.ensures.0
 
-  sample2-is : three.natural-in3.result ≡ naturalIn (argument values 2) 0 65535
-  sample2-is = rw (back w64 (argument values 2) three.before.natural-in-arg3.given) at three.natural-in3.ensures.0
+  sample2_is : three.natural-in3.result ≡ natural_in (argument values 2) 0 65535
+  sample2_is = rw (back w64 (argument values 2) three.before.natural-in-arg3.given) at three.natural-in3.ensures.0
 
-  sample3-is : four.natural-in4.result ≡ naturalIn (argument values 3) 0 65535
-  sample3-is = rw (back w64 (argument values 3) four.before.natural-in-arg4.given) at four.natural-in4.ensures.0
+  sample3_is : four.natural-in4.result ≡ natural_in (argument values 3) 0 65535
+  sample3_is = rw (back w64 (argument values 3) four.before.natural-in-arg4.given) at four.natural-in4.ensures.0
 
-  buttons-is : five.natural-in5.result ≡ naturalIn (argument values 4) 0 255
-  buttons-is = rw (back w64 (argument values 4) five.before.natural-in-arg5.given) at five.natural-in5.ensures.0
+  buttons_is : five.natural-in5.result ≡ natural_in (argument values 4) 0 255
+  buttons_is = rw (back w64 (argument values 4) five.before.natural-in-arg5.given) at five.natural-in5.ensures.0
 
-  sensors-is : six.natural-in6.result ≡ naturalIn (argument values 5) 0 255
-  sensors-is = rw (back w64 (argument values 5) six.before.natural-in-arg6.given) at six.natural-in6.ensures.0
+  sensors_is : six.natural-in6.result ≡ natural_in (argument values 5) 0 255
+  sensors_is = rw (back w64 (argument values 5) six.before.natural-in-arg6.given) at six.natural-in6.ensures.0
 
 returns : tie.Need-returns
-unfolding scanOf
+unfolding scan_of
 returns c =
     let n = c.before.before.before.before.before.before.before.before.before.before.before.before.before in
     let test = c.before.before.before.before.before.before in
-    rw (← pins-is n, ← sample1-is n, ← sample2-is n, ← sample3-is n, ← buttons-is n, ← sensors-is n, test.if1.true) refl
+    rw (← pins_is n, ← sample1_is n, ← sample2_is n, ← sample3_is n, ← buttons_is n, ← sensors_is n, test.if1.true) refl
 
-returns-2 : tie.Need-returns-2
-unfolding scanOf
-returns-2 c =
+returns_2 : tie.Need-returns-2
+unfolding scan_of
+returns_2 c =
     let n = c.before.before.before.before.before.before.before in
-    rw (← pins-is n, ← sample1-is n, ← sample2-is n, ← sample3-is n, ← buttons-is n, ← sensors-is n, c.if1.false) refl
+    rw (← pins_is n, ← sample1_is n, ← sample2_is n, ← sample3_is n, ← buttons_is n, ← sensors_is n, c.if1.false) refl
 
-pub scan-of-spec : {M : Type 1} → statement M
-scan-of-spec =
+pub scan_of_spec : {M : Type 1} → statement M
+scan_of_spec =
     tie.close
     (tie.spec
-    array-copy-out-natural-in
-    natural-in-requires
-    array-copy-out-natural-in-2
-    natural-in-requires-2
-    array-copy-out-natural-in-3
-    natural-in-requires-3
-    array-copy-out-natural-in-4
-    natural-in-requires-4
-    array-copy-out-natural-in-5
-    natural-in-requires-5
-    array-copy-out-natural-in-6
-    natural-in-requires-6
-    cast-t28
-    cast-t29
-    cast-t30
-    cast-t31
-    cast-t32
-    cast-t33
+    array_copy_out_natural_in
+    natural_in_requires
+    array_copy_out_natural_in_2
+    natural_in_requires_2
+    array_copy_out_natural_in_3
+    natural_in_requires_3
+    array_copy_out_natural_in_4
+    natural_in_requires_4
+    array_copy_out_natural_in_5
+    natural_in_requires_5
+    array_copy_out_natural_in_6
+    natural_in_requires_6
+    cast_t28
+    cast_t29
+    cast_t30
+    cast_t31
+    cast_t32
+    cast_t33
     returns
-    returns-2)
+    returns_2)

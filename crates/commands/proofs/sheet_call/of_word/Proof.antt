@@ -1,29 +1,29 @@
 -- `commands::sheet_call::of_word` meets its contract.
 use mathlib.Core.Path.{refl, sym, ap, ◌∙◌}
-use Rattle.commands.specs.Commands.{calculationCommand, sheetCommand}
+use Rattle.commands.specs.Commands.{calculation_command, sheet_command}
 use Rattle.commands.proofs.sheet_call.of_word.Statement.{statement}
 use Rattle.commands.proofs.sheet_call.of_word.Tie as tie
 
-slice-aggregate-is-call : tie.Need-slice-aggregate-is-call
-slice-aggregate-is-call c = refl
+slice_aggregate_is_call : tie.Need-slice-aggregate-is-call
+slice_aggregate_is_call c = refl
 
-is-call-requires : tie.Need-is-call-requires
-is-call-requires c κs = tt
+is_call_requires : tie.Need-is-call-requires
+is_call_requires c κs = tt
 
 returns : tie.Need-returns
-unfolding sheetCommand
+unfolding sheet_command
 returns c =
     rw (sym c.before.is_call.ensures ∙ c.if1.true) refl
 
-slice-aggregate-is-call-2 : tie.Need-slice-aggregate-is-call-2
-slice-aggregate-is-call-2 c = refl
+slice_aggregate_is_call_2 : tie.Need-slice-aggregate-is-call-2
+slice_aggregate_is_call_2 c = refl
 
-is-call-requires-2 : tie.Need-is-call-requires-2
-is-call-requires-2 c κs = tt
+is_call_requires_2 : tie.Need-is-call-requires-2
+is_call_requires_2 c κs = tt
 
-returns-2 : tie.Need-returns-2
-unfolding sheetCommand
-returns-2 c =
+returns_2 : tie.Need-returns-2
+unfolding sheet_command
+returns_2 c =
     let test2 = c in
     let test1 = test2.before.before.before in
     rw (
@@ -31,15 +31,15 @@ returns-2 c =
       sym test2.before.is-call2.ensures ∙ test2.if2.true,
     ) refl
 
-slice-aggregate-is-call-3 : tie.Need-slice-aggregate-is-call-3
-slice-aggregate-is-call-3 c = refl
+slice_aggregate_is_call_3 : tie.Need-slice-aggregate-is-call-3
+slice_aggregate_is_call_3 c = refl
 
-is-call-requires-3 : tie.Need-is-call-requires-3
-is-call-requires-3 c κs = tt
+is_call_requires_3 : tie.Need-is-call-requires-3
+is_call_requires_3 c κs = tt
 
-returns-3 : tie.Need-returns-3
-unfolding sheetCommand
-returns-3 c =
+returns_3 : tie.Need-returns-3
+unfolding sheet_command
+returns_3 c =
     let test3 = c in
     let test2 = test3.before.before.before in
     let test1 = test2.before.before.before in
@@ -49,15 +49,15 @@ returns-3 c =
       sym test3.before.is-call3.ensures ∙ test3.if3.true,
     ) refl
 
-slice-aggregate-is-call-4 : tie.Need-slice-aggregate-is-call-4
-slice-aggregate-is-call-4 c = refl
+slice_aggregate_is_call_4 : tie.Need-slice-aggregate-is-call-4
+slice_aggregate_is_call_4 c = refl
 
-is-call-requires-4 : tie.Need-is-call-requires-4
-is-call-requires-4 c κs = tt
+is_call_requires_4 : tie.Need-is-call-requires-4
+is_call_requires_4 c κs = tt
 
-returns-4 : tie.Need-returns-4
-unfolding sheetCommand
-returns-4 c =
+returns_4 : tie.Need-returns-4
+unfolding sheet_command
+returns_4 c =
     let test4 = c in
     let test3 = test4.before.before.before in
     let test2 = test3.before.before.before in
@@ -69,18 +69,18 @@ returns-4 c =
       sym test4.before.is-call4.ensures ∙ test4.if4.true,
     ) refl
 
-slice-aggregate-is-call-5 : tie.Need-slice-aggregate-is-call-5
-slice-aggregate-is-call-5 c = refl
+slice_aggregate_is_call_5 : tie.Need-slice-aggregate-is-call-5
+slice_aggregate_is_call_5 c = refl
 
-is-call-requires-5 : tie.Need-is-call-requires-5
-is-call-requires-5 c κs = tt
+is_call_requires_5 : tie.Need-is-call-requires-5
+is_call_requires_5 c κs = tt
 
-number-requires : tie.Need-number-requires
-number-requires c κs = tt
+number_requires : tie.Need-number-requires
+number_requires c κs = tt
 
-returns-5 : tie.Need-returns-5
-unfolding sheetCommand
-returns-5 c =
+returns_5 : tie.Need-returns-5
+unfolding sheet_command
+returns_5 c =
     let test5 = c.before in
     let test4 = test5.before.before.before in
     let test3 = test4.before.before.before in
@@ -94,15 +94,15 @@ returns-5 c =
       sym test5.before.is-call5.ensures ∙ test5.if5.true,
     ) c.number.ensures
 
-of-call-requires : tie.Need-of-call-requires
-of-call-requires c κs = tt
+of_call_requires : tie.Need-of-call-requires
+of_call_requires c κs = tt
 
-of-calculation-requires : tie.Need-of-calculation-requires
-of-calculation-requires c κs = tt
+of_calculation_requires : tie.Need-of-calculation-requires
+of_calculation_requires c κs = tt
 
-returns-6 : tie.Need-returns-6
-unfolding sheetCommand
-returns-6 c =
+returns_6 : tie.Need-returns-6
+unfolding sheet_command
+returns_6 c =
     let test5 = c.before.before in
     let test4 = test5.before.before.before in
     let test3 = test4.before.before.before in
@@ -114,28 +114,28 @@ returns-6 c =
       sym test3.before.is-call3.ensures ∙ test3.if3.false,
       sym test4.before.is-call4.ensures ∙ test4.if4.false,
       sym test5.before.is-call5.ensures ∙ test5.if5.false,
-    ) (c.of-calculation.ensures ∙ ap calculationCommand c.before.of-call.ensures)
+    ) (c.of-calculation.ensures ∙ ap calculation_command c.before.of-call.ensures)
 
-pub of-word-spec : {M : Type 1} → statement M
-of-word-spec =
+pub of_word_spec : {M : Type 1} → statement M
+of_word_spec =
     tie.close
     (tie.spec
-    slice-aggregate-is-call
-    is-call-requires
+    slice_aggregate_is_call
+    is_call_requires
     returns
-    slice-aggregate-is-call-2
-    is-call-requires-2
-    returns-2
-    slice-aggregate-is-call-3
-    is-call-requires-3
-    returns-3
-    slice-aggregate-is-call-4
-    is-call-requires-4
-    returns-4
-    slice-aggregate-is-call-5
-    is-call-requires-5
-    number-requires
-    returns-5
-    of-call-requires
-    of-calculation-requires
-    returns-6)
+    slice_aggregate_is_call_2
+    is_call_requires_2
+    returns_2
+    slice_aggregate_is_call_3
+    is_call_requires_3
+    returns_3
+    slice_aggregate_is_call_4
+    is_call_requires_4
+    returns_4
+    slice_aggregate_is_call_5
+    is_call_requires_5
+    number_requires
+    returns_5
+    of_call_requires
+    of_calculation_requires
+    returns_6)

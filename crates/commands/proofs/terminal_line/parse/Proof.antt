@@ -1,41 +1,41 @@
 -- `commands::terminal_line::parse` meets its contract.
-use Rattle.commands.specs.Commands.{terminalWord, terminalBytes, terminalCommand}
+use Rattle.commands.specs.Commands.{terminal_word, terminal_bytes, terminal_command}
 use borrow.Author.Rules.{rules}
 use Rattle.commands.proofs.terminal_line.parse.Statement.{statement}
 use Rattle.commands.proofs.terminal_line.parse.Tie as tie
 
-parse-requires : tie.Need-parse-requires
-parse-requires c κs = search rules
+parse_requires : tie.Need-parse-requires
+parse_requires c κs = search rules
 
-after-words-requires : tie.Need-after-words-requires
-after-words-requires c κs = search rules
+after_words_requires : tie.Need-after-words-requires
+after_words_requires c κs = search rules
 
-word-requires : tie.Need-word-requires
-word-requires c κs = search rules
+word_requires : tie.Need-word-requires
+word_requires c κs = search rules
 
-parse-requires-2 : tie.Need-parse-requires-2
-parse-requires-2 c κs = search rules
+parse_requires_2 : tie.Need-parse-requires-2
+parse_requires_2 c κs = search rules
 
-sub-parse : tie.Need-overflow-sub-parse
-sub-parse c = search rules
+sub_parse : tie.Need-overflow-sub-parse
+sub_parse c = search rules
 
-part-parse-start : tie.Need-slice-bounds-parse-start
-part-parse-start c = search rules
+part_parse_start : tie.Need-slice-bounds-parse-start
+part_parse_start c = search rules
 
-part-parse-end : tie.Need-slice-bounds-parse-end
-part-parse-end c = search rules
+part_parse_end : tie.Need-slice-bounds-parse-end
+part_parse_end c = search rules
 
-parse-requires-3 : tie.Need-parse-requires-3
-parse-requires-3 c κs = search rules
+parse_requires_3 : tie.Need-parse-requires-3
+parse_requires_3 c κs = search rules
 
-of-writer-requires : tie.Need-of-writer-requires
-of-writer-requires c κs = search rules
+of_writer_requires : tie.Need-of-writer-requires
+of_writer_requires c κs = search rules
 
 same_length : tie.Need-same-length
 same_length c = search rules
 
 returns : tie.Need-returns
-unfolding terminalCommand terminalBytes terminalWord
+unfolding terminal_command terminal_bytes terminal_word
 returns c =
     let p = c.before.before.before in
     let a = p.before.before.before in
@@ -46,18 +46,18 @@ returns c =
       rw (← second) p.parse3.ensures.1,
     )
 
-pub parse-spec : {M : Type 1} → statement M
-parse-spec =
+pub parse_spec : {M : Type 1} → statement M
+parse_spec =
     tie.close
     (tie.spec
-    parse-requires
-    after-words-requires
-    word-requires
-    parse-requires-2
-    sub-parse
-    part-parse-start
-    part-parse-end
-    parse-requires-3
-    of-writer-requires
+    parse_requires
+    after_words_requires
+    word_requires
+    parse_requires_2
+    sub_parse
+    part_parse_start
+    part_parse_end
+    parse_requires_3
+    of_writer_requires
     same_length
     returns)

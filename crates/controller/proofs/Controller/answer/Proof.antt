@@ -7,41 +7,41 @@ use Rattle.integers.specs.Machine.{back}
 use Rattle.integers.specs.Operations.{number}
 use Rattle.outputs.specs.OutputLaws.{stored_back}
 use Rattle.answers.specs.declared.ScanValues.{ScanValues}
-use Rattle.controller.specs.Answers.{op_of, electricalOf, replyOf}
-use Rattle.controller.specs.Scan.{modeNow, mdNow, dsNow, statusOf, withOutput}
+use Rattle.controller.specs.Answers.{op_of, electrical_of, reply_of}
+use Rattle.controller.specs.Scan.{mode_now, md_now, ds_now, status_of, with_output}
 use Rattle.controller.specs.declared.Answer.TheVariants.{Accepted}
 use Rattle.controller.specs.declared.Controller.{Controller}
-use Rattle.controller.specs.ValidLaws.{reading-back}
+use Rattle.controller.specs.ValidLaws.{reading_back}
 use Rattle.controller.proofs.Controller.answer.Statement.{statement}
 use Rattle.controller.proofs.Controller.answer.Tie as tie
 
-md-requires : tie.Need-md-requires
-md-requires c κs = search rules
+md_requires : tie.Need-md-requires
+md_requires c κs = search rules
 
-ds-requires : tie.Need-ds-requires
-ds-requires c κs = search rules
+ds_requires : tie.Need-ds-requires
+ds_requires c κs = search rules
 
-op-of-requires : tie.Need-op-of-requires
-op-of-requires c κs = search rules
+op_of_requires : tie.Need-op-of-requires
+op_of_requires c κs = search rules
 
-electrical-of-requires : tie.Need-electrical-of-requires
-electrical-of-requires c κs = search rules
+electrical_of_requires : tie.Need-electrical-of-requires
+electrical_of_requires c κs = search rules
 
-mode-requires : tie.Need-mode-requires
-mode-requires c κs = search rules
+mode_requires : tie.Need-mode-requires
+mode_requires c κs = search rules
 
-narrow-requires : tie.Need-narrow-requires
-narrow-requires c κs =
+narrow_requires : tie.Need-narrow-requires
+narrow_requires c κs =
     let start = c.before.before.before.before.before.before.before.before.before.before in
     let pv = start.args.self.core.readings.pv in
-    let most = start.requires.readable.pv-most in
-    simp (reading-back pv most) (omega (arith, most, number pv))
+    let most = start.requires.readable.pv_most in
+    simp (reading_back pv most) (omega (arith, most, number pv))
 
 -- values that are those of a controller make its answer
-answered : (c : Controller) (v : ScanValues) → v.md ≡ mdNow c.core → v.ds ≡ dsNow c.core → v.op ≡ op_of c.output →
-    v.electrical ≡ electricalOf c.core.sw c.output → v.mode ≡ modeNow c.core → v.pv ≡ c.core.readings.pv →
-    replyOf (Accepted v) ≡ withOutput (statusOf c.core) c.core.sw c.output
-unfolding statusOf
+answered : (c : Controller) (v : ScanValues) → v.md ≡ md_now c.core → v.ds ≡ ds_now c.core → v.op ≡ op_of c.output →
+    v.electrical ≡ electrical_of c.core.sw c.output → v.mode ≡ mode_now c.core → v.pv ≡ c.core.readings.pv →
+    reply_of (Accepted v) ≡ with_output (status_of c.core) c.core.sw c.output
+unfolding status_of
 answered c v md ds op electrical mode pv = rw (md, ds, op, electrical, mode, pv) refl
 
 returns : tie.Need-returns
@@ -53,12 +53,12 @@ returns c =
     called.before.before.before.before.before.md.ensures
     called.before.before.before.before.ds.ensures
     (called.before.before.op-of.ensures.0 ∙ ap op_of stored)
-    (called.electrical-of.ensures ∙ ap (electricalOf start.args.self.core.sw) stored)
+    (called.electrical-of.ensures ∙ ap (electrical_of start.args.self.core.sw) stored)
     c.before.before.before.mode.ensures
     (back w32 c.narrow.result c.narrow.type-inv ∙ c.narrow.ensures ∙
-    reading-back start.args.self.core.readings.pv start.requires.readable.pv-most)
+    reading_back start.args.self.core.readings.pv start.requires.readable.pv_most)
 
-pub answer-spec : {M : Type 1} → statement M
-answer-spec =
+pub answer_spec : {M : Type 1} → statement M
+answer_spec =
     tie.close
-    (tie.spec md-requires ds-requires op-of-requires electrical-of-requires mode-requires narrow-requires returns)
+    (tie.spec md_requires ds_requires op_of_requires electrical_of_requires mode_requires narrow_requires returns)

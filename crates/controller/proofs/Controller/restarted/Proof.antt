@@ -5,37 +5,37 @@ use mir.Syntax.{w64}
 use Rattle.integers.specs.Machine.{back}
 use Rattle.parameters.specs.Legal.{Legal}
 use Rattle.settings.specs.declared.Settings.{Settings}
-use Rattle.outputs.specs.Instruction.{storedArithmetic, changed, limitedTo, executed}
-use Rattle.outputs.specs.Outputs.{restartInstruction}
-use Rattle.controller.specs.Restart.{restartAccepted, controllerRestarted}
-use Rattle.controller.specs.Scan.{controllerAfter}
+use Rattle.outputs.specs.Instruction.{stored_arithmetic, changed, limited_to, executed}
+use Rattle.outputs.specs.Outputs.{restart_instruction}
+use Rattle.controller.specs.Restart.{restart_accepted, controller_restarted}
+use Rattle.controller.specs.Scan.{controller_after}
 use Rattle.controller.proofs.Controller.restarted.Statement.{statement}
 use Rattle.controller.proofs.Controller.restarted.Tie as tie
 
-switches-of-requires : tie.Need-switches-of-requires
-switches-of-requires c κs = search rules
+switches_of_requires : tie.Need-switches-of-requires
+switches_of_requires c κs = search rules
 
-restored-settings-requires : tie.Need-restored-settings-requires
-restored-settings-requires c κs = search rules
+restored_settings_requires : tie.Need-restored-settings-requires
+restored_settings_requires c κs = search rules
 
-is-sum-right-requires : tie.Need-is-sum-right-requires
-is-sum-right-requires c κs = search rules
+is_sum_right_requires : tie.Need-is-sum-right-requires
+is_sum_right_requires c κs = search rules
 
-restarted-request-requires : tie.Need-restarted-request-requires
-restarted-request-requires c κs = search rules
+restarted_request_requires : tie.Need-restarted-request-requires
+restarted_request_requires c κs = search rules
 
-start-core-requires : tie.Need-start-core-requires
-start-core-requires c κs =
+start_core_requires : tie.Need-start-core-requires
+start_core_requires c κs =
     subst (λ (s : Settings). Legal s.parameters) (sym c.before.before.before.before.restored-settings.ensures)
     c.before.before.before.before.before.before.before.requires
 
-output-restarted-requires : tie.Need-output-restarted-requires
-output-restarted-requires c κs =
+output_restarted_requires : tie.Need-output-restarted-requires
+output_restarted_requires c κs =
     subst (λ (s : Settings). Legal s.parameters) (sym c.before.before.before.before.before.before.restored-settings.ensures)
     c.before.before.before.before.before.before.before.before.before.requires
 
 returns : tie.Need-returns
-unfolding controllerRestarted controllerAfter restartAccepted executed changed limitedTo restartInstruction storedArithmetic
+unfolding controller_restarted controller_after restart_accepted executed changed limited_to restart_instruction stored_arithmetic
 returns c =
     let o = c in
     simp (back w64 o.output-restarted.result o.output-restarted.type-inv)
@@ -46,14 +46,14 @@ returns c =
       o.before.before.before.before.before.before.before.before.switches-of.ensures,
     ))))
 
-pub restarted-spec : {M : Type 1} → statement M
-restarted-spec =
+pub restarted_spec : {M : Type 1} → statement M
+restarted_spec =
     tie.close
     (tie.spec
-    switches-of-requires
-    restored-settings-requires
-    is-sum-right-requires
-    restarted-request-requires
-    start-core-requires
-    output-restarted-requires
+    switches_of_requires
+    restored_settings_requires
+    is_sum_right_requires
+    restarted_request_requires
+    start_core_requires
+    output_restarted_requires
     returns)

@@ -3,37 +3,37 @@ use native.Mathlib.Omega.{arith}
 use mir.Facts.{to_z-of_z}
 use borrow.Author.Tests.{ne_eqb}
 use borrow.Author.Rules.{rules}
-use Rattle.controller.specs.Write.{coreWritten}
+use Rattle.controller.specs.Write.{core_written}
 use Rattle.controller.proofs.Core.written.Statement.{statement}
 use Rattle.controller.proofs.Core.written.Tie as tie
 
-word-of-requires : tie.Need-word-of-requires
-word-of-requires c κs = search rules
+word_of_requires : tie.Need-word-of-requires
+word_of_requires c κs = search rules
 
-md-written-requires : tie.Need-md-written-requires
-md-written-requires c κs = search rules
+md_written_requires : tie.Need-md-written-requires
+md_written_requires c κs = search rules
 
-ds-written-requires : tie.Need-ds-written-requires
-ds-written-requires c κs = search rules
+ds_written_requires : tie.Need-ds-written-requires
+ds_written_requires c κs = search rules
 
-parameter-written-requires : tie.Need-parameter-written-requires
-parameter-written-requires c κs = search rules
+parameter_written_requires : tie.Need-parameter-written-requires
+parameter_written_requires c κs = search rules
 
 returns : tie.Need-returns
-unfolding coreWritten
+unfolding core_written
 returns c =
     simp (c.md-written.ensures, c.before.match.keys1)
-    (simp (c.before.before.word-of.ensures, to_z-of_z c.before.before.before.ranges.v))
+    (simp (c.before.before.word_of_lem.ensures, to_z-of_z c.before.before.before.ranges.v))
 
-returns-2 : tie.Need-returns-2
-unfolding coreWritten
-returns-2 c =
+returns_2 : tie.Need-returns-2
+unfolding core_written
+returns_2 c =
     simp (c.ds-written.ensures, c.before.match.keys2)
-    (simp (c.before.before.word-of.ensures, to_z-of_z c.before.before.before.ranges.v))
+    (simp (c.before.before.word_of_lem.ensures, to_z-of_z c.before.before.before.ranges.v))
 
-returns-3 : tie.Need-returns-3
-unfolding coreWritten
-returns-3 c = let n = c.before.before.before.args.number in
+returns_3 : tie.Need-returns-3
+unfolding core_written
+returns_3 c = let n = c.before.before.before.args.number in
     simp (
       c.parameter-written.ensures,
       ne_eqb n 24 (λ q. omega arith),
@@ -41,14 +41,14 @@ returns-3 c = let n = c.before.before.before.args.number in
       to_z-of_z c.before.before.before.ranges.v,
     )
 
-pub written-spec : {M : Type 1} → statement M
-written-spec =
+pub written_spec : {M : Type 1} → statement M
+written_spec =
     tie.close
     (tie.spec
-    word-of-requires
-    md-written-requires
-    ds-written-requires
-    parameter-written-requires
+    word_of_requires
+    md_written_requires
+    ds_written_requires
+    parameter_written_requires
     returns
-    returns-2
-    returns-3)
+    returns_2
+    returns_3)

@@ -1,28 +1,28 @@
 -- `controller::repaired::paired_value` meets its contract.
 use mir.Syntax.{w64}
 use Rattle.integers.specs.Machine.{back}
-use Rattle.parameters.specs.Repaired.{pairedValue}
+use Rattle.parameters.specs.Repaired.{paired_value}
 use borrow.Author.Rules.{rules}
 use Rattle.controller.proofs.repaired.paired_value.Statement.{statement}
 use Rattle.controller.proofs.repaired.paired_value.Tie as tie
 
-get-requires : tie.Need-get-requires
-get-requires c κs = search rules
+get_requires : tie.Need-get-requires
+get_requires c κs = search rules
 
-default-requires : tie.Need-default-requires
-default-requires c κs = search rules
+default_requires : tie.Need-default-requires
+default_requires c κs = search rules
 
-rule-requires : tie.Need-rule-requires
-rule-requires c κs = search rules
+rule_requires : tie.Need-rule-requires
+rule_requires c κs = search rules
 
-pair-in-order-requires : tie.Need-pair-in-order-requires
-pair-in-order-requires c κs = search rules
+pair_in_order_requires : tie.Need-pair-in-order-requires
+pair_in_order_requires c κs = search rules
 
-choose-requires : tie.Need-choose-requires
-choose-requires c κs = search rules
+choose_requires : tie.Need-choose-requires
+choose_requires c κs = search rules
 
 returns : tie.Need-returns
-unfolding pairedValue
+unfolding paired_value
 returns c = let get = c.before.before.before.before.get in
     let default = c.before.before.before.default in
     simp (back w64 c.choose.result c.choose.type-inv)
@@ -34,13 +34,13 @@ returns c = let get = c.before.before.before.before.get in
     )
     (simp (c.before.before.rule.ensures, get.ensures, default.ensures)))
 
-pub paired-value-spec : {M : Type 1} → statement M
-paired-value-spec =
+pub paired_value_spec : {M : Type 1} → statement M
+paired_value_spec =
     tie.close
     (tie.spec
-    get-requires
-    default-requires
-    rule-requires
-    pair-in-order-requires
-    choose-requires
+    get_requires
+    default_requires
+    rule_requires
+    pair_in_order_requires
+    choose_requires
     returns)

@@ -1,23 +1,23 @@
 -- `controller::restart::is_legal` meets its contract.
 use borrow.Author.Rules.{rules}
-use Rattle.controller.specs.Restart.{isLegal}
+use Rattle.controller.specs.Restart.{is_legal}
 use Rattle.controller.proofs.restart.is_legal.Statement.{statement}
 use Rattle.controller.proofs.restart.is_legal.Tie as tie
 
-parameters-in-requires : tie.Need-parameters-in-requires
-parameters-in-requires c κs = search rules
+parameters_in_requires : tie.Need-parameters-in-requires
+parameters_in_requires c κs = search rules
 
-are-legal-requires : tie.Need-are-legal-requires
-are-legal-requires c κs = search rules
+are_legal_requires : tie.Need-are-legal-requires
+are_legal_requires c κs = search rules
 
-are-others-legal-requires : tie.Need-are-others-legal-requires
-are-others-legal-requires c κs = search rules
+are_others_legal_requires : tie.Need-are-others-legal-requires
+are_others_legal_requires c κs = search rules
 
 returns : tie.Need-returns
-unfolding isLegal
+unfolding is_legal
 returns c = simp (c.before.are-legal.ensures, c.are-others-legal.ensures) (simp c.before.before.parameters-in.ensures)
 
-pub is-legal-spec : {M : Type 1} → statement M
-is-legal-spec =
+pub is_legal_spec : {M : Type 1} → statement M
+is_legal_spec =
     tie.close
-    (tie.spec parameters-in-requires are-legal-requires are-others-legal-requires returns)
+    (tie.spec parameters_in_requires are_legal_requires are_others_legal_requires returns)

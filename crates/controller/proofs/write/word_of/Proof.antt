@@ -4,14 +4,14 @@ use borrow.Author.Rules.{rules}
 use Rattle.controller.proofs.write.word_of.Statement.{statement}
 use Rattle.controller.proofs.write.word_of.Tie as tie
 
-magnitude-requires : tie.Need-magnitude-requires
-magnitude-requires c κs = search rules
+magnitude_requires : tie.Need-magnitude-requires
+magnitude_requires c κs = search rules
 
-cast-result : tie.Need-overflow-cast-result
-cast-result c = search rules
+cast_result : tie.Need-overflow-cast-result
+cast_result c = search rules
 
 returns : tie.Need-returns
 returns c = simp c.magnitude.ensures (simp (to_z-of_z c.before.ranges.v))
 
-pub word-of-spec : {M : Type 1} → statement M
-word-of-spec = tie.close (tie.spec magnitude-requires cast-result returns)
+pub word_of_spec : {M : Type 1} → statement M
+word_of_spec = tie.close (tie.spec magnitude_requires cast_result returns)

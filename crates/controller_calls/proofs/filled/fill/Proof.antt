@@ -9,33 +9,33 @@ use borrow.Author.Rules.{rules}
 use Rattle.controller_calls.proofs.filled.fill.Statement.{statement}
 use Rattle.controller_calls.proofs.filled.fill.Tie as tie
 
-abbrev invariant-loop : tie.invariant-loop
-invariant-loop buffer₀ i₀ buffer i = (length buffer ≡ length buffer₀) × (i ≤ length buffer₀) × (buffer ≡ replicate i 0xA5 ++ drop i buffer₀)
+abbrev invariant_loop : tie.invariant_loop
+invariant_loop buffer₀ i₀ buffer i = (length buffer ≡ length buffer₀) × (i ≤ length buffer₀) × (buffer ≡ replicate i 0xA5 ++ drop i buffer₀)
 
-abbrev decreases-loop : tie.decreases-loop
-decreases-loop buffer₀ i₀ buffer i = length buffer₀ - i
+abbrev decreases_loop : tie.decreases_loop
+decreases_loop buffer₀ i₀ buffer i = length buffer₀ - i
 
-loop-holds : tie.Need-loop-init invariant-loop decreases-loop
-loop-holds c = (refl, omega arith, refl)
+loop_holds : tie.Need-loop-init invariant_loop decreases_loop
+loop_holds c = (refl, omega arith, refl)
 
-slice-write-buffer : tie.Need-slice-write-buffer invariant-loop decreases-loop
-slice-write-buffer c = omega arith
+slice_write_buffer : tie.Need-slice-write-buffer invariant_loop decreases_loop
+slice_write_buffer c = omega arith
 
-add-i : tie.Need-overflow-add-i invariant-loop decreases-loop
-add-i c = omega arith
+add_i : tie.Need-overflow-add-i invariant_loop decreases_loop
+add_i c = omega arith
 
-loop-less : tie.Need-loop-smaller invariant-loop decreases-loop
-loop-less c = omega arith
+loop_less : tie.Need-loop-smaller invariant_loop decreases_loop
+loop_less c = omega arith
 
-loop-again : tie.Need-loop-preserved invariant-loop decreases-loop
-loop-again c =
+loop_again : tie.Need-loop-preserved invariant_loop decreases_loop
+loop_again c =
     let l = c.before.loop in
     (search rules, omega arith, rw l.invariant.2 (fill_more l.i 0xA5 c.before.before.args.buffer.now (omega arith)))
 
-same_length : tie.Need-same-length invariant-loop decreases-loop
+same_length : tie.Need-same-length invariant_loop decreases_loop
 same_length c = c.before.loop.invariant.0
 
-returns : tie.Need-returns invariant-loop decreases-loop
+returns : tie.Need-returns invariant_loop decreases_loop
 returns c =
     let l = c.before.loop in
     let bytes = c.before.before.args.buffer.now in
@@ -46,12 +46,12 @@ pub fill_spec : {M : Type 1} → statement M
 fill_spec =
     tie.close
     (tie.spec
-    invariant-loop
-    decreases-loop
-    loop-holds
-    slice-write-buffer
-    add-i
-    loop-less
-    loop-again
+    invariant_loop
+    decreases_loop
+    loop_holds
+    slice_write_buffer
+    add_i
+    loop_less
+    loop_again
     same_length
     returns)

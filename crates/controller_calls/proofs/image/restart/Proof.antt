@@ -7,37 +7,37 @@ use Rattle.controller_calls.specs.Calls.{step_of}
 use Rattle.controller_calls.proofs.image.restart.Statement.{statement}
 use Rattle.controller_calls.proofs.image.restart.Tie as tie
 
-sub-restart : tie.Need-overflow-sub-restart
-sub-restart c = search rules
+sub_restart : tie.Need-overflow-sub-restart
+sub_restart c = search rules
 
-part-restart-start : tie.Need-slice-bounds-restart-start
-part-restart-start c = search rules
+part_restart_start : tie.Need-slice-bounds-restart-start
+part_restart_start c = search rules
 
-part-restart-end : tie.Need-slice-bounds-restart-end
-part-restart-end c = search rules
+part_restart_end : tie.Need-slice-bounds-restart-end
+part_restart_end c = search rules
 
-restart-requires : tie.Need-restart-requires
-restart-requires c κs = search rules
+restart_requires : tie.Need-restart-requires
+restart_requires c κs = search rules
 
-reply-to-verdict-requires : tie.Need-reply-to-verdict-requires
-reply-to-verdict-requires c κs = search rules
+reply_to_verdict_requires : tie.Need-reply-to-verdict-requires
+reply_to_verdict_requires c κs = search rules
 
 returns : tie.Need-returns
 returns c =
     rw (le-leb _ _ c.before.before.before.before.if1.true, c.reply-to-verdict.ensures)
     (rw sub-zero at (ap step_of c.before.before.restart.ensures.0))
 
-returns-2 : tie.Need-returns-2
-returns-2 c = rw (lt-leb _ _ c.if1.false) refl
+returns_2 : tie.Need-returns-2
+returns_2 c = rw (lt-leb _ _ c.if1.false) refl
 
-pub restart-spec : {M : Type 1} → statement M
-restart-spec =
+pub restart_spec : {M : Type 1} → statement M
+restart_spec =
     tie.close
     (tie.spec
-    sub-restart
-    part-restart-start
-    part-restart-end
-    restart-requires
-    reply-to-verdict-requires
+    sub_restart
+    part_restart_start
+    part_restart_end
+    restart_requires
+    reply_to_verdict_requires
     returns
-    returns-2)
+    returns_2)

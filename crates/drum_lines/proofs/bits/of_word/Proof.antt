@@ -8,17 +8,17 @@ use borrow.Author.Rules.{rules}
 use Rattle.drum_lines.proofs.bits.of_word.Statement.{statement}
 use Rattle.drum_lines.proofs.bits.of_word.Tie as tie
 
-slice-aggregate-parse : tie.Need-slice-aggregate-parse
-slice-aggregate-parse c = search rules
+slice_aggregate_parse : tie.Need-slice-aggregate-parse
+slice_aggregate_parse c = search rules
 
-parse-requires : tie.Need-parse-requires
-parse-requires c κs = search rules
+parse_requires : tie.Need-parse-requires
+parse_requires c κs = search rules
 
-slice-aggregate-of-count : tie.Need-slice-aggregate-of-count
-slice-aggregate-of-count c = search rules
+slice_aggregate_of_count : tie.Need-slice-aggregate-of-count
+slice_aggregate_of_count c = search rules
 
-of-count-requires : tie.Need-of-count-requires
-of-count-requires c κs = search rules
+of_count_requires : tie.Need-of-count-requires
+of_count_requires c κs = search rules
 
 returns : tie.Need-returns
 unfolding bits_of
@@ -27,12 +27,12 @@ returns c =
     let word = p.before.before.before.args.word.now in
     rw (p.parse.ensures.0, p.parse.ensures.1) at c.of-count.ensures ∙ counted (bytes_of word) (replicate 8 0) refl
 
-pub of-word-spec : {M : Type 1} → statement M
-of-word-spec =
+pub of_word_spec : {M : Type 1} → statement M
+of_word_spec =
     tie.close
     (tie.spec
-    slice-aggregate-parse
-    parse-requires
-    slice-aggregate-of-count
-    of-count-requires
+    slice_aggregate_parse
+    parse_requires
+    slice_aggregate_of_count
+    of_count_requires
     returns)

@@ -3,68 +3,68 @@ use mathlib.Core.Path.{refl}
 use Prim.Native.Nat.{◌-◌}
 use lib.ListN.{length}
 use borrow.Author.Rules.{rules}
-use Rattle.formatting.specs.Laws.{Appending, appending-turn, appending-ends}
-use Rattle.drum_lines.specs.BitsText.{smallLetters}
+use Rattle.formatting.specs.Laws.{Appending, appending_turn, appending_ends}
+use Rattle.drum_lines.specs.BitsText.{small_letters}
 use Rattle.drum_lines.proofs.print.append_small.Statement.{statement}
 use Rattle.drum_lines.proofs.print.append_small.Tie as tie
 
-abbrev invariant-loop : tie.invariant-loop
-invariant-loop out₀ used bytes end₀ i₀ out end i = Appending smallLetters bytes out₀ used out end i
+abbrev invariant_loop : tie.invariant_loop
+invariant_loop out₀ used bytes end₀ i₀ out end i = Appending small_letters bytes out₀ used out end i
 
-abbrev decreases-loop : tie.decreases-loop
-decreases-loop out₀ used bytes end₀ i₀ out end i = length bytes - i
+abbrev decreases_loop : tie.decreases_loop
+decreases_loop out₀ used bytes end₀ i₀ out end i = length bytes - i
 
-loop-holds : tie.Need-loop-init invariant-loop decreases-loop
-loop-holds c = record { inside = search rules; size = refl; whole = refl }
+loop_holds : tie.Need-loop-init invariant_loop decreases_loop
+loop_holds c = record { inside = search rules; size = refl; whole = refl }
 
-shared-slice-read-small-letter : tie.Need-shared-slice-read-small-letter invariant-loop decreases-loop
-shared-slice-read-small-letter c = search rules
+shared_slice_read_small_letter : tie.Need-shared-slice-read-small-letter invariant_loop decreases_loop
+shared_slice_read_small_letter c = search rules
 
-small-letter-requires : tie.Need-small-letter-requires invariant-loop decreases-loop
-small-letter-requires c κs = search rules
+small_letter_requires : tie.Need-small-letter-requires invariant_loop decreases_loop
+small_letter_requires c κs = search rules
 
-append-byte-requires : tie.Need-append-byte-requires invariant-loop decreases-loop
-append-byte-requires c κs = search rules
+append_byte_requires : tie.Need-append-byte-requires invariant_loop decreases_loop
+append_byte_requires c κs = search rules
 
-add-i : tie.Need-overflow-add-i invariant-loop decreases-loop
-add-i c = search rules
+add_i : tie.Need-overflow-add-i invariant_loop decreases_loop
+add_i c = search rules
 
-loop-less : tie.Need-loop-smaller invariant-loop decreases-loop
-loop-less c = search rules
+loop_less : tie.Need-loop-smaller invariant_loop decreases_loop
+loop_less c = search rules
 
-loop-again : tie.Need-loop-preserved invariant-loop decreases-loop
-unfolding smallLetters
-loop-again c =
+loop_again : tie.Need-loop-preserved invariant_loop decreases_loop
+unfolding small_letters
+loop_again c =
     let a = c.before.before in
     let k = a.before in
     let l = k.before.before.before.before.loop in
     let s = k.before.before.before.before.before.before.before.args in
-    appending-turn smallLetters refl (λ b bs. refl) s.bytes.now s.out.now s.used l.out l.end l.i l.invariant
+    appending_turn small_letters refl (λ b bs. refl) s.bytes.now s.out.now s.used l.out l.end l.i l.invariant
     a.append-byte.new.0 a.append-byte.result (search rules) a.append-byte.auto.0
     (rw k.small-letter.ensures at a.append-byte.ensures)
 
-same_length : tie.Need-same-length invariant-loop decreases-loop
+same_length : tie.Need-same-length invariant_loop decreases_loop
 same_length c = c.before.loop.invariant.size
 
-returns : tie.Need-returns invariant-loop decreases-loop
-unfolding smallLetters
+returns : tie.Need-returns invariant_loop decreases_loop
+unfolding small_letters
 returns c =
     let l = c.before.loop in
     let s = c.before.before.before.before.args in
-    appending-ends smallLetters refl (λ b bs. refl) s.bytes.now s.out.now s.used l.out l.end l.i l.invariant (search rules)
+    appending_ends small_letters refl (λ b bs. refl) s.bytes.now s.out.now s.used l.out l.end l.i l.invariant (search rules)
 
-pub append-small-spec : {M : Type 1} → statement M
-append-small-spec =
+pub append_small_spec : {M : Type 1} → statement M
+append_small_spec =
     tie.close
     (tie.spec
-    invariant-loop
-    decreases-loop
-    loop-holds
-    shared-slice-read-small-letter
-    small-letter-requires
-    append-byte-requires
-    add-i
-    loop-less
-    loop-again
+    invariant_loop
+    decreases_loop
+    loop_holds
+    shared_slice_read_small_letter
+    small_letter_requires
+    append_byte_requires
+    add_i
+    loop_less
+    loop_again
     same_length
     returns)

@@ -4,11 +4,11 @@ use borrow.Author.Rules.{rules}
 use Rattle.handheld.proofs.plant.scan_input.Statement.{statement}
 use Rattle.handheld.proofs.plant.scan_input.Tie as tie
 
-reading-after-requires : tie.Need-reading-after-requires
-reading-after-requires c κs = search rules
+reading_after_requires : tie.Need-reading-after-requires
+reading_after_requires c κs = search rules
 
 returns : tie.Need-returns
-returns c = rw c.reading-after.ensures refl
+returns c = rw c.reading_after_lem.ensures refl
 
-pub scan-input-spec : {M : Type 1} → statement M
-scan-input-spec = tie.close (tie.spec reading-after-requires returns)
+pub scan_input_spec : {M : Type 1} → statement M
+scan_input_spec = tie.close (tie.spec reading_after_requires returns)

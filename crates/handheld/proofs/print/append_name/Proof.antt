@@ -4,17 +4,17 @@ use borrow.Author.Rules.{rules}
 use Rattle.handheld.proofs.print.append_name.Statement.{statement}
 use Rattle.handheld.proofs.print.append_name.Tie as tie
 
-name-row-requires : tie.Need-name-row-requires
-name-row-requires c κs = search rules
+name_row_requires : tie.Need-name-row-requires
+name_row_requires c κs = search rules
 
-slice-aggregate-append-front : tie.Need-slice-aggregate-append-front
-slice-aggregate-append-front c = search rules
+slice_aggregate_append_front : tie.Need-slice-aggregate-append-front
+slice_aggregate_append_front c = search rules
 
-name-length-requires : tie.Need-name-length-requires
-name-length-requires c κs = search rules
+name_length_requires : tie.Need-name-length-requires
+name_length_requires c κs = search rules
 
-append-front-requires : tie.Need-append-front-requires
-append-front-requires c κs = search rules
+append_front_requires : tie.Need-append-front-requires
+append_front_requires c κs = search rules
 
 same_length : tie.Need-same-length
 same_length c = search rules
@@ -24,15 +24,15 @@ returns c =
     let f = c.before.before in
     let l = f.before in
     let r = l.before.before.before in
-    rw (← r.name-row.ensures) (rw l.name-length.ensures at f.append-front.ensures)
+    rw (← r.name-row.ensures) (rw l.name-length.ensures at f.append_front.ensures)
 
-pub append-name-spec : {M : Type 1} → statement M
-append-name-spec =
+pub append_name_spec : {M : Type 1} → statement M
+append_name_spec =
     tie.close
     (tie.spec
-    name-row-requires
-    slice-aggregate-append-front
-    name-length-requires
-    append-front-requires
+    name_row_requires
+    slice_aggregate_append_front
+    name_length_requires
+    append_front_requires
     same_length
     returns)

@@ -4,17 +4,17 @@ use Rattle.modes.specs.Modes.{mode_of}
 use Rattle.modes.proofs.Conditions.mode.Statement.{statement}
 use Rattle.modes.proofs.Conditions.mode.Tie as tie
 
-pins-of-requires : tie.Need-pins-of-requires
-pins-of-requires c κs = search rules
+pins_of_requires : tie.Need-pins-of-requires
+pins_of_requires c κs = search rules
 
-is-cause-requires : tie.Need-is-cause-requires
-is-cause-requires c κs = search rules
+is_cause_requires : tie.Need-is-cause-requires
+is_cause_requires c κs = search rules
 
-mode-by-requires : tie.Need-mode-by-requires
-mode-by-requires c κs = search rules
+mode_by_requires : tie.Need-mode-by-requires
+mode_by_requires c κs = search rules
 
-in-priority-requires : tie.Need-in-priority-requires
-in-priority-requires c κs = search rules
+in_priority_requires : tie.Need-in-priority-requires
+in_priority_requires c κs = search rules
 
 returns : tie.Need-returns
 unfolding mode_of
@@ -26,7 +26,7 @@ returns c =
       c.before.before.before.pins-of.ensures,
     )
 
-pub mode-spec : {M : Type 1} → statement M
-mode-spec =
+pub mode_spec : {M : Type 1} → statement M
+mode_spec =
     tie.close
-    (tie.spec pins-of-requires is-cause-requires mode-by-requires in-priority-requires returns)
+    (tie.spec pins_of_requires is_cause_requires mode_by_requires in_priority_requires returns)

@@ -5,36 +5,36 @@ use Prim.Native.Nat.{◌+◌, ◌≤◌}
 use native.Mathlib.Omega.{arith}
 use borrow.Author.Rules.{rules}
 use Rattle.numerals.specs.Numerals.{places}
-use Rattle.numerals.specs.DigitLaws.{places-last, places-more, places-least}
+use Rattle.numerals.specs.DigitLaws.{places_last, places_more, places_least}
 use Rattle.numerals.proofs.writing.places.Statement.{statement}
 use Rattle.numerals.proofs.writing.places.Tie as tie
 
-abbrev invariant-loop : tie.invariant-loop
-invariant-loop n count₀ rest₀ count rest = (count + places 10 rest ≡ 1 + places 10 n) × (places 10 n ≤ 20)
+abbrev invariant_loop : tie.invariant_loop
+invariant_loop n count₀ rest₀ count rest = (count + places 10 rest ≡ 1 + places 10 n) × (places 10 n ≤ 20)
 
-abbrev decreases-loop : tie.decreases-loop
-decreases-loop n count₀ rest₀ count rest = rest
+abbrev decreases_loop : tie.decreases_loop
+decreases_loop n count₀ rest₀ count rest = rest
 
-loop-holds : tie.Need-loop-init invariant-loop decreases-loop
-loop-holds c =
-    (omega arith, places-least 10 (omega arith) c.args.n 20 (omega (arith, c.ranges.n)) (omega arith))
+loop_holds : tie.Need-loop-init invariant_loop decreases_loop
+loop_holds c =
+    (omega arith, places_least 10 (omega arith) c.args.n 20 (omega (arith, c.ranges.n)) (omega arith))
 
-add-count : tie.Need-overflow-add-count invariant-loop decreases-loop
-add-count c = search rules
+add_count : tie.Need-overflow-add-count invariant_loop decreases_loop
+add_count c = search rules
 
-loop-less : tie.Need-loop-smaller invariant-loop decreases-loop
-loop-less c = search rules
+loop_less : tie.Need-loop-smaller invariant_loop decreases_loop
+loop_less c = search rules
 
-loop-again : tie.Need-loop-preserved invariant-loop decreases-loop
-loop-again c =
+loop_again : tie.Need-loop-preserved invariant_loop decreases_loop
+loop_again c =
     let l = c.before.loop in
-    (omega (arith, places-more 10 (omega arith) l.rest c.loop-test.true), l.invariant.1)
+    (omega (arith, places_more 10 (omega arith) l.rest c.loop-test.true), l.invariant.1)
 
-returns : tie.Need-returns invariant-loop decreases-loop
+returns : tie.Need-returns invariant_loop decreases_loop
 returns c =
     let l = c.before.loop in
-    omega (arith, places-last 10 (omega arith) l.rest c.loop-test.false)
+    omega (arith, places_last 10 (omega arith) l.rest c.loop-test.false)
 
-pub places-spec : {M : Type 1} → statement M
-places-spec =
-    tie.close (tie.spec invariant-loop decreases-loop loop-holds add-count loop-less loop-again returns)
+pub places_spec : {M : Type 1} → statement M
+places_spec =
+    tie.close (tie.spec invariant_loop decreases_loop loop_holds add_count loop_less loop_again returns)

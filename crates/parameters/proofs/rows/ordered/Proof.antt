@@ -7,17 +7,17 @@ use borrow.Author.Rules.{rules}
 use Rattle.parameters.proofs.rows.ordered.Statement.{statement}
 use Rattle.parameters.proofs.rows.ordered.Tie as tie
 
-get-requires : tie.Need-get-requires
-get-requires c κs = search rules
+get_requires : tie.Need-get-requires
+get_requires c κs = search rules
 
-in-order-requires : tie.Need-in-order-requires
-in-order-requires c κs = search rules
+in_order_requires : tie.Need-in-order-requires
+in_order_requires c κs = search rules
 
-get-requires-2 : tie.Need-get-requires-2
-get-requires-2 c κs = search rules
+get_requires_2 : tie.Need-get-requires-2
+get_requires_2 c κs = search rules
 
-in-order-requires-2 : tie.Need-in-order-requires-2
-in-order-requires-2 c κs = search rules
+in_order_requires_2 : tie.Need-in-order-requires-2
+in_order_requires_2 c κs = search rules
 
 returns : tie.Need-returns
 returns c = let start = c.before.before.before in
@@ -25,13 +25,13 @@ returns c = let start = c.before.before.before in
     simp (c.in_order.ensures, back w64 low.result low.type-inv, to_z-of_z start.ranges.v)
     (simp (low.ensures, eq-eqb start.args.number start.args.high c.before.before.if1.true))
 
-returns-2 : tie.Need-returns-2
-returns-2 c = let start = c.before.before.before in
+returns_2 : tie.Need-returns-2
+returns_2 c = let start = c.before.before.before in
     let high = c.before.get2 in
     simp (c.in-order2.ensures, back w64 high.result high.type-inv, to_z-of_z start.ranges.v)
     (simp (high.ensures, ne_eqb start.args.number start.args.high c.before.before.if1.false))
 
-pub ordered-spec : {M : Type 1} → statement M
-ordered-spec =
+pub ordered_spec : {M : Type 1} → statement M
+ordered_spec =
     tie.close
-    (tie.spec get-requires in-order-requires get-requires-2 in-order-requires-2 returns returns-2)
+    (tie.spec get_requires in_order_requires get_requires_2 in_order_requires_2 returns returns_2)

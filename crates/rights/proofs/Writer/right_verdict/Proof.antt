@@ -1,21 +1,21 @@
 -- `rights::Writer::right_verdict` meets its contract.
 use mathlib.Core.Path.{sym, ◌∙◌}
 use borrow.Author.Rules.{rules}
-use Rattle.signals.specs.Refusals.{refusedBy}
-use Rattle.rights.specs.Rights.{rightTests}
+use Rattle.signals.specs.Refusals.{refused_by}
+use Rattle.rights.specs.Rights.{right_tests}
 use Rattle.rights.proofs.Writer.right_verdict.Statement.{statement}
 use Rattle.rights.proofs.Writer.right_verdict.Tie as tie
 
-may-write-requires : tie.Need-may-write-requires
-may-write-requires c κs = search rules
+may_write_requires : tie.Need-may-write-requires
+may_write_requires c κs = search rules
 
 returns : tie.Need-returns
-unfolding refusedBy rightTests
+unfolding refused_by right_tests
 returns c = simp (sym c.before.may_write_lem.ensures ∙ c.if1.true)
 
-returns-2 : tie.Need-returns-2
-unfolding refusedBy rightTests
-returns-2 c = simp (sym c.before.may_write_lem.ensures ∙ c.if1.false)
+returns_2 : tie.Need-returns-2
+unfolding refused_by right_tests
+returns_2 c = simp (sym c.before.may_write_lem.ensures ∙ c.if1.false)
 
-pub right-verdict-spec : {M : Type 1} → statement M
-right-verdict-spec = tie.close (tie.spec may-write-requires returns returns-2)
+pub right_verdict_spec : {M : Type 1} → statement M
+right_verdict_spec = tie.close (tie.spec may_write_requires returns returns_2)

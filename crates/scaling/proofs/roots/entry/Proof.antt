@@ -36,9 +36,9 @@ use denote.Triple.Table.{entered}
 use denote.Triple.Walked.{says as ensured, needs, Stays, stay_none, walk_of, Goes-none, Walks, ends_at, walked, walk_Meets}
 use denote.Exit.{yes}
 use Rattle.integers.specs.Choice.{both}
-use Rattle.scaling.specs.Root.{Greatest, fits-most}
-use Rattle.scaling.proofs.Entries.{isRoot, areRoots, root-at}
-use Rattle.scaling.proofs.Arms.{entriesOf, armsIn, literal, sets, arms_of}
+use Rattle.scaling.specs.Root.{Greatest, fits_most}
+use Rattle.scaling.proofs.Entries.{is_root, are_roots, root_at}
+use Rattle.scaling.proofs.Arms.{entries_of, arms_in, literal, sets, arms_of}
 use Rattle.scaling.specs.contracts.roots.entry.Key.{name as #scaling·roots·entry}
 use Rattle.scaling.specs.contracts.roots.entry as entry
 use Rattle.scaling.proofs.roots.entry.Statement as stated
@@ -47,20 +47,20 @@ use Rattle.scaling.proofs.roots.entry.Code.Mir as parts
 
 -- the table, as the code has it
 entries : List ℕ
-entries = entriesOf (armsIn parts.s-1)
+entries = entries_of (arms_in parts.s-1)
 
-same : arms_of 0 entries ≡ armsIn parts.s-1
+same : arms_of 0 entries ≡ arms_in parts.s-1
 unfolding entries
 same = refl
 
 -- "Every entry is the greatest whole number whose square isn't above 10000 times its place."
-tested : areRoots 0 entries ≡ true
+tested : are_roots 0 entries ≡ true
 unfolding entries
 tested = refl
 
-entries-counted : length entries ≡ 10001
+entries_counted : length entries ≡ 10001
 unfolding entries
-entries-counted = refl
+entries_counted = refl
 
 -- the sample is left to the caller as it was
 abbrev stays : Stays (entry.ended).signature.params (entry.ended).kept
@@ -121,25 +121,25 @@ module _ {M : Type 1} {𝓤 : Ura M} (𝓛 : Logic 𝓤) (mem : Memory → SProp
     -- an arm whose number is the root of the sample does what is asked
     one_arm : (r : ℕ) → Greatest (10000 * sample) r → Sq 𝓛 Before (runs C Λ E (sets r) Behind)
     one_arm r is =
-        let f : r < 2 ^ 16 = omega (arith, fits-most sample r within is.fits) in
+        let f : r < 2 ^ 16 = omega (arith, fits_most sample r within is.fits) in
         assigns_last ! (of_opd ! (reads (ltb r 1024) r f)) (from ! (stop !)) (init ! 0 refl (tt, record { fits = f })) $ leaves r is f
 
     -- So do arms of roots, from any place on that the sample isn't before. N is what is known once the arms before were
     -- passed by: that none of their places is the sample.
-    all-arms : (N : Type 0) (at : ℕ) (rs : List ℕ) → areRoots at rs ≡ true → (N → at ≤ sample) → sample < at + length rs
+    all_arms : (N : Type 0) (at : ℕ) (rs : List ℕ) → are_roots at rs ≡ true → (N → at ≤ sample) → sample < at + length rs
         → Cases Go 𝓛 Before C Λ E Behind N (arms_of at rs) sample
-    all-arms N at [] t low high = λ n. absurd (omega (arith, low n))
-    all-arms N at (r ∷ rs) t low high =
-        let tests = both (isRoot at r) (areRoots (suc at) rs) t in (
-          λ e. one_arm r (subst (λ (k : ℕ). Greatest (10000 * k) r) (sym e) (root-at at r tests.0)),
-          all-arms (N × (sample ≡ at → ⊥)) (suc at) rs tests.1 (λ n. omega (arith, low n.0, n.1)) (omega arith),
+    all_arms N at [] t low high = λ n. absurd (omega (arith, low n))
+    all_arms N at (r ∷ rs) t low high =
+        let tests = both (is_root at r) (are_roots (suc at) rs) t in (
+          λ e. one_arm r (subst (λ (k : ℕ). Greatest (10000 * k) r) (sym e) (root_at at r tests.0)),
+          all_arms (N × (sample ≡ at → ⊥)) (suc at) rs tests.1 (λ n. omega (arith, low n.0, n.1)) (omega arith),
         )
 
     -- the match: all arms, those of the code
     matched : Sq 𝓛 Before (runs C Λ E parts.s-1 Behind)
     matched =
-        let found = all-arms (Unit {0}) 0 entries tested (λ _. omega arith) (omega (arith, entries-counted)) in
-        switches ! {arms = armsIn parts.s-1} (load ! (from ! (stop !)) (look ! 2 refl))
+        let found = all_arms (Unit {0}) 0 entries tested (λ _. omega arith) (omega (arith, entries_counted)) in
+        switches ! {arms = arms_in parts.s-1} (load ! (from ! (stop !)) (look ! 2 refl))
         (subst (λ (arms : Arms). Cases Go 𝓛 Before C Λ E Behind (Unit {0}) arms sample) same found)
 
   module _ (C : Calls 𝓤 H) (Λ : Loops 𝓤 H) where

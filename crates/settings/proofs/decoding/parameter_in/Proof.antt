@@ -4,37 +4,37 @@ use borrow.Author.Rules.{rules}
 use borrow.Author.Tests.{eq-eqb, ne_eqb}
 use mir.Syntax.{w64}
 use Rattle.integers.specs.Machine.{back}
-use Rattle.settings.specs.Settings.{parameterIn}
+use Rattle.settings.specs.Settings.{parameter_in}
 use Rattle.settings.proofs.decoding.parameter_in.Statement.{statement}
 use Rattle.settings.proofs.decoding.parameter_in.Tie as tie
 
 returns : tie.Need-returns
-unfolding parameterIn
+unfolding parameter_in
 returns c = simp (eq-eqb _ _ c.if1.true)
 
-sub-from-word : tie.Need-overflow-sub-from-word
-sub-from-word c = search rules
+sub_from_word : tie.Need-overflow-sub-from-word
+sub_from_word c = search rules
 
-mul-from-word : tie.Need-overflow-mul-from-word
-mul-from-word c = search rules
+mul_from_word : tie.Need-overflow-mul-from-word
+mul_from_word c = search rules
 
-array-read-from-word : tie.Need-array-read-from-word
-array-read-from-word c = search rules
+array_read_from_word : tie.Need-array-read-from-word
+array_read_from_word c = search rules
 
-from-word-requires : tie.Need-from-word-requires
-from-word-requires c κs = search rules
+from_word_requires : tie.Need-from-word-requires
+from_word_requires c κs = search rules
 
-returns-2 : tie.Need-returns-2
-unfolding parameterIn
-returns-2 c = simp (ne_eqb _ _ c.before.if1.false) (back w64 c.from-word.result c.from-word.type-inv ∙ c.from-word.ensures)
+returns_2 : tie.Need-returns-2
+unfolding parameter_in
+returns_2 c = simp (ne_eqb _ _ c.before.if1.false) (back w64 c.from-word.result c.from-word.type-inv ∙ c.from-word.ensures)
 
-pub parameter-in-spec : {M : Type 1} → statement M
-parameter-in-spec =
+pub parameter_in_spec : {M : Type 1} → statement M
+parameter_in_spec =
     tie.close
     (tie.spec
     returns
-    sub-from-word
-    mul-from-word
-    array-read-from-word
-    from-word-requires
-    returns-2)
+    sub_from_word
+    mul_from_word
+    array_read_from_word
+    from_word_requires
+    returns_2)

@@ -1,21 +1,21 @@
 -- `settings::decoding::user_bits_in` meets its contract.
 use borrow.Author.Rules.{rules}
-use Rattle.settings.specs.Settings.{userBitsIn}
+use Rattle.settings.specs.Settings.{user_bits_in}
 use Rattle.settings.proofs.decoding.user_bits_in.Statement.{statement}
 use Rattle.settings.proofs.decoding.user_bits_in.Tie as tie
 
-bit-requires : tie.Need-bit-requires
-bit-requires c κs = search rules
+bit_requires : tie.Need-bit-requires
+bit_requires c κs = search rules
 
-bit-requires-2 : tie.Need-bit-requires-2
-bit-requires-2 c κs = search rules
+bit_requires_2 : tie.Need-bit-requires-2
+bit_requires_2 c κs = search rules
 
-bit-requires-3 : tie.Need-bit-requires-3
-bit-requires-3 c κs = search rules
+bit_requires_3 : tie.Need-bit-requires-3
+bit_requires_3 c κs = search rules
 
 returns : tie.Need-returns
-unfolding userBitsIn
+unfolding user_bits_in
 returns c = simp (c.before.before.bit.ensures, c.before.bit2.ensures, c.bit3.ensures)
 
-pub user-bits-in-spec : {M : Type 1} → statement M
-user-bits-in-spec = tie.close (tie.spec bit-requires bit-requires-2 bit-requires-3 returns)
+pub user_bits_in_spec : {M : Type 1} → statement M
+user_bits_in_spec = tie.close (tie.spec bit_requires bit_requires_2 bit_requires_3 returns)

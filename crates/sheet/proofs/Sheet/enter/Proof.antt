@@ -6,8 +6,8 @@ use borrow.Author.Rules.{rules}
 use Rattle.sheet.proofs.Sheet.enter.Statement.{statement}
 use Rattle.sheet.proofs.Sheet.enter.Tie as tie
 
-with-requires : tie.Need-with-requires
-with-requires c κs = search rules
+with_requires : tie.Need-with-requires
+with_requires c κs = search rules
 
 returns : tie.Need-returns
 unfolding entered
@@ -17,11 +17,11 @@ returns c =
       record { tested = c.with.ensures.1 },
     )
 
-returns-2 : tie.Need-returns-2
+returns_2 : tie.Need-returns-2
 unfolding entered
-returns-2 c =
+returns_2 c =
     let start = c.before.before.before in
     (rw (le-leb 4294967295 start.args.self.values.scans c.if1.false) refl, start.requires)
 
 pub enter_spec : {M : Type 1} → statement M
-enter_spec = tie.close (tie.spec with-requires returns returns-2)
+enter_spec = tie.close (tie.spec with_requires returns returns_2)

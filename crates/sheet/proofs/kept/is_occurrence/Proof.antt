@@ -3,7 +3,7 @@ use mir.Syntax.{w32}
 use mir.Val.{SFits}
 use borrow.Author.Rules.{rules}
 use Rattle.sheet.specs.SumLaws.{held_by}
-use Rattle.sheet.specs.ValidLaws.{occurrence-by}
+use Rattle.sheet.specs.ValidLaws.{occurrence_by}
 use Rattle.sheet.proofs.kept.is_occurrence.Statement.{statement}
 use Rattle.sheet.proofs.kept.is_occurrence.Tie as tie
 
@@ -11,7 +11,7 @@ returns : tie.Need-returns
 returns c =
     let start = c.before.before in
     let pv : SFits w32 start.args.first.pv = search rules in
-    occurrence-by start.args.scans start.args.first (held_by start.args.first.pv pv.sfits)
+    occurrence_by start.args.scans start.args.first (held_by start.args.first.pv pv.sfits)
 
-pub is-occurrence-spec : {M : Type 1} → statement M
-is-occurrence-spec = tie.close (tie.spec returns)
+pub is_occurrence_spec : {M : Type 1} → statement M
+is_occurrence_spec = tie.close (tie.spec returns)

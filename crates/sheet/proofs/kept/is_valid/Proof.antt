@@ -7,7 +7,7 @@ use mir.Facts.{to_z-of_z}
 use mir.Syntax.{w64}
 use mir.Val.{to_z, of_z}
 use borrow.Author.Tests.{le-leb, eq-eqb}
-use Rattle.sheet.specs.Valid.{isValid}
+use Rattle.sheet.specs.Valid.{is_valid}
 use borrow.Author.Rules.{rules}
 use Rattle.sheet.proofs.kept.is_valid.Statement.{statement}
 use Rattle.sheet.proofs.kept.is_valid.Tie as tie
@@ -18,26 +18,26 @@ few c = let h : c.args.values.scans < 4294967296 = search rules in omega arith
 size : (c : tie.Start) → length c.args.values.modes ≡ 8
 size c = search rules
 
-sumpv-read : (c : tie.Start) → to_z w64 (of_z w64 c.args.values.sumpv) ≡ c.args.values.sumpv
-sumpv-read c = to_z-of_z {w = w64} {z = c.args.values.sumpv} (search rules)
+sumpv_read : (c : tie.Start) → to_z w64 (of_z w64 c.args.values.sumpv) ≡ c.args.values.sumpv
+sumpv_read c = to_z-of_z {w = w64} {z = c.args.values.sumpv} (search rules)
 
-sumop-read : (c : tie.Start) → to_z w64 (of_z w64 c.args.values.sumop) ≡ c.args.values.sumop
-sumop-read c = to_z-of_z {w = w64} {z = c.args.values.sumop} (search rules)
+sumop_read : (c : tie.Start) → to_z w64 (of_z w64 c.args.values.sumop) ≡ c.args.values.sumop
+sumop_read c = to_z-of_z {w = w64} {z = c.args.values.sumop} (search rules)
 
-total-requires : tie.Need-total-requires
-total-requires c κs = search rules
+total_requires : tie.Need-total-requires
+total_requires c κs = search rules
 
-cast-counts : tie.Need-overflow-cast-counts
-cast-counts c = search rules
+cast_counts : tie.Need-overflow-cast-counts
+cast_counts c = search rules
 
-are-extremes-requires : tie.Need-are-extremes-requires
-are-extremes-requires c κs = search rules
+are_extremes_requires : tie.Need-are-extremes-requires
+are_extremes_requires c κs = search rules
 
-is-sum-op-requires : tie.Need-is-sum-op-requires
-is-sum-op-requires c κs = search rules
+is_sum_op_requires : tie.Need-is-sum-op-requires
+is_sum_op_requires c κs = search rules
 
 returns : tie.Need-returns
-unfolding isValid
+unfolding is_valid
 returns c =
     let start = c.before.before.before.before.before.before.before in
     let v = start.args.values in
@@ -45,12 +45,12 @@ returns c =
       le-leb v.scans 4294967295 (few start),
       eq-eqb (length v.modes) 8 (size start),
       c.before.before.before.before.before.total.ensures,
-      rw (sumpv-read start) at c.before.before.are-extremes.ensures,
-      rw (sumop-read start) at c.is-sum-op.ensures,
+      rw (sumpv_read start) at c.before.before.are-extremes.ensures,
+      rw (sumop_read start) at c.is-sum-op.ensures,
     )
     refl
 
-pub is-valid-spec : {M : Type 1} → statement M
-is-valid-spec =
+pub is_valid_spec : {M : Type 1} → statement M
+is_valid_spec =
     tie.close
-    (tie.spec total-requires cast-counts are-extremes-requires is-sum-op-requires returns)
+    (tie.spec total_requires cast_counts are_extremes_requires is_sum_op_requires returns)

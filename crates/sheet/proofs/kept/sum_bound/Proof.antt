@@ -7,9 +7,9 @@ use lib.IntN.{ℤ, pos, ◌+ℤ◌, ◌*ℤ◌}
 use mir.Syntax.{w32, w64}
 use mir.Val.{to_z, of_z, SFits}
 use Rattle.integers.specs.Machine.{back}
-use Rattle.integers.specs.Sign.{fromSign}
-use Rattle.sheet.specs.ExtremeLaws.{times-fits, sum-of-fits, bound-fits}
-use Rattle.sheet.specs.Valid.{scansBefore, sumBound}
+use Rattle.integers.specs.Sign.{from_sign}
+use Rattle.sheet.specs.ExtremeLaws.{times_fits, sum_of_fits, bound_fits}
+use Rattle.sheet.specs.Valid.{scans_before, sum_bound}
 use Rattle.sheet.specs.declared.Bound.{Bound}
 use Rattle.sheet.specs.declared.Bound.TheVariants.{Greatest, Least}
 use Rattle.sheet.specs.declared.Occurrence.{Occurrence}
@@ -20,84 +20,84 @@ use Rattle.sheet.proofs.kept.sum_bound.Tie as tie
 held : (z : ℤ) → SFits w32 z → to_z w32 (of_z w32 z) ≡ z
 held z f = back w32 z f.sfits
 
-here-is : (c : tie.After-wide) → to_z w64 (of_z w64 c.wide.result) ≡ c.before.before.args.here.pv
-here-is c =
+here_is : (c : tie.After-wide) → to_z w64 (of_z w64 c.wide.result) ≡ c.before.before.args.here.pv
+here_is c =
     let pv : SFits w32 c.before.before.args.here.pv = search rules in
     back w64 c.wide.result c.wide.type-inv ∙ c.wide.ensures ∙ held c.before.before.args.here.pv pv
 
 product_is : (c : tie.After-times) →
     to_z w64 (of_z w64 c.times.result) ≡ c.before.before.before.args.here.pv *ℤ pos (c.before.before.before.args.scans - 1)
-product_is c = back w64 c.times.result c.times.type-inv ∙ (rw (here-is c.before) at c.times.ensures)
+product_is c = back w64 c.times.result c.times.type-inv ∙ (rw (here_is c.before) at c.times.ensures)
 
-other-is : (c : tie.After-wide2) → to_z w64 (of_z w64 c.wide2.result) ≡ c.before.before.before.before.before.args.other.pv
-other-is c =
+other_is : (c : tie.After-wide2) → to_z w64 (of_z w64 c.wide2.result) ≡ c.before.before.before.before.before.args.other.pv
+other_is c =
     let pv : SFits w32 c.before.before.before.before.before.args.other.pv = search rules in
     back w64 c.wide2.result c.wide2.type-inv ∙ c.wide2.ensures ∙ held c.before.before.before.before.before.args.other.pv pv
 
 sum_is : (c : tie.After-sum) → let start = c.before.before.before.before.before.before in
     to_z w64 (of_z w64 c.sum.result) ≡ (start.args.here.pv *ℤ pos (start.args.scans - 1)) +ℤ start.args.other.pv
 sum_is c =
-    back w64 c.sum.result c.sum.type-inv ∙ (rw (product_is c.before.before.before, other-is c.before) at c.sum.ensures)
+    back w64 c.sum.result c.sum.type-inv ∙ (rw (product_is c.before.before.before, other_is c.before) at c.sum.ensures)
 
 -- what a bound comes to
 lowered : (b : Bound) (scans : ℕ) (here other : Occurrence) (z earlier : ℤ) → b ≡ Greatest →
-    z ≡ (here.pv *ℤ pos (scans - 1)) +ℤ other.pv → earlier ≡ fromSign true (scansBefore here.number other.number) →
-    z +ℤ earlier ≡ sumBound b scans here other
-unfolding sumBound
+    z ≡ (here.pv *ℤ pos (scans - 1)) +ℤ other.pv → earlier ≡ from_sign true (scans_before here.number other.number) →
+    z +ℤ earlier ≡ sum_bound b scans here other
+unfolding sum_bound
 lowered b scans here other z earlier d e f = rw (d, e, f) refl
 
 raised : (b : Bound) (scans : ℕ) (here other : Occurrence) (z earlier : ℤ) → b ≡ Least →
-    z ≡ (here.pv *ℤ pos (scans - 1)) +ℤ other.pv → earlier ≡ fromSign false (scansBefore here.number other.number) →
-    z +ℤ earlier ≡ sumBound b scans here other
-unfolding sumBound
+    z ≡ (here.pv *ℤ pos (scans - 1)) +ℤ other.pv → earlier ≡ from_sign false (scans_before here.number other.number) →
+    z +ℤ earlier ≡ sum_bound b scans here other
+unfolding sum_bound
 raised b scans here other z earlier d e f = rw (d, e, f) refl
 
-greatest-is : (c : tie.After-signed) → let start = c.before.before.before.before.before.before.before.before.before.before in
+greatest_is : (c : tie.After-signed) → let start = c.before.before.before.before.before.before.before.before.before.before in
     to_z w64 (of_z w64 c.before.before.before.before.sum.result) +ℤ to_z w64 (of_z w64 c.signed.result)
-    ≡ sumBound start.args.bound start.args.scans start.args.here start.args.other
-greatest-is c =
+    ≡ sum_bound start.args.bound start.args.scans start.args.here start.args.other
+greatest_is c =
     let start = c.before.before.before.before.before.before.before.before.before.before in
     lowered start.args.bound start.args.scans start.args.here start.args.other _ _ c.before.enum_told.given.1
     (sum_is c.before.before.before.before)
     (back w64 c.signed.result c.signed.type-inv ∙ c.signed.ensures ∙
-    ap (fromSign true) c.before.before.before.scans-before.ensures)
+    ap (from_sign true) c.before.before.before.scans-before.ensures)
 
-least-is : (c : tie.After-signed2) → let start = c.before.before.before.before.before.before.before.before.before.before in
+least_is : (c : tie.After-signed2) → let start = c.before.before.before.before.before.before.before.before.before.before in
     to_z w64 (of_z w64 c.before.before.before.before.sum.result) +ℤ to_z w64 (of_z w64 c.signed2.result)
-    ≡ sumBound start.args.bound start.args.scans start.args.here start.args.other
-least-is c =
+    ≡ sum_bound start.args.bound start.args.scans start.args.here start.args.other
+least_is c =
     let start = c.before.before.before.before.before.before.before.before.before.before in
     raised start.args.bound start.args.scans start.args.here start.args.other _ _ c.before.enum-told2.given.1
     (sum_is c.before.before.before.before)
     (back w64 c.signed2.result c.signed2.type-inv ∙ c.signed2.ensures ∙
-    ap (fromSign false) c.before.before.before.scans-before.ensures)
+    ap (from_sign false) c.before.before.before.scans-before.ensures)
 
-wide-requires : tie.Need-wide-requires
-wide-requires c κs = search rules
+wide_requires : tie.Need-wide-requires
+wide_requires c κs = search rules
 
-sub-times : tie.Need-overflow-sub-times
-sub-times c = let p = c.before.before.requires.0 in omega (arith, p.from, p.to)
+sub_times : tie.Need-overflow-sub-times
+sub_times c = let p = c.before.before.requires.0 in omega (arith, p.from, p.to)
 
-cast-times : tie.Need-overflow-cast-times
-cast-times c = search rules
+cast_times : tie.Need-overflow-cast-times
+cast_times c = search rules
 
-times-requires : tie.Need-times-requires
-times-requires c κs =
+times_requires : tie.Need-times-requires
+times_requires c κs =
     let start = c.before.before in
-    rw (here-is c) (times-fits start.args.here.pv start.args.scans start.requires.0.held start.requires.1)
+    rw (here_is c) (times_fits start.args.here.pv start.args.scans start.requires.0.held start.requires.1)
 
-wide-requires-2 : tie.Need-wide-requires-2
-wide-requires-2 c κs = search rules
+wide_requires_2 : tie.Need-wide-requires-2
+wide_requires_2 c κs = search rules
 
-sum-requires : tie.Need-sum-requires
-sum-requires c κs =
+sum_requires : tie.Need-sum-requires
+sum_requires c κs =
     let start = c.before.before.before.before.before in
-    rw (product_is c.before.before, other-is c)
-    (sum-of-fits start.args.here.pv start.args.other.pv start.args.scans start.requires.0.held start.requires.0.other-held
+    rw (product_is c.before.before, other_is c)
+    (sum_of_fits start.args.here.pv start.args.other.pv start.args.scans start.requires.0.held start.requires.0.other_held
     start.requires.1)
 
-scans-before-requires : tie.Need-scans-before-requires
-scans-before-requires c κs = let p = c.before.before.before.before.before.before.requires.0 in (p.from, p.other_from)
+scans_before_requires : tie.Need-scans-before-requires
+scans_before_requires c κs = let p = c.before.before.before.before.before.before.requires.0 in (p.from, p.other_from)
 
 enum_told : tie.Need-enum-told
 enum_told c = search rules
@@ -105,54 +105,54 @@ enum_told c = search rules
 cast_signed : tie.Need-overflow-cast-signed
 cast_signed c = search rules
 
-signed-requires : tie.Need-signed-requires
-signed-requires c κs = search rules
+signed_requires : tie.Need-signed-requires
+signed_requires c κs = search rules
 
-sum-requires-2 : tie.Need-sum-requires-2
-sum-requires-2 c κs =
+sum_requires_2 : tie.Need-sum-requires-2
+sum_requires_2 c κs =
     let start = c.before.before.before.before.before.before.before.before.before.before in
-    rw (greatest-is c)
-    (bound-fits start.args.bound start.args.scans start.args.here start.args.other start.requires.0 start.requires.1)
+    rw (greatest_is c)
+    (bound_fits start.args.bound start.args.scans start.args.here start.args.other start.requires.0 start.requires.1)
 
-enum-told-2 : tie.Need-enum-told-2
-enum-told-2 c = search rules
+enum_told_2 : tie.Need-enum-told-2
+enum_told_2 c = search rules
 
-cast-signed-2 : tie.Need-overflow-cast-signed-2
-cast-signed-2 c = search rules
+cast_signed_2 : tie.Need-overflow-cast-signed-2
+cast_signed_2 c = search rules
 
-signed-requires-2 : tie.Need-signed-requires-2
-signed-requires-2 c κs = search rules
+signed_requires_2 : tie.Need-signed-requires-2
+signed_requires_2 c κs = search rules
 
-sum-requires-3 : tie.Need-sum-requires-3
-sum-requires-3 c κs =
+sum_requires_3 : tie.Need-sum-requires-3
+sum_requires_3 c κs =
     let start = c.before.before.before.before.before.before.before.before.before.before in
-    rw (least-is c)
-    (bound-fits start.args.bound start.args.scans start.args.here start.args.other start.requires.0 start.requires.1)
+    rw (least_is c)
+    (bound_fits start.args.bound start.args.scans start.args.here start.args.other start.requires.0 start.requires.1)
 
 returns : tie.Need-returns
-returns c = back w64 c.sum2.result c.sum2.type-inv ∙ c.sum2.ensures ∙ greatest-is c.before
+returns c = back w64 c.sum2.result c.sum2.type-inv ∙ c.sum2.ensures ∙ greatest_is c.before
 
-returns-2 : tie.Need-returns-2
-returns-2 c = back w64 c.sum3.result c.sum3.type-inv ∙ c.sum3.ensures ∙ least-is c.before
+returns_2 : tie.Need-returns-2
+returns_2 c = back w64 c.sum3.result c.sum3.type-inv ∙ c.sum3.ensures ∙ least_is c.before
 
-pub sum-bound-spec : {M : Type 1} → statement M
-sum-bound-spec =
+pub sum_bound_spec : {M : Type 1} → statement M
+sum_bound_spec =
     tie.close
     (tie.spec
-    wide-requires
-    sub-times
-    cast-times
-    times-requires
-    wide-requires-2
-    sum-requires
-    scans-before-requires
+    wide_requires
+    sub_times
+    cast_times
+    times_requires
+    wide_requires_2
+    sum_requires
+    scans_before_requires
     enum_told
     cast_signed
-    signed-requires
-    sum-requires-2
-    enum-told-2
-    cast-signed-2
-    signed-requires-2
-    sum-requires-3
+    signed_requires
+    sum_requires_2
+    enum_told_2
+    cast_signed_2
+    signed_requires_2
+    sum_requires_3
     returns
-    returns-2)
+    returns_2)

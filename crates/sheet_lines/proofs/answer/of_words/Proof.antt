@@ -5,14 +5,14 @@ use Rattle.sheet_lines.specs.Answers.{answer_of}
 use Rattle.sheet_lines.proofs.answer.of_words.Statement.{statement}
 use Rattle.sheet_lines.proofs.answer.of_words.Tie as tie
 
-enum-known-mode : tie.Need-enum-known-mode
-enum-known-mode c = search rules
+enum_known_mode : tie.Need-enum-known-mode
+enum_known_mode c = search rules
 
-has-requires : tie.Need-has-requires
-has-requires c κs = tt
+has_requires : tie.Need-has-requires
+has_requires c κs = tt
 
-of-numbers-requires : tie.Need-of-numbers-requires
-of-numbers-requires c κs = tt
+of_numbers_requires : tie.Need-of-numbers-requires
+of_numbers_requires c κs = tt
 
 enum_told : tie.Need-enum-told
 enum_told c = search rules
@@ -25,25 +25,25 @@ returns c =
     let e = h.before.before.before.mode.given.1 in
     rw (e, sym h.has.ensures ∙ t.if1.true) c.of-numbers.ensures
 
-returns-2 : tie.Need-returns-2
+returns_2 : tie.Need-returns-2
 unfolding answer_of
-returns-2 c =
+returns_2 c =
     let h = c.before in
     let e = h.before.before.before.mode.given.1 in
     rw (e, sym h.has.ensures ∙ c.if1.false) refl
 
-returns-3 : tie.Need-returns-3
+returns_3 : tie.Need-returns-3
 unfolding answer_of
-returns-3 c = rw c.enum_told.given.1 refl
+returns_3 c = rw c.enum_told.given.1 refl
 
-pub of-words-spec : {M : Type 1} → statement M
-of-words-spec =
+pub of_words_spec : {M : Type 1} → statement M
+of_words_spec =
     tie.close
     (tie.spec
-    enum-known-mode
-    has-requires
-    of-numbers-requires
+    enum_known_mode
+    has_requires
+    of_numbers_requires
     enum_told
     returns
-    returns-2
-    returns-3)
+    returns_2
+    returns_3)

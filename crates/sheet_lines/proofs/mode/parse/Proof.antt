@@ -4,29 +4,29 @@ use Rattle.sheet_lines.specs.ModeWords.{mode_of}
 use Rattle.sheet_lines.proofs.mode.parse.Statement.{statement}
 use Rattle.sheet_lines.proofs.mode.parse.Tie as tie
 
-mode-or-requires : tie.Need-mode-or-requires
-mode-or-requires c κs = tt
+mode_or_requires : tie.Need-mode-or-requires
+mode_or_requires c κs = tt
 
-mode-or-requires-2 : tie.Need-mode-or-requires-2
-mode-or-requires-2 c κs = tt
+mode_or_requires_2 : tie.Need-mode-or-requires-2
+mode_or_requires_2 c κs = tt
 
-mode-or-requires-3 : tie.Need-mode-or-requires-3
-mode-or-requires-3 c κs = tt
+mode_or_requires_3 : tie.Need-mode-or-requires-3
+mode_or_requires_3 c κs = tt
 
-mode-or-requires-4 : tie.Need-mode-or-requires-4
-mode-or-requires-4 c κs = tt
+mode_or_requires_4 : tie.Need-mode-or-requires-4
+mode_or_requires_4 c κs = tt
 
-mode-or-requires-5 : tie.Need-mode-or-requires-5
-mode-or-requires-5 c κs = tt
+mode_or_requires_5 : tie.Need-mode-or-requires-5
+mode_or_requires_5 c κs = tt
 
-mode-or-requires-6 : tie.Need-mode-or-requires-6
-mode-or-requires-6 c κs = tt
+mode_or_requires_6 : tie.Need-mode-or-requires-6
+mode_or_requires_6 c κs = tt
 
-mode-or-requires-7 : tie.Need-mode-or-requires-7
-mode-or-requires-7 c κs = tt
+mode_or_requires_7 : tie.Need-mode-or-requires-7
+mode_or_requires_7 c κs = tt
 
-mode-or-requires-8 : tie.Need-mode-or-requires-8
-mode-or-requires-8 c κs = tt
+mode_or_requires_8 : tie.Need-mode-or-requires-8
+mode_or_requires_8 c κs = tt
 
 returns : tie.Need-returns
 unfolding mode_of
@@ -49,16 +49,16 @@ returns c =
       fallback.mode-or.ensures,
     ) refl
 
-pub parse-spec : {M : Type 1} → statement M
-parse-spec =
+pub parse_spec : {M : Type 1} → statement M
+parse_spec =
     tie.close
     (tie.spec
-    mode-or-requires
-    mode-or-requires-2
-    mode-or-requires-3
-    mode-or-requires-4
-    mode-or-requires-5
-    mode-or-requires-6
-    mode-or-requires-7
-    mode-or-requires-8
+    mode_or_requires
+    mode_or_requires_2
+    mode_or_requires_3
+    mode_or_requires_4
+    mode_or_requires_5
+    mode_or_requires_6
+    mode_or_requires_7
+    mode_or_requires_8
     returns)

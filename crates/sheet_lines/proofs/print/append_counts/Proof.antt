@@ -1,33 +1,33 @@
 -- `sheet_lines::print::append_counts` meets its contract.
 use mathlib.Core.Path.{◌∙◌}
-use Rattle.sheet_lines.specs.Appended.{text-then}
-use Rattle.sheet_lines.specs.SheetText.{countsText}
+use Rattle.sheet_lines.specs.Appended.{text_then}
+use Rattle.sheet_lines.specs.SheetText.{counts_text}
 use Rattle.sheet_lines.proofs.print.append_counts.Statement.{statement}
 use Rattle.sheet_lines.proofs.print.append_counts.Tie as tie
 
-append-count-requires : tie.Need-append-count-requires
-append-count-requires c κs = tt
+append_count_requires : tie.Need-append-count-requires
+append_count_requires c κs = tt
 
-append-count-requires-2 : tie.Need-append-count-requires-2
-append-count-requires-2 c κs = tt
+append_count_requires_2 : tie.Need-append-count-requires-2
+append_count_requires_2 c κs = tt
 
-append-count-requires-3 : tie.Need-append-count-requires-3
-append-count-requires-3 c κs = tt
+append_count_requires_3 : tie.Need-append-count-requires-3
+append_count_requires_3 c κs = tt
 
-append-count-requires-4 : tie.Need-append-count-requires-4
-append-count-requires-4 c κs = tt
+append_count_requires_4 : tie.Need-append-count-requires-4
+append_count_requires_4 c κs = tt
 
-append-count-requires-5 : tie.Need-append-count-requires-5
-append-count-requires-5 c κs = tt
+append_count_requires_5 : tie.Need-append-count-requires-5
+append_count_requires_5 c κs = tt
 
-append-count-requires-6 : tie.Need-append-count-requires-6
-append-count-requires-6 c κs = tt
+append_count_requires_6 : tie.Need-append-count-requires-6
+append_count_requires_6 c κs = tt
 
-append-count-requires-7 : tie.Need-append-count-requires-7
-append-count-requires-7 c κs = tt
+append_count_requires_7 : tie.Need-append-count-requires-7
+append_count_requires_7 c κs = tt
 
-append-count-requires-8 : tie.Need-append-count-requires-8
-append-count-requires-8 c κs = tt
+append_count_requires_8 : tie.Need-append-count-requires-8
+append_count_requires_8 c κs = tt
 
 -- the appends one after another
 module _ (c : tie.After-slice-known9) where
@@ -65,27 +65,27 @@ same_length c =
     (track c).append-count2.auto.0 ∙ (hold c).append-count.auto.0
 
 returns : tie.Need-returns
-unfolding countsText
+unfolding counts_text
 returns c =
-    let two = text-then (hold c).append-count.ensures (track c).append-count2.ensures in
-    let three = text-then two (forced c).append-count3.ensures in
-    let four = text-then three (manual c).append-count4.ensures in
-    let five = text-then four (auto c).append-count5.ensures in
-    let six = text-then five (remote c).append-count6.ensures in
-    let seven = text-then six (ratio c).append-count7.ensures in
-    text-then seven (fallback c).append-count8.ensures
+    let two = text_then (hold c).append-count.ensures (track c).append-count2.ensures in
+    let three = text_then two (forced c).append-count3.ensures in
+    let four = text_then three (manual c).append-count4.ensures in
+    let five = text_then four (auto c).append-count5.ensures in
+    let six = text_then five (remote c).append-count6.ensures in
+    let seven = text_then six (ratio c).append-count7.ensures in
+    text_then seven (fallback c).append-count8.ensures
 
-pub append-counts-spec : {M : Type 1} → statement M
-append-counts-spec =
+pub append_counts_spec : {M : Type 1} → statement M
+append_counts_spec =
     tie.close
     (tie.spec
-    append-count-requires
-    append-count-requires-2
-    append-count-requires-3
-    append-count-requires-4
-    append-count-requires-5
-    append-count-requires-6
-    append-count-requires-7
-    append-count-requires-8
+    append_count_requires
+    append_count_requires_2
+    append_count_requires_3
+    append_count_requires_4
+    append_count_requires_5
+    append_count_requires_6
+    append_count_requires_7
+    append_count_requires_8
     same_length
     returns)

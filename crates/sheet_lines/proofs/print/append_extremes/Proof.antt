@@ -2,28 +2,28 @@
 use mathlib.Core.Path.{◌∙◌, ap}
 use borrow.Author.Rules.{rules}
 use Rattle.formatting.specs.Ascii.{ascii}
-use Rattle.sheet_lines.specs.Appended.{text-then, text-is}
-use Rattle.sheet_lines.specs.SheetText.{extremesText, extremeText}
+use Rattle.sheet_lines.specs.Appended.{text_then, text_is}
+use Rattle.sheet_lines.specs.SheetText.{extremes_text, extreme_text}
 use Rattle.sheet_lines.proofs.print.append_extremes.Statement.{statement}
 use Rattle.sheet_lines.proofs.print.append_extremes.Tie as tie
 
-slice-aggregate-append-extreme : tie.Need-slice-aggregate-append-extreme
-slice-aggregate-append-extreme c = search rules
+slice_aggregate_append_extreme : tie.Need-slice-aggregate-append-extreme
+slice_aggregate_append_extreme c = search rules
 
-greatest-requires : tie.Need-greatest-requires
-greatest-requires c κs = tt
+greatest_requires : tie.Need-greatest-requires
+greatest_requires c κs = tt
 
-append-extreme-requires : tie.Need-append-extreme-requires
-append-extreme-requires c κs = tt
+append_extreme_requires : tie.Need-append-extreme-requires
+append_extreme_requires c κs = tt
 
-slice-aggregate-append-extreme-2 : tie.Need-slice-aggregate-append-extreme-2
-slice-aggregate-append-extreme-2 c = search rules
+slice_aggregate_append_extreme_2 : tie.Need-slice-aggregate-append-extreme-2
+slice_aggregate_append_extreme_2 c = search rules
 
-least-requires : tie.Need-least-requires
-least-requires c κs = tt
+least_requires : tie.Need-least-requires
+least_requires c κs = tt
 
-append-extreme-requires-2 : tie.Need-append-extreme-requires-2
-append-extreme-requires-2 c κs = tt
+append_extreme_requires_2 : tie.Need-append-extreme-requires-2
+append_extreme_requires_2 c κs = tt
 
 -- the appends one after another
 module _ (c : tie.After-slice-known3) where
@@ -40,21 +40,21 @@ same_length : tie.Need-same-length
 same_length c = (least c).append-extreme2.auto.0 ∙ (greatest c).append-extreme.auto.0
 
 returns : tie.Need-returns
-unfolding extremesText
+unfolding extremes_text
 returns c =
-    let most = ap (extremeText (ascii "max")) (greatest c).before.greatest.ensures in
-    let fewest = ap (extremeText (ascii "min")) (least c).before.least.ensures in
-    text-then (text-is (greatest c).append-extreme.ensures most) (text-is (least c).append-extreme2.ensures fewest)
+    let most = ap (extreme_text (ascii "max")) (greatest c).before.greatest.ensures in
+    let fewest = ap (extreme_text (ascii "min")) (least c).before.least.ensures in
+    text_then (text_is (greatest c).append-extreme.ensures most) (text_is (least c).append-extreme2.ensures fewest)
 
-pub append-extremes-spec : {M : Type 1} → statement M
-append-extremes-spec =
+pub append_extremes_spec : {M : Type 1} → statement M
+append_extremes_spec =
     tie.close
     (tie.spec
-    slice-aggregate-append-extreme
-    greatest-requires
-    append-extreme-requires
-    slice-aggregate-append-extreme-2
-    least-requires
-    append-extreme-requires-2
+    slice_aggregate_append_extreme
+    greatest_requires
+    append_extreme_requires
+    slice_aggregate_append_extreme_2
+    least_requires
+    append_extreme_requires_2
     same_length
     returns)

@@ -1,16 +1,16 @@
 -- `sheet_lines::print::append_number` meets its contract.
 use mathlib.Core.Path.{◌∙◌}
 use native.Mathlib.Omega.{arith}
-use Rattle.sheet_lines.specs.Appended.{number-length, text_of, text-then, text-most}
-use Rattle.sheet_lines.specs.SheetText.{numberText}
+use Rattle.sheet_lines.specs.Appended.{number_length, text_of, text_then, text_most}
+use Rattle.sheet_lines.specs.SheetText.{number_text}
 use Rattle.sheet_lines.proofs.print.append_number.Statement.{statement}
 use Rattle.sheet_lines.proofs.print.append_number.Tie as tie
 
-append-name-requires : tie.Need-append-name-requires
-append-name-requires c κs = tt
+append_name_requires : tie.Need-append-name-requires
+append_name_requires c κs = tt
 
-append-decimal-requires : tie.Need-append-decimal-requires
-append-decimal-requires c κs = tt
+append_decimal_requires : tie.Need-append-decimal-requires
+append_decimal_requires c κs = tt
 
 -- the appends one after another
 module _ (c : tie.After-slice-known3) where
@@ -27,11 +27,11 @@ same_length : tie.Need-same-length
 same_length c = (number c).append-decimal.auto.0 ∙ (name c).append-name.auto.0
 
 returns : tie.Need-returns
-unfolding numberText
+unfolding number_text
 returns c =
-    let number_of_lem = text_of 10 (number c).append-decimal.ensures (number-length (start c).args.number (omega arith)) in
-    text-most (text-then (name c).append-name.ensures number_of_lem) (omega arith)
+    let number_of_lem = text_of 10 (number c).append-decimal.ensures (number_length (start c).args.number (omega arith)) in
+    text_most (text_then (name c).append-name.ensures number_of_lem) (omega arith)
 
-pub append-number-spec : {M : Type 1} → statement M
-append-number-spec =
-    tie.close (tie.spec append-name-requires append-decimal-requires same_length returns)
+pub append_number_spec : {M : Type 1} → statement M
+append_number_spec =
+    tie.close (tie.spec append_name_requires append_decimal_requires same_length returns)

@@ -4,58 +4,58 @@ use borrow.Author.Rules.{rules}
 use native.Mathlib.Omega.{arith}
 use mir.Syntax.{w64}
 use Rattle.integers.specs.Machine.{back}
-use Rattle.sheet_lines.specs.Appended.{text_of, text-then, text-is}
-use Rattle.sheet_lines.specs.SheetText.{sheetText, numberText, sumText}
+use Rattle.sheet_lines.specs.Appended.{text_of, text_then, text_is}
+use Rattle.sheet_lines.specs.SheetText.{sheet_text, number_text, sum_text}
 use Rattle.sheet_lines.proofs.print.append_sheet.Statement.{statement}
 use Rattle.sheet_lines.proofs.print.append_sheet.Tie as tie
 
-slice-aggregate-append-bytes : tie.Need-slice-aggregate-append-bytes
-slice-aggregate-append-bytes c = refl
+slice_aggregate_append_bytes : tie.Need-slice-aggregate-append-bytes
+slice_aggregate_append_bytes c = refl
 
-append-bytes-requires : tie.Need-append-bytes-requires
-append-bytes-requires c κs = tt
+append_bytes_requires : tie.Need-append-bytes-requires
+append_bytes_requires c κs = tt
 
-slice-aggregate-append-number : tie.Need-slice-aggregate-append-number
-slice-aggregate-append-number c = search rules
+slice_aggregate_append_number : tie.Need-slice-aggregate-append-number
+slice_aggregate_append_number c = search rules
 
-scans-requires : tie.Need-scans-requires
-scans-requires c κs = tt
+scans_requires : tie.Need-scans-requires
+scans_requires c κs = tt
 
-append-number-requires : tie.Need-append-number-requires
-append-number-requires c κs = tt
+append_number_requires : tie.Need-append-number-requires
+append_number_requires c κs = tt
 
-append-counts-requires : tie.Need-append-counts-requires
-append-counts-requires c κs = tt
+append_counts_requires : tie.Need-append-counts-requires
+append_counts_requires c κs = tt
 
-append-extremes-requires : tie.Need-append-extremes-requires
-append-extremes-requires c κs = tt
+append_extremes_requires : tie.Need-append-extremes-requires
+append_extremes_requires c κs = tt
 
-slice-aggregate-append-number-2 : tie.Need-slice-aggregate-append-number-2
-slice-aggregate-append-number-2 c = search rules
+slice_aggregate_append_number_2 : tie.Need-slice-aggregate-append-number-2
+slice_aggregate_append_number_2 c = search rules
 
-scans-with-alarm-requires : tie.Need-scans-with-alarm-requires
-scans-with-alarm-requires c κs = tt
+scans_with_alarm_requires : tie.Need-scans-with-alarm-requires
+scans_with_alarm_requires c κs = tt
 
-append-number-requires-2 : tie.Need-append-number-requires-2
-append-number-requires-2 c κs = tt
+append_number_requires_2 : tie.Need-append-number-requires-2
+append_number_requires_2 c κs = tt
 
-slice-aggregate-append-sum : tie.Need-slice-aggregate-append-sum
-slice-aggregate-append-sum c = search rules
+slice_aggregate_append_sum : tie.Need-slice-aggregate-append-sum
+slice_aggregate_append_sum c = search rules
 
-sum-pv-requires : tie.Need-sum-pv-requires
-sum-pv-requires c κs = tt
+sum_pv_requires : tie.Need-sum-pv-requires
+sum_pv_requires c κs = tt
 
-append-sum-requires : tie.Need-append-sum-requires
-append-sum-requires c κs = tt
+append_sum_requires : tie.Need-append-sum-requires
+append_sum_requires c κs = tt
 
-slice-aggregate-append-sum-2 : tie.Need-slice-aggregate-append-sum-2
-slice-aggregate-append-sum-2 c = search rules
+slice_aggregate_append_sum_2 : tie.Need-slice-aggregate-append-sum-2
+slice_aggregate_append_sum_2 c = search rules
 
-sum-op-requires : tie.Need-sum-op-requires
-sum-op-requires c κs = tt
+sum_op_requires : tie.Need-sum-op-requires
+sum_op_requires c κs = tt
 
-append-sum-requires-2 : tie.Need-append-sum-requires-2
-append-sum-requires-2 c κs = tt
+append_sum_requires_2 : tie.Need-append-sum-requires-2
+append_sum_requires_2 c κs = tt
 
 -- the appends one after another
 module _ (c : tie.After-slice-known8) where
@@ -90,38 +90,38 @@ same_length c =
     (name c).append-bytes.auto.0
 
 returns : tie.Need-returns
-unfolding sheetText
+unfolding sheet_text
 returns c =
-    let scans-of = text-is (scans c).append-number.ensures (ap (numberText _) (scans c).before.scans.ensures) in
-    let alarms-of = text-is (alarms c).append-number2.ensures (ap (numberText _) (alarms c).before.scans-with-alarm.ensures) in
-    let pv = (sumpv c).before.sum-pv in
-    let op = (sumop c).before.sum-op in
-    let sumpv-of = text-is (sumpv c).append-sum.ensures (ap (sumText _) (back w64 pv.result pv.ok ∙ pv.ensures)) in
-    let sumop-of = text-is (sumop c).append-sum2.ensures (ap (sumText _) (back w64 op.result op.ok ∙ op.ensures)) in
-    let two = text-then (text_of 5 (name c).append-bytes.ensures (omega arith)) scans-of in
-    let three = text-then two (counts c).append-counts.ensures in
-    let four = text-then three (extremes c).append-extremes.ensures in
-    text-then (text-then (text-then four alarms-of) sumpv-of) sumop-of
+    let scans-of = text_is (scans c).append-number.ensures (ap (number_text _) (scans c).before.scans.ensures) in
+    let alarms-of = text_is (alarms c).append-number2.ensures (ap (number_text _) (alarms c).before.scans-with-alarm.ensures) in
+    let pv = (sumpv c).before.sum_pv_lem in
+    let op = (sumop c).before.sum_op_lem in
+    let sumpv-of = text_is (sumpv c).append-sum.ensures (ap (sum_text _) (back w64 pv.result pv.ok ∙ pv.ensures)) in
+    let sumop-of = text_is (sumop c).append-sum2.ensures (ap (sum_text _) (back w64 op.result op.ok ∙ op.ensures)) in
+    let two = text_then (text_of 5 (name c).append-bytes.ensures (omega arith)) scans-of in
+    let three = text_then two (counts c).append-counts.ensures in
+    let four = text_then three (extremes c).append-extremes.ensures in
+    text_then (text_then (text_then four alarms-of) sumpv-of) sumop-of
 
-pub append-sheet-spec : {M : Type 1} → statement M
-append-sheet-spec =
+pub append_sheet_spec : {M : Type 1} → statement M
+append_sheet_spec =
     tie.close
     (tie.spec
-    slice-aggregate-append-bytes
-    append-bytes-requires
-    slice-aggregate-append-number
-    scans-requires
-    append-number-requires
-    append-counts-requires
-    append-extremes-requires
-    slice-aggregate-append-number-2
-    scans-with-alarm-requires
-    append-number-requires-2
-    slice-aggregate-append-sum
-    sum-pv-requires
-    append-sum-requires
-    slice-aggregate-append-sum-2
-    sum-op-requires
-    append-sum-requires-2
+    slice_aggregate_append_bytes
+    append_bytes_requires
+    slice_aggregate_append_number
+    scans_requires
+    append_number_requires
+    append_counts_requires
+    append_extremes_requires
+    slice_aggregate_append_number_2
+    scans_with_alarm_requires
+    append_number_requires_2
+    slice_aggregate_append_sum
+    sum_pv_requires
+    append_sum_requires
+    slice_aggregate_append_sum_2
+    sum_op_requires
+    append_sum_requires_2
     same_length
     returns)

@@ -4,20 +4,20 @@ use Rattle.terminal.specs.MnemonicLaws.{letter_at}
 use Rattle.terminal.proofs.mnemonic.letter.Statement.{statement}
 use Rattle.terminal.proofs.mnemonic.letter.Tie as tie
 
-sub-result : tie.Need-overflow-sub-result
-sub-result c = search rules
+sub_result : tie.Need-overflow-sub-result
+sub_result c = search rules
 
-mul-result : tie.Need-overflow-mul-result
-mul-result c = search rules
+mul_result : tie.Need-overflow-mul-result
+mul_result c = search rules
 
-add-result : tie.Need-overflow-add-result
-add-result c = search rules
+add_result : tie.Need-overflow-add-result
+add_result c = search rules
 
-element-copy-out-result : tie.Need-element-copy-out-result
-element-copy-out-result c = search rules
+element_copy_out_result : tie.Need-element-copy-out-result
+element_copy_out_result c = search rules
 
 returns : tie.Need-returns
 returns c = let a = c.before.before.args in letter_at a.number a.place (search rules) (search rules) (search rules)
 
-pub letter-spec : {M : Type 1} → statement M
-letter-spec = tie.close (tie.spec sub-result mul-result add-result element-copy-out-result returns)
+pub letter_spec : {M : Type 1} → statement M
+letter_spec = tie.close (tie.spec sub_result mul_result add_result element_copy_out_result returns)

@@ -5,8 +5,8 @@ use Rattle.text.proofs.arguments.has.Tie as tie
 returns : tie.Need-returns
 returns c = simp c.before.if1.true
 
-returns-2 : tie.Need-returns-2
-returns-2 c = simp c.if1.false
+returns_2 : tie.Need-returns-2
+returns_2 c = simp c.if1.false
 
-pub has-spec : {M : Type 1} → statement M
-has-spec = tie.close (tie.spec returns returns-2)
+pub has_spec : {M : Type 1} → statement M
+has_spec = tie.close (tie.spec returns returns_2)

@@ -4,58 +4,58 @@ use Prim.Native.Nat.{◌-◌}
 use native.Mathlib.Numerals.{add-one}
 use native.Mathlib.Omega.{arith}
 use lib.ListN.{length, drop}
-use Rattle.text.specs.Hexadecimal.{allDigits}
-use Rattle.text.specs.HexadecimalLaws.{all_more, all-fails, all-ends}
+use Rattle.text.specs.Hexadecimal.{all_digits}
+use Rattle.text.specs.HexadecimalLaws.{all_more, all_fails, all_ends}
 use Rattle.text.proofs.hexadecimal.all_digits.Statement.{statement}
 use Rattle.text.proofs.hexadecimal.all_digits.Tie as tie
 
-abbrev invariant-loop : tie.invariant-loop
-invariant-loop word i₀ i = allDigits word ≡ allDigits (drop i word)
+abbrev invariant_loop : tie.invariant_loop
+invariant_loop word i₀ i = all_digits word ≡ all_digits (drop i word)
 
-abbrev decreases-loop : tie.decreases-loop
-decreases-loop word i₀ i = length word - i
+abbrev decreases_loop : tie.decreases_loop
+decreases_loop word i₀ i = length word - i
 
-loop-holds : tie.Need-loop-init invariant-loop decreases-loop
-loop-holds c = refl
+loop_holds : tie.Need-loop-init invariant_loop decreases_loop
+loop_holds c = refl
 
-shared-slice-read-digit-value : tie.Need-shared-slice-read-digit-value invariant-loop decreases-loop
-shared-slice-read-digit-value c = omega arith
+shared_slice_read_digit_value : tie.Need-shared-slice-read-digit-value invariant_loop decreases_loop
+shared_slice_read_digit_value c = omega arith
 
-digit-value-requires : tie.Need-digit-value-requires invariant-loop decreases-loop
-digit-value-requires c κs = tt
+digit_value_requires : tie.Need-digit-value-requires invariant_loop decreases_loop
+digit_value_requires c κs = tt
 
-returns : tie.Need-returns invariant-loop decreases-loop
+returns : tie.Need-returns invariant_loop decreases_loop
 returns c =
     let l = c.before.before.before.before in
-    sym (l.loop.invariant ∙ all-fails l.before.before.args.word.now l.loop.i (omega arith) (omega arith))
+    sym (l.loop.invariant ∙ all_fails l.before.before.args.word.now l.loop.i (omega arith) (omega arith))
 
-add-i : tie.Need-overflow-add-i invariant-loop decreases-loop
-add-i c = omega arith
+add_i : tie.Need-overflow-add-i invariant_loop decreases_loop
+add_i c = omega arith
 
-loop-less : tie.Need-loop-smaller invariant-loop decreases-loop
-loop-less c = omega arith
+loop_less : tie.Need-loop-smaller invariant_loop decreases_loop
+loop_less c = omega arith
 
-loop-again : tie.Need-loop-preserved invariant-loop decreases-loop
-loop-again c =
+loop_again : tie.Need-loop-preserved invariant_loop decreases_loop
+loop_again c =
     let l = c.before.before.before.before in
     rw add-one (l.loop.invariant ∙ all_more l.before.before.args.word.now l.loop.i (omega arith) (omega arith))
 
-returns-2 : tie.Need-returns-2 invariant-loop decreases-loop
-returns-2 c =
+returns_2 : tie.Need-returns-2 invariant_loop decreases_loop
+returns_2 c =
     let l = c.before in
-    sym (l.loop.invariant ∙ all-ends l.before.before.args.word.now l.loop.i (omega arith))
+    sym (l.loop.invariant ∙ all_ends l.before.before.args.word.now l.loop.i (omega arith))
 
-pub all-digits-spec : {M : Type 1} → statement M
-all-digits-spec =
+pub all_digits_spec : {M : Type 1} → statement M
+all_digits_spec =
     tie.close
     (tie.spec
-    invariant-loop
-    decreases-loop
-    loop-holds
-    shared-slice-read-digit-value
-    digit-value-requires
+    invariant_loop
+    decreases_loop
+    loop_holds
+    shared_slice_read_digit_value
+    digit_value_requires
     returns
-    add-i
-    loop-less
-    loop-again
-    returns-2)
+    add_i
+    loop_less
+    loop_again
+    returns_2)

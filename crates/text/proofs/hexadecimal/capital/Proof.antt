@@ -6,20 +6,20 @@ use Rattle.text.specs.Hexadecimal.{capital}
 use Rattle.text.proofs.hexadecimal.capital.Statement.{statement}
 use Rattle.text.proofs.hexadecimal.capital.Tie as tie
 
-add-result : tie.Need-overflow-add-result
-add-result c = search rules
+add_result : tie.Need-overflow-add-result
+add_result c = search rules
 
 returns : tie.Need-returns
 unfolding capital
 returns c = simp (inside 97 102 c.before.before.args.b (omega arith) (omega arith))
 
-returns-2 : tie.Need-returns-2
+returns_2 : tie.Need-returns-2
 unfolding capital
-returns-2 c = simp (below 97 102 c.before.args.b (omega arith))
+returns_2 c = simp (below 97 102 c.before.args.b (omega arith))
 
-returns-3 : tie.Need-returns-3
+returns_3 : tie.Need-returns-3
 unfolding capital
-returns-3 c = simp (above 97 102 c.before.before.args.b (omega arith) (omega arith))
+returns_3 c = simp (above 97 102 c.before.before.args.b (omega arith) (omega arith))
 
-pub capital-spec : {M : Type 1} → statement M
-capital-spec = tie.close (tie.spec add-result returns returns-2 returns-3)
+pub capital_spec : {M : Type 1} → statement M
+capital_spec = tie.close (tie.spec add_result returns returns_2 returns_3)

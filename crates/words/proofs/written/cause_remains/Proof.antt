@@ -3,14 +3,14 @@ use borrow.Author.Rules.{rules}
 use Rattle.words.proofs.written.cause_remains.Statement.{statement}
 use Rattle.words.proofs.written.cause_remains.Tie as tie
 
-fault-written-requires : tie.Need-fault-written-requires
-fault-written-requires c κs = search rules
+fault_written_requires : tie.Need-fault-written-requires
+fault_written_requires c κs = search rules
 
-is-cause-requires : tie.Need-is-cause-requires
-is-cause-requires c κs = search rules
+is_cause_requires : tie.Need-is-cause-requires
+is_cause_requires c κs = search rules
 
 returns : tie.Need-returns
 returns c = simp (c.is-cause.ensures, c.before.fault-written.ensures)
 
-pub cause-remains-spec : {M : Type 1} → statement M
-cause-remains-spec = tie.close (tie.spec fault-written-requires is-cause-requires returns)
+pub cause_remains_spec : {M : Type 1} → statement M
+cause_remains_spec = tie.close (tie.spec fault_written_requires is_cause_requires returns)

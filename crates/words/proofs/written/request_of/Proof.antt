@@ -4,24 +4,24 @@ use borrow.Author.Rules.{rules}
 use Rattle.words.proofs.written.request_of.Statement.{statement}
 use Rattle.words.proofs.written.request_of.Tie as tie
 
-bit-requires : tie.Need-bit-requires
-bit-requires c κs = search rules
+bit_requires : tie.Need-bit-requires
+bit_requires c κs = search rules
 
-bit-requires-2 : tie.Need-bit-requires-2
-bit-requires-2 c κs = search rules
+bit_requires_2 : tie.Need-bit-requires-2
+bit_requires_2 c κs = search rules
 
 returns : tie.Need-returns
 returns c = simp (sym c.before.before.bit.ensures ∙ c.if1.true)
 
-returns-2 : tie.Need-returns-2
-returns-2 c =
+returns_2 : tie.Need-returns-2
+returns_2 c =
     let bits = c.before.before in
     simp (sym bits.before.bit.ensures ∙ c.before.if1.false, sym bits.bit2.ensures ∙ c.if2.true)
 
-returns-3 : tie.Need-returns-3
-returns-3 c =
+returns_3 : tie.Need-returns-3
+returns_3 c =
     let bits = c.before.before in
     simp (sym bits.before.bit.ensures ∙ c.before.if1.false, sym bits.bit2.ensures ∙ c.if2.false)
 
-pub request-of-spec : {M : Type 1} → statement M
-request-of-spec = tie.close (tie.spec bit-requires bit-requires-2 returns returns-2 returns-3)
+pub request_of_spec : {M : Type 1} → statement M
+request_of_spec = tie.close (tie.spec bit_requires bit_requires_2 returns returns_2 returns_3)

@@ -1,18 +1,18 @@
 -- `words::written::user_bits_written` meets its contract.
 use borrow.Author.Rules.{rules}
-use Rattle.words.specs.Written.{userBitsWritten}
+use Rattle.words.specs.Written.{user_bits_written}
 use Rattle.words.proofs.written.user_bits_written.Statement.{statement}
 use Rattle.words.proofs.written.user_bits_written.Tie as tie
 
-bit-requires : tie.Need-bit-requires
-bit-requires c κs = search rules
+bit_requires : tie.Need-bit-requires
+bit_requires c κs = search rules
 
-bit-requires-2 : tie.Need-bit-requires-2
-bit-requires-2 c κs = search rules
+bit_requires_2 : tie.Need-bit-requires-2
+bit_requires_2 c κs = search rules
 
 returns : tie.Need-returns
-unfolding userBitsWritten
+unfolding user_bits_written
 returns c = simp (c.bit2.ensures, c.before.bit.ensures)
 
-pub user-bits-written-spec : {M : Type 1} → statement M
-user-bits-written-spec = tie.close (tie.spec bit-requires bit-requires-2 returns)
+pub user_bits_written_spec : {M : Type 1} → statement M
+user_bits_written_spec = tie.close (tie.spec bit_requires bit_requires_2 returns)
