@@ -1,6 +1,6 @@
-# `make run` proves, builds and plays figures, a drying session, two dryers, power cuts, a mechanic's visit and two
-# settings on a drum; `make test` is the gate; both show how far they are. `make bench` counts the instructions of a
-# square root, with gcc and valgrind.
+# `make run` proves, builds and plays figures, a drying session, two dryers, power cuts and a mechanic's visit; `make
+# test` is the gate; both show how far they are. `make bench` counts the instructions of a square root, with gcc and
+# valgrind.
 .PHONY: run test bench
 
 run:

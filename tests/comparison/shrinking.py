@@ -10,7 +10,7 @@ from tests.lists.host_clock import MOST, USUAL
 from tests.lists.line_parts import with_number
 from tests.model import loop
 from tests.model.images import IMAGE_BYTES, LAYOUT, TAGS, image_of
-from tests.model.lines import RANGES, Bits, call_of, line_of
+from tests.model.lines import RANGES, call_of, line_of
 from tests.model.state import Stored
 
 MANY_LINES = 300  # more than this are first made fewer
@@ -148,11 +148,9 @@ def simpler_columns(numbers):
 
 
 def simpler_than(given):
-    """Of a mode, a writer and a drum's kind there is nothing simpler; of a float fewer of its first bits."""
+    """Of a mode there is nothing simpler."""
     if isinstance(given, str):
         return []
-    if isinstance(given, Bits):
-        return [Bits(given >> bits << bits) for bits in (64, 52, 48, 32, 16) if given >> bits << bits < given]
     return simpler_images(given) if isinstance(given, bytes) else simpler_numbers(given)
 
 

@@ -15,8 +15,6 @@ IMAGE = FRESH.split()[1]  # a fresh controller's
 # The numbers of a sheet with one scan in Auto whose PV is -7, but the number of scans, and the sheet
 ONE_SCAN = "".join(f"sheet-number {place} {number}\n" for place, number in ((5, 1), (9, -7), (10, 1), (11, -7), (12, 1), (14, -7)))
 ONE_KEPT = sheet(1, "-7@1", "-7@1", sumpv=-7, auto=1)[1]
-# 8 as a drum has it, and a lag with gain 0 and rate 0.5
-EIGHT, A_LAG = "4020000000000000", "drum lag 4020000000000000 0000000000000000 3FE0000000000000"
 # The first of the numbers is 2 to the 64th; the third has 21 digits
 NO_READINGS = ("18446744073709551616", "99999999999999999999", "000000000000000000000", "", "-0", "-1", "+1", "x", "1 1", "1.0", "none",
                "36ms")
@@ -136,16 +134,6 @@ BY_HAND = (
      f"ratio 1 0\ninverse 5 150\n{SECOND_SCAN}\nsheet-last\nintegral 1000 1000 10 0 1\nderivative 1000 1000 10 0 0 1\nsheet\n",
      f"223\n{FIRST_ANSWER}\n223\n655360\nclock 36\nok\n1\n{sheet(1, '0@1', '0@1', manual=1)[1]}\nvalue 1000\n-5\n" + "error\n" * 8
      + f"8\n{FIRST_ANSWER}\nok\n23593\n-18204444\n{sheet(2, '0@1', '0@1', manual=2)[1]}\n"),
-    # Document 02, request 8: 8 and 4, then 2 and 1; before the first drum there is none, and a wrong line brings none
-    ("no drum", f"drum-offer\ndrum-step 5\nrun 0 0 0 0 0 0\nrun 5 128 0 0 0 0\ndrum lag {EIGHT} {EIGHT}\ndrum\ndrum-offer\n"
-     f"{FIRST_SCAN}\nfresh 0\nrestart {IMAGE}\nrun 1 128 0 0 0 0\nclock\nsheet-last\n{A_LAG}\ndrum-offer\n",
-     "error\n" * 7 + f"{FIRST_ANSWER}\nok\nok\nerror\nclock none\nok\nok\nsample 8\n"),
-    ("a run before any scan", f"{A_LAG}\nsheet-last\nrun 0 128 0 0 0 0\nsheet-last\nrun 5 128 0 0 16 0\nsheet-last\nrun 2 128 0 0 0 0\n"
-     "sheet-last\nclock\nsheet\n", f"ok\nerror\nrun 0 0 {EIGHT}\nerror\nrun 0 2 {EIGHT}\nerror\nrun 2 0 4000000000000000\nok\nclock 36\n"
-     f"{sheet(1, '0@1', '0@1', manual=1)[1]}\n"),
-    ("the forms of a drum's lines", f"  {A_LAG.replace(' ', '   ')}  \n drum-step  0000 \ndrum-step -0\n  drum-offer  \n"
-     "run 00001 128 -0 0 0 000\nDRUM-OFFER\ndrum-step\t0\n", "ok\ndrum 4010000000000000\ndrum 4000000000000000\nsample 2\n"
-     "run 1 0 3ff0000000000000\nerror\nerror\n"),
     ("blanks about calls on the sheet", "  sheet-new  \n   sheet-feed   hold  1   3  1 \n sheet-last \n  sheet \n",
      "ok\nok\nerror\nsheet scans=1 hold=1 track=0 forced=0 manual=0 auto=0 remote=0 ratio=0 fallback=0 "
      "max=1@1 min=1@1 alarms=0 sumpv=1 sumop=1\n"),
@@ -216,8 +204,6 @@ def cut_short(answers_of):
                  "sheet-feed ratio -7 1 9\n sheet-number  0015  -999999999999999999 ", "root 4\n derivative 1000  1000 0010 0 0  -100 ",
                  "root 4\nlimit -5  5 0009", "sheet-feed ratio -7 1 9\nsheet-last  ",
                  "sheet-feed ratio -7 1 9\nsheet-new ", "sheet-feed ratio -7 1 9\n sheet 0", "scan 128 0 0 0 0 0 9\nclock 9",
-                 f"{A_LAG}\n drum integrator  4010000000000000 3FF0000000000000 ", f"{A_LAG}\ndrum-step  0065535 ",
-                 f"{A_LAG}\nrun  0003 0192  5000 09000 -0 003 ", f"{A_LAG}\ndrum-offer  ",
                  f"{RB}line engineer 52423E2D30303939 0012 ", f"{RB}line operator 5242  009", f"{RB}line computer -  300"):
         first = text.index("\n") + 1
         lengths = range(first, len(text) + 1)

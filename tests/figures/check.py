@@ -2,7 +2,6 @@
 
 from tests.figures import clock as clock_figures
 from tests.figures import drop_outs as drop_out_figures
-from tests.figures import drums as drum_figures
 from tests.figures import images as image_figures
 from tests.figures import manual as manual_figures
 from tests.figures import rights as rights_figures
@@ -120,7 +119,7 @@ def all_lines():
     for case in CASES:
         yield from ((case.name, *line) for line in lines_of(case))
     for name, steps in (*manual_figures.FIGURES, *sheet_figures.FIGURES, *terminal_figures.FIGURES, *rights_figures.FIGURES,
-                        *drop_out_figures.FIGURES, *drum_figures.FIGURES):
+                        *drop_out_figures.FIGURES):
         yield from ((name, *line) for line in timed((("fresh 0", "ok"), *steps)))
 
 

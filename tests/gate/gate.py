@@ -26,7 +26,6 @@ PROOFS = ("proofs", ["rt", "ci"])
 # Two at once, the longest first
 TESTS = (
     ("the console's answers compared with the model's", [*MODULE, "tests.comparison.console", "target/bin/console"]),
-    ("a drum's answers compared with the model's", [*MODULE, "tests.comparison.drums", "target/bin/console"]),
     ("programs that forge a controller or a sheet", [*MODULE, "tests.outsider.outsider"]),
     ("the arithmetic's answers compared with the model's", [*MODULE, "tests.comparison.arithmetic", "target/bin/console"]),
     ("kept sheets compared with the model's", [*MODULE, "tests.comparison.kept_sheets", "target/bin/console"]),

@@ -13,7 +13,7 @@ from tests.gate import rt_progress
 from tests.gate.progress import duration, on_standard_output
 from tests.gate.steps import excerpt, failures_of, last_of
 
-FIRST_RUN_MINUTES = 11  # on the machine of docs/TESTS.md
+FIRST_RUN_MINUTES = 10  # on the machine of docs/TESTS.md
 NAME = "rt check"
 
 

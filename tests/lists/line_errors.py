@@ -1,6 +1,5 @@
 """Lines that are no call, made of calls and drawn from a seed."""
 
-from tests.lists.drum_forms import FLOAT_ERRORS
 from tests.lists.line_parts import bytes_at, filled_up, of_digits, with_number, with_text
 from tests.model import arithmetic
 from tests.model.lines import ANY, MODE, MODE_WORDS, MOST_BYTES, RANGES, READING, TYPED, WRITER, line_of, text_of
@@ -17,9 +16,6 @@ NO_SHEET_WORDS = (*NO_WORDS, "shee", "sheets", "sheet-", "sheet-ne", "sheet-news
                   "number", "sheet-numbe", "sheet-numbers", "sheetnumber", "sheet-place", "kept", "sheet-kep", "sheet-keep", "sheetkept")
 NO_ARITHMETIC_WORDS = (*NO_WORDS, "scal", "scales", "roo", "roots", "rati", "ratios", "inverses", "inverse-ratio", "inverse_ratio", "limi",
                        "limits", "proportiona", "proportion", "integrals", "integra", "derivativ", "derivatives", "square", "term")
-NO_DRUM_WORDS = (*NO_WORDS, "dru", "drums", "drum-", "drum_step", "drumstep", "drum-ste", "drum-steps", "step", "drum-offe",
-                 "drum-offers", "drumoffer", "offer", "drum-lag", "lag", "integrator", "drum-integrator", "sample", "ru", "runs", "run-",
-                 "run5", "drum-run", "turn", "runn", "-run")
 # In place of a mode: parts and other forms of the words, the names that document 01 has for modes, numbers
 NO_MODES = ("hol", "holds", "trac", "tracking", "force", "forced-manual", "forcedmanual", "manua", "man", "manuals", "aut", "automatic",
             "autos", "remot", "remotes", "rati", "ratios", "fall-back", "fallbac", "fallbacks", "fall", "m", "a", "r", "-", "0", "1", "7",
@@ -137,7 +133,7 @@ def writer_missing(generator, call):
 
 def unknown_word(generator, call):
     words = (NO_SHEET_WORDS if call[0].startswith("sheet") else NO_LINE_WORDS if call[0] == "line" else
-             NO_ARITHMETIC_WORDS if call[0] in arithmetic.WORDS else NO_DRUM_WORDS if call[0].startswith(("drum", "run")) else NO_WORDS)
+             NO_ARITHMETIC_WORDS if call[0] in arithmetic.WORDS else NO_WORDS)
     return line_of((generator.choice(words), *call[1:]))
 
 
@@ -223,4 +219,4 @@ LINE_ERRORS = {"number missing": number_missing, "number too many": number_too_m
                "no mode": no_mode, "mode in capitals": in_capitals, "mode behind": moved_behind,
                "no writer": no_writer, "writer in capitals": in_capitals, "writer behind": moved_behind, "writer missing": writer_missing,
                "reading signed": reading_signed, "reading of 21 digits": reading_of_21_digits,
-               "reading beyond 64 bits": reading_beyond_64_bits, "reading no number": reading_no_number, **FLOAT_ERRORS}
+               "reading beyond 64 bits": reading_beyond_64_bits, "reading no number": reading_no_number}

@@ -2,7 +2,6 @@
 
 from functools import lru_cache
 
-from tests.lists.drum_forms import FLOAT_ERRORS, FLOAT_FORMS
 from tests.lists.line_errors import LINE_ERRORS
 from tests.lists.line_parts import bytes_at, filled_up, of_digits, with_number
 from tests.model.arithmetic import ORDERED
@@ -55,21 +54,19 @@ def in_both_cases(generator, call):
 
 OTHER_FORMS = {"leading zeros": with_leading_zeros, "eighteen digits": with_eighteen_digits, "twenty digits": with_twenty_digits,
                "minus zero": with_minus_zeros, "more blanks": with_more_blanks, "700 bytes": with_700_bytes,
-               "small letters": in_small_letters, "both cases": in_both_cases, **FLOAT_FORMS}
+               "small letters": in_small_letters, "both cases": in_both_cases}
 
 
 # What is made of bytes, which a restart and a line of the terminal have, the second up to so many, of a mode, which
 # only an answer to be entered has, of milliseconds, which only a scan has, of a writer, which three calls have, and of
-# numbers, which a restart and some other calls haven't, of two ends, which two arithmetic lines have, and of floats,
-# which only a drum has; some lines with a number that is wrong elsewhere are calls all the same.
+# numbers, which a restart and some other calls haven't, and of two ends, which two arithmetic lines have; some lines
+# with a number that is wrong elsewhere are calls all the same.
 OF_BYTES = ("small letters", "both cases", "no bytes", "odd digits", "blank in bytes")
 OF_MODES = ("no mode", "mode in capitals", "mode behind")
 OF_WRITERS = ("no writer", "writer in capitals", "writer behind", "writer missing")
 OF_READINGS = ("twenty digits", "reading signed", "reading of 21 digits", "reading beyond 64 bits", "reading no number")
 OF_NUMBERS = ("leading zeros", "eighteen digits", "minus zero", "number beyond its type", "nineteen digits", "no number")
-OF_FLOATS = (*FLOAT_ERRORS, *FLOAT_FORMS)
 NOT_OF = {"scan": (*OF_BYTES, *OF_MODES), "restart": (*OF_NUMBERS, *OF_MODES), "line": OF_MODES, "sheet-feed": OF_BYTES,
-          "drum": (*OF_BYTES, *OF_MODES, *OF_NUMBERS, "number below zero"),
           **{word: (*OF_BYTES, *OF_MODES, "number below zero") for word in ("write", "limit")},
           **{word: (*OF_BYTES, *OF_MODES, "number below zero", "number beyond its type") for word in ("read", "access")},
           **{word: (*OF_BYTES, *OF_MODES, *OF_NUMBERS, "number missing", "number below zero")
@@ -80,7 +77,7 @@ def applies(kind, word):
     """Whether a call of this word can be put in this form or made into this line error."""
     return (kind not in NOT_OF.get(word, (*OF_BYTES, *OF_MODES)) and (word == "scan" or kind not in OF_READINGS)
             and (word == "line" or kind != "too many bytes") and (WRITER in RANGES.get(word, ()) or kind not in OF_WRITERS)
-            and (word in ORDERED or kind != "ends out of order") and (word == "drum" or kind not in OF_FLOATS))
+            and (word in ORDERED or kind != "ends out of order"))
 
 
 @lru_cache

@@ -1,10 +1,9 @@
 """The lines that the console reads, and those it answers: the form that was decided for them.
 
 A number is an optional minus and one to eighteen digits; the milliseconds of a scan are one to twenty digits without a
-sign.  Bytes are two hexadecimal digits each, of either case; a minus alone stands for none.  A drum's floats are
-exactly sixteen such digits each, and come in small letters.  A mode is one of eight words in small letters, a writer
-one of three, the kind of a drum one of two.  One or more blanks, spaces only, stand between words and may stand before
-and behind.  A line has up to 700 bytes without its newline.  A line that isn't a call is answered error and
+sign.  Bytes are two hexadecimal digits each, of either case; a minus alone stands for none.  A mode is one of eight
+words in small letters, a writer one of three.  One or more blanks, spaces only, stand between words and may stand
+before and behind.  A line has up to 700 bytes without its newline.  A line that isn't a call is answered error and
 changes nothing.  Texts here have one character for each byte of the line.  The numbers of an arithmetic line have
 ranges of their own (`arithmetic.py`).
 """
@@ -17,7 +16,7 @@ from tests.model.rights import WRITERS
 
 LONGEST_LINE = 700
 NUMBER, MILLISECONDS = re.compile("-?[0-9]{1,18}"), re.compile("[0-9]{1,20}")
-BYTES, SIXTEEN_DIGITS = re.compile("-|(?:[0-9A-Fa-f]{2})+"), re.compile("[0-9A-Fa-f]{16}")
+BYTES = re.compile("-|(?:[0-9A-Fa-f]{2})+")
 # The modes by the words that stand for them in lines, and the other way round
 MODE_WORDS = {"Hold": "hold", "Track": "track", "Forced Manual": "forced", "Manual": "manual", "Auto": "auto", "Remote": "remote",
               "Ratio": "ratio", "Fall-back": "fallback"}
@@ -27,21 +26,15 @@ MODE_OF_WORD = {word: mode for mode, word in MODE_WORDS.items()}
 # any, the second at one of sixteen places; a save's buffer and that of a line's reply have up to 300 bytes;
 # milliseconds have 64 bits, and no sign even at 0.  A restart has bytes in place of numbers, a line of the terminal its
 # own, up to 300, an answer to be entered begins with a mode, and what a writer makes or asks begins with the writer.
-# The output of a drum's step and the turns of a run have 16 bits, and behind the turns stand the inputs of a scan but
-# the sample of channel 1 and the milliseconds.  Further kinds of call are to be added here.
+# Further kinds of call are to be added here.
 BYTE, WORD, VALUE, PLACE = (0, 255), (0, 65535), (-1 << 31, (1 << 31) - 1), (0, 15)
 ANY, BUFFER, MODE, TYPED, READING = (1 - 10 ** 18, 10 ** 18 - 1), (0, 300), "mode", "typed", (0, (1 << 64) - 1)
-WRITER, KIND, FLOAT = "writer", "kind", "float"
+WRITER = "writer"
 RANGES = {"fresh": (WORD,), "scan": (BYTE, WORD, WORD, WORD, BYTE, BYTE, READING), "write": (WRITER, ANY, VALUE),
           "access": (WRITER, ANY), "read": (ANY,), "save": (BUFFER,), "clock": (), "line": (WRITER, TYPED, BUFFER), "sheet-new": (),
           "sheet-last": (), "sheet-feed": (MODE, VALUE, WORD, WORD), "sheet": (), "sheet-number": (PLACE, ANY), "sheet-kept": (),
-          "drum-step": (WORD,), "drum-offer": (), "run": (WORD, BYTE, WORD, WORD, BYTE, BYTE), **arithmetic.RANGES}
-FLOATS = {"lag": 3, "integrator": 2}  # how many stand behind the kind of a drum: temperature, a lag's gain, rate
+          **arithmetic.RANGES}
 MOST_BYTES = 300  # of a line; of an image in the lists, what the console makes of more isn't decided
-
-
-class Bits(int):
-    """The 64 bits of a float, sixteen digits in a line."""
 
 
 # The same lines come again and again: what was found of them is kept, to save time.
@@ -56,10 +49,9 @@ def call_of(line):
     word, *texts = words_of(line)
     if word == "restart":
         return (word, bytes_of(texts[0])) if len(texts) == 1 and BYTES.fullmatch(texts[0]) else None
-    ranges = ranges_of(word, texts)
-    if ranges is None or len(texts) != len(ranges):
+    if word not in RANGES or len(texts) != len(RANGES[word]):
         return None
-    parts = tuple(map(part_of, texts, ranges))
+    parts = tuple(map(part_of, texts, RANGES[word]))
     return None if None in parts or not arithmetic.is_in_order(word, parts) else (word, *parts)
 
 
@@ -67,15 +59,8 @@ def words_of(line):
     return [part for part in line.split(" ") if part] or [""]
 
 
-def ranges_of(word, texts):
-    """What must stand behind a word, behind that of a drum by its kind; None for a word that is no call's."""
-    if word != "drum":
-        return RANGES.get(word)
-    return (KIND, *[FLOAT] * FLOATS[texts[0]]) if texts and texts[0] in FLOATS else None
-
-
 def part_of(text, kind):
-    """The number, the mode, the writer, the kind, the float or the typed bytes that a text is, or None."""
+    """The number, the mode, the writer or the typed bytes that a text is, or None."""
     if isinstance(kind, tuple):
         least, greatest = kind
         is_number = (MILLISECONDS if kind == READING else NUMBER).fullmatch(text)
@@ -84,10 +69,6 @@ def part_of(text, kind):
         return MODE_OF_WORD.get(text)
     if kind == WRITER:
         return text if text in WRITERS else None
-    if kind == KIND:
-        return text
-    if kind == FLOAT:
-        return Bits(text, 16) if SIXTEEN_DIGITS.fullmatch(text) else None
     return bytes_of(text) if BYTES.fullmatch(text) and len(text) <= 2 * MOST_BYTES else None
 
 
@@ -96,11 +77,7 @@ def bytes_of(text):
 
 
 def text_of(part):
-    """A word, a mode, a writer, a number, a float or bytes; the console answers bytes in capitals, floats in small
-    letters.
-    """
-    if isinstance(part, Bits):
-        return f"{part:016x}"
+    """A word, a mode, a writer, a number or bytes; the console answers bytes in capitals."""
     if isinstance(part, int):
         return str(part)
     if isinstance(part, bytes):

@@ -2,7 +2,6 @@
 
 from tests.model import loop
 from tests.model.claim import Claim
-from tests.model.console import Console
 from tests.model.lines import call_of, line_of
 from tests.model.session import SESSION_CALLS, Session
 from tests.model.state import Exact, Stored
@@ -21,8 +20,6 @@ class Pair:
         """Makes the call; our answer and the parts of the claim that were broken."""
         if call[0] in SESSION_CALLS:
             return self.session.make(call), []
-        if call[0] == "run":
-            return self.run(call)
         before = self.controllers
         stored, answer = loop.make(before[0], call, Stored)
         exact, exact_answer = loop.make(before[1], call, Exact)
@@ -30,14 +27,6 @@ class Pair:
         self.session.follow(answer)
         broken = self.claim.broken(call, before, self.controllers, (answer, exact_answer), mode_of)
         return answer, [*otherwise_than_before(call, before[0], stored, answer), *broken] if call[0] == "write" else broken
-
-    def run(self, call):
-        """A run is a list of scans: each of them is made here as a call by itself, so that the claim is about it."""
-        run, answer = self.session.run(self.controllers[0], call)
-        broken = [fault for scan in (run.scans if run else ()) for fault in self.make(("scan", *scan))[1]]
-        if run and run.controller != self.controllers[0]:
-            broken.append(f"{call} leaves another controller than its scans")
-        return answer, broken
 
 
 def otherwise_than_before(call, before, after, answer):
@@ -51,5 +40,13 @@ def otherwise_than_before(call, before, after, answer):
 
 def answers_of(lines):
     """The model's answers to the lines, from the controller that is fresh with SW 0 and the session's beginning."""
-    console = Console()
-    return [line_of(console.make(call)) if call else "error" for call in map(call_of, lines)]
+    controller, session, answers = loop.fresh(0, Stored), Session(), []
+    for line in lines:
+        call = call_of(line)
+        if call and call[0] in SESSION_CALLS:
+            answer = session.make(call)
+        elif call:
+            controller, answer = loop.make(controller, call, Stored)
+            session.follow(answer)
+        answers.append(line_of(answer) if call else "error")
+    return answers

@@ -1,28 +1,24 @@
-"""What the console keeps beside its controller: a drying sheet, the answer that the last accepted scan had, sixteen
-numbers that a sheet can be begun with, and a drum.
+"""What the console keeps beside its controller: a drying sheet, the answer that the last accepted scan had, and sixteen
+numbers that a sheet can be begun with.
 
-None of them is part of the controller: starts and restarts leave all.  The arithmetic lines ask and keep nothing.  A
-run is the one call that is made with both, the controller and what is kept here.
+None of them is part of the controller: starts and restarts leave all.  The arithmetic lines ask and keep nothing.
 """
 
-from tests.model import arithmetic, drum, runs
+from tests.model import arithmetic
 from tests.model.kept_sheets import PLACES, faults_of, numbers_in
 from tests.model.lines import MODE_WORDS
 from tests.model.sheet import Answer, Sheet
 from tests.model.words import MODES
 
 SHEET_CALLS = ("sheet-new", "sheet-last", "sheet-feed", "sheet", "sheet-number", "sheet-kept")
-DRUM_CALLS = ("drum", "drum-step", "drum-offer")
-SESSION_CALLS = (*SHEET_CALLS, *DRUM_CALLS, *arithmetic.WORDS)  # those that leave the controller
+SESSION_CALLS = (*SHEET_CALLS, *arithmetic.WORDS)  # those that leave the controller
 
 
 class Session:
-    """Before the first sheet-new the sheet is empty; before the first sheet-number all numbers are 0; before the first
-    drum there is none.
-    """
+    """Before the first sheet-new the sheet is empty; before the first sheet-number all numbers are 0."""
 
     def __init__(self):
-        self.sheet, self.last, self.numbers, self.drum = Sheet(), None, [0] * PLACES, None
+        self.sheet, self.last, self.numbers = Sheet(), None, [0] * PLACES
 
     def follow(self, answer):
         """The answer that the controller gave to a call: a refused scan's isn't the last of an accepted one."""
@@ -35,9 +31,6 @@ class Session:
         word, *given = call
         if word in arithmetic.WORDS:
             return (arithmetic.answer_to(word, given),)
-        if word in DRUM_CALLS:
-            self.drum, answer = drum.make(self.drum, call)
-            return answer
         if word == "sheet":
             return sheet_answer(self.sheet.numbers())
         if word in ("sheet-last", "sheet-feed"):
@@ -50,20 +43,6 @@ class Session:
         else:
             self.sheet = Sheet(numbers_in(self.numbers)) if word == "sheet-kept" else Sheet()
         return ("ok",)
-
-    def run(self, controller, call):
-        """The run that a call makes with this controller, or None where there is no drum; and the answer.
-
-        The scans of the turns done are accepted ones, so that the last of them has the last answer.
-        """
-        _, turns, *others = call
-        if self.drum is None:
-            return None, ("error",)
-        made = runs.run(controller, self.drum, turns, others)
-        self.drum = made.drum
-        if made.answer:
-            self.follow(made.answer)
-        return made, ("run", len(made.scans), made.stop.number, made.drum.temperature)
 
 
 def sheet_answer(numbers):

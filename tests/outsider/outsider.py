@@ -38,12 +38,6 @@ TYPES = """use answers::ScanValues;
 use controller::CallResult;
 use controller::Controller;
 use controller::ReadAnswer;
-use drum::Drum;
-use drum::Kind;
-use drum::Offer;
-use drum::StepResult;
-use drum_run::OtherInputs;
-use drum_run::RunResult;
 use modes::Mode;
 use rights::Writer;
 use signals::Input;
@@ -81,38 +75,6 @@ pub fn reading_at(milliseconds: u64) -> ClockReading {
 pub fn number(refusal: Refusal) -> u8 {
     refusal.number()
 }
-
-pub fn lag(temperature: f64, gain: f64, rate: f64) -> Drum {
-    Drum { temperature, kind: Kind::Lag { gain, rate } }
-}
-
-pub fn integrator(temperature: f64, rate: f64) -> Drum {
-    Drum { temperature, kind: Kind::Integrator { rate } }
-}
-
-pub fn offer(sample: u16) -> Offer {
-    Offer::Sample(sample)
-}
-
-pub fn stepped(drum: Drum, output: u16) -> StepResult {
-    drum.step(output)
-}
-
-pub fn inputs(pins: u8, samples: [u16; 2], buttons: u8, sensors: u8) -> OtherInputs {
-    OtherInputs { pins, sample2: samples[0], sample3: samples[1], buttons, sensors }
-}
-
-pub fn run(drum: Drum, inputs: OtherInputs, turns: u16) -> RunResult {
-    drum_run::run(Controller::fresh(0), drum, inputs, turns)
-}
-
-pub fn turns(run: RunResult) -> u16 {
-    run.turns
-}
-
-pub fn why(run: RunResult) -> u8 {
-    run.number
-}
 """
 # The line, and the compiler's word for its cause
 LINES = (
@@ -130,7 +92,6 @@ LINES = (
     ("core = core.parameter_written(1, output);", "unknown-method"),
     ("let legal = controller::repaired::are_legal(parameters);", "unknown-name"),
 )
-USED = "signals modes answers parameters rights controller sheet drum drum_run"  # the crates that both programs name
 UNKNOWN = ("unknown-method", "unknown-name")  # so the compiler calls what isn't public, and what isn't there too
 CALLED = re.compile(r"(\w+)\(")
 ERROR = re.compile(r"lib\.rt:(\d+):\d+: error\[([\w-]+)\]")
@@ -145,7 +106,7 @@ def repository(folder):
             (folder / part / path.name).symlink_to(path)
     shutil.copytree(ROOT / "target" / "stamp", folder / "target" / "stamp")
     listed = (ROOT / "crates.txt").read_text(encoding="utf-8")
-    (folder / "crates.txt").write_text(f"{listed}outsider: {USED}\n", encoding="utf-8")
+    (folder / "crates.txt").write_text(f"{listed}outsider: signals modes answers parameters rights controller sheet\n", encoding="utf-8")
     (folder / "crates" / "outsider" / "src").mkdir(parents=True)
 
 

@@ -30,7 +30,7 @@ FIRST_USE = "crates/first_use/src/main.rt"
 LISTED = (FIRST_USE, "crates/scan_loop/proofs/dry/Proof.antt")
 COMMAND = "make"  # what a listing of commands begins with
 FRAME = {"mod print;", "fn main() {", "}"}  # lines of a program that README doesn't list
-CLAIM = ("guarantee", "promises", "terminal_guarantee", "sheet_guarantee", "lots", "drum_guarantee")
+CLAIM = ("guarantee", "promises", "terminal_guarantee", "sheet_guarantee", "lots")
 SHARED = re.compile(r"\*\*What does the claim share with the rules\?\*\*(.*?)\n\*\*", re.DOTALL)
 # What the claim imports from a crate's definitions, but the types that the code declares
 IMPORTED = re.compile(r"^use Rattle·(\w+)\.specs\.(?!declared)[\w.]+\.\{([^}]*)\}", re.MULTILINE)

@@ -13,10 +13,3 @@ pub struct ScanValues {
     pub mode: Mode,
     pub pv: i32,
 }
-
-// The values of the last accepted scan, where there was one.
-#[derive(Drop)]
-pub enum LastAnswer {
-    None,
-    Answer(ScanValues),
-}

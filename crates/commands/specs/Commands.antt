@@ -21,12 +21,10 @@ use Rattle.arithmetic_lines.specs.declared.Calculation.TheVariants as calculatio
 use Rattle.sheet_lines.specs.Answers.{answer_from}
 use Rattle.sheet_lines.specs.declared.answer.ParsedAnswer.{ParsedAnswer}
 use Rattle.sheet_lines.specs.declared.answer.ParsedAnswer.TheVariants as parsed
-use Rattle.commands.specs.DrumCommands.{drum_command, drum_step_command, run_command}
 use Rattle.commands.specs.Writers.{writer_at}
 use Rattle.commands.specs.declared.Call.TheVariants.{Fresh, Scan, Write, Access, Read, Restart, Save, Line, Clock}
 use Rattle.commands.specs.declared.Command.{Command}
 use Rattle.commands.specs.declared.Command.TheVariants as command
-use Rattle.commands.specs.declared.DrumCall.TheVariants.{Offer}
 use Rattle.commands.specs.declared.SheetCall.TheVariants as sheetcall
 use Rattle.commands.specs.declared.SheetCall.TheVariants.{New, Last, Feed, Kept}
 use Rattle.writer_lines.specs.declared.ParsedWriter.{ParsedWriter}
@@ -66,15 +64,6 @@ feed_of parsed.Malformed = command.Invalid
 unfoldable pub feed_command : List ℕ → ℕ → Command
 feed_command line start = feed_of (answer_from line start)
 
--- ---- the drum
-
--- run, drum-step, drum-offer; else it may be a command of the sheet
-unfoldable pub drum_numbers_command : List ℕ → Arguments → Command
-drum_numbers_command word a =
-    if is_call word (ascii "run") a 6 then run_command a.values else
-    if is_call word (ascii "drum-step") a 1 then drum_step_command a.values else
-    if is_call word (ascii "drum-offer") a 0 then command.Drum Offer else sheet_command word a
-
 -- ---- numbers
 
 -- the number of a parameter; one below zero is no parameter's, and 0 stands for it
@@ -99,7 +88,7 @@ numbers_command word a =
     if is_call word (ascii "read") a 1 then command.Call (Read (parameter_number (argument a.values 0))) else
     if is_call word (ascii "fresh") a 1 then fresh_command a.values else
     if is_call word (ascii "save") a 1 then save_command a.values else
-    if is_call word (ascii "clock") a 0 then command.Call Clock else drum_numbers_command word a
+    if is_call word (ascii "clock") a 0 then command.Call Clock else sheet_command word a
 
 -- ---- a write, and whether one may be made
 
@@ -208,7 +197,6 @@ named_command word call start =
     if same_bytes word (ascii "sheet-feed") then feed_command call start else
     if same_bytes word (ascii "write") then write_command call start else
     if same_bytes word (ascii "access") then access_command call start else
-    if same_bytes word (ascii "drum") then drum_command call start else
     numbers_command word (arguments_from call start)
 
 -- what a line asks, with a buffer of that length for a restart's bytes or a terminal's line

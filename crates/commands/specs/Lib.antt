@@ -1,3 +1,2 @@
 pub mod Writers
-pub mod DrumCommands
 pub mod Commands

@@ -4,13 +4,10 @@ ghost use Rattle.text.specs.Hexadecimal.{count_in, bytes_in};
 ghost use Rattle.commands.specs.Commands.{named_command, restart_image, restart_of, command_in, bytes_after};
 
 use answers::ScanValues;
-use drum_lines::HeldDrum;
-use drum_run::OtherInputs;
 use rights::Writer;
 use signals::Input;
 use text::hexadecimal::Count;
 
-mod drum_call;
 mod numbers;
 mod scan_call;
 mod sheet_call;
@@ -52,22 +49,10 @@ pub enum SheetCall {
     Kept,
 }
 
-// A command of the drum to try settings on.
-#[derive(Drop)]
-pub enum DrumCall {
-    Set(HeldDrum),
-    // with an output in units
-    Step(u16),
-    Offer,
-    // so many turns
-    Run(u16, OtherInputs),
-}
-
 #[derive(Drop)]
 pub enum Command {
     Call(Call),
     Sheet(SheetCall),
-    Drum(DrumCall),
     // a line of the arithmetic, which is answered with this number
     Calculated(i64),
     Invalid,
@@ -90,9 +75,6 @@ fn of_name(word: &[u8], call: &[u8], start: usize) -> Command
     }
     if text::same(word, b"access") {
         return crate::write_call::access(call, start);
-    }
-    if text::same(word, b"drum") {
-        return crate::drum_call::set(call, start);
     }
     crate::numbers::of_numbers(word, text::arguments::parse(call, start))
 }

@@ -53,5 +53,5 @@ pub fn of_numbers(word: &[u8], a: Arguments) -> Command
     if text::arguments::is_call(word, b"clock", a, 0) {
         return Command::Call(Call::Clock);
     }
-    crate::drum_call::of_word(word, a)
+    crate::sheet_call::of_word(word, a)
 }

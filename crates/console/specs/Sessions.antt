@@ -8,11 +8,8 @@ use Rattle.commands.specs.declared.Command.TheVariants as command
 use Rattle.replies.specs.declared.Reply.{Reply}
 use Rattle.replies.specs.declared.Reply.TheVariants.{Number, Error}
 use Rattle.sheet_session.specs.SheetSessions as sheetsession
-use Rattle.sheet_session.specs.SheetSessions.{after_reply, after_run, sheet_step}
+use Rattle.sheet_session.specs.SheetSessions.{after_reply, sheet_step}
 use Rattle.sheet_session.specs.declared.SheetStep.{SheetStep}
-use Rattle.drum_session.specs.DrumSessions as drumsession
-use Rattle.drum_session.specs.declared.DrumResult.{DrumResult}
-use Rattle.drum_session.specs.declared.DrumSession.TheVariants.{None}
 use Rattle.controller_calls.specs.Calls.{performed, buffer_after}
 use Rattle.controller_calls.specs.declared.Step.{Step}
 use Rattle.console.specs.declared.session.Session.{Session}
@@ -25,32 +22,23 @@ pub record ValidSession (s : Session) : Type 0 where
 
 -- before the first line
 unfoldable pub first_session : Session
-first_session = record { controller = fresh_controller 0; sheet = sheetsession.first_session; drum = None }
+first_session = record { controller = fresh_controller 0; sheet = sheetsession.first_session }
 
 -- a command that leaves everything as it was
 abbrev pub staying : Session → Reply → SessionStep
 staying s reply = record { session = s; reply = reply }
 
--- after a call of the controller: the sheet and the drum stay
+-- after a call of the controller: the sheet stays
 unfoldable pub after_call : Session → Step → SessionStep
 after_call s step =
     record {
-      session = record { controller = step.controller; sheet = after_reply s.sheet step.reply; drum = s.drum };
+      session = record { controller = step.controller; sheet = after_reply s.sheet step.reply };
       reply = step.reply;
     }
 
--- after a command of the sheet: the controller and the drum stay
+-- after a command of the sheet: the controller stays
 abbrev pub after_sheet_call : Session → SheetStep → SessionStep
-after_sheet_call s step =
-    record { session = record { controller = s.controller; sheet = step.session; drum = s.drum }; reply = step.reply }
-
--- after a command of the drum: the turns of a run count as accepted scans
-unfoldable pub after_drum_call : Session → DrumResult → SessionStep
-after_drum_call s result =
-    record {
-      session = record { controller = result.controller; sheet = after_run s.sheet result.last; drum = result.session };
-      reply = result.reply;
-    }
+after_sheet_call s step = record { session = record { controller = s.controller; sheet = step.session }; reply = step.reply }
 
 -- ---- every command
 
@@ -58,7 +46,6 @@ after_drum_call s result =
 unfoldable pub session_step : Session → Command → List ℕ → SessionStep
 session_step s (command.Call call) bytes = after_call s (performed s.controller call bytes)
 session_step s (command.Sheet call) bytes = after_sheet_call s (sheet_step s.sheet call)
-session_step s (command.Drum call) bytes = after_drum_call s (drumsession.performed s.controller s.drum call)
 session_step s (command.Calculated number) bytes = staying s (Number number)
 session_step s command.Invalid bytes = staying s Error
 
@@ -66,6 +53,5 @@ session_step s command.Invalid bytes = staying s Error
 unfoldable pub session_buffer : Session → Command → List ℕ → List ℕ
 session_buffer s (command.Call call) bytes = buffer_after s.controller call bytes
 session_buffer s (command.Sheet call) bytes = bytes
-session_buffer s (command.Drum call) bytes = bytes
 session_buffer s (command.Calculated number) bytes = bytes
 session_buffer s command.Invalid bytes = bytes

@@ -17,18 +17,11 @@
 //     sheet-kept                             ok, or refused: the sheet with these numbers, if it is a valid one
 //     sheet                                  sheet scans=N hold=N track=N forced=N manual=N auto=N remote=N ratio=N
 //                                                fallback=N max=V@N min=V@N alarms=N sumpv=V sumop=V, in one line
-// and those of the drum to try settings on, with each float as the sixteen hexadecimal digits of its bits:
-//     drum lag TBITS GAINBITS RATEBITS       ok: the drum from then on
-//     drum integrator TBITS RATEBITS         ok
-//     drum-step U                            drum TBITS, the temperature after a step, or refused 21
-//     drum-offer                             sample S, or refused 21
-//     run TURNS PINS S2 S3 BUTTONS SENSORS   run DONE NUMBER TBITS: drum and controller step by turns
 // and those of the arithmetic, each answered with a number:
 //     scale L H SAMPLE, root SAMPLE, ratio Q S, inverse Q S, limit LOW HIGH VALUE, proportional XP W CHANGE,
 //     integral XP W TI MINUTES C, derivative XP W TD MINUTES INVERTED D
-// A line that is no such command gets `error` and changes nothing, and so do the last three of the drum while there is
-// none. A run begins with a controller that is fresh with SW 0, an empty sheet, all numbers of a kept one 0, and no
-// drum.
+// A line that is no such command gets `error` and changes nothing. A run begins with a controller that is fresh with
+// SW 0, an empty sheet, and all numbers of a kept one 0.
 ghost use Rattle.std.specs.Prelude.{◌≡◌, length};
 ghost use Rattle.console.specs.Lines.{Performed};
 ghost use Rattle.console.specs.Sessions.{ValidSession};

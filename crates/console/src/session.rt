@@ -1,14 +1,11 @@
 // What a run holds from line to line, and what comes of a command.
 ghost use Rattle.std.specs.Prelude.{◌≡◌};
-ghost use Rattle.drum_session.specs.DrumSessions.{performed};
 ghost use Rattle.sheet_session.specs.SheetSessions.{sheet_step};
-ghost use Rattle.console.specs.Sessions.{ValidSession, first_session, after_call, after_sheet_call, after_drum_call};
-ghost use Rattle.console.specs.Sessions.{session_step, session_buffer};
+ghost use Rattle.console.specs.Sessions.{ValidSession, first_session, after_call, after_sheet_call, session_step, session_buffer};
 
-use commands::{Command, DrumCall, SheetCall};
+use commands::{Command, SheetCall};
 use controller::Controller;
 use controller_calls::Step;
-use drum_session::DrumSession;
 use replies::Reply;
 use sheet_session::SheetSession;
 
@@ -17,7 +14,6 @@ use sheet_session::SheetSession;
 pub struct Session {
     pub controller: Controller,
     pub sheet: SheetSession,
-    pub drum: DrumSession,
 }
 
 // The session after a line, and the reply to it.
@@ -27,45 +23,41 @@ pub struct SessionStep {
     pub reply: Reply,
 }
 
-// Before the first line: a controller that is fresh with SW 0, of the sheet what a run begins with, and no drum. The
-// contract rules out others.
+// Before the first line: a controller that is fresh with SW 0, and of the sheet what a run begins with. The contract
+// rules out others.
 pub fn first() -> Session
     ensures { (result ≡ first_session) × ValidSession result }
 {
     Session {
         controller: Controller::fresh(0),
         sheet: sheet_session::first(),
-        drum: DrumSession::None,
     }
 }
 
-// After a call of the controller. The contract rules out a controller other than the call's, and that the sheet or the
-// drum changes.
+// After a call of the controller. The contract rules out a controller other than the call's, and that the sheet
+// changes.
 fn after_call(session: Session, step: Step) -> SessionStep
     ensures { result ≡ after_call session step }
 {
     let controller = step.controller;
     let reply = step.reply;
     let sheet = session.sheet;
-    let drum = session.drum;
     SessionStep {
         session: Session {
             controller,
             sheet: sheet_session::after_reply(sheet, reply),
-            drum,
         },
         reply,
     }
 }
 
-// Performs a command of the sheet. The contract rules out that it changes the controller or the drum.
+// Performs a command of the sheet. The contract rules out that it changes the controller.
 fn perform_sheet_call(session: Session, call: SheetCall) -> SessionStep
     requires { ValidSession session }
     ensures { (result ≡ after_sheet_call session (sheet_step session.sheet call)) × ValidSession result.session }
 {
     let controller = session.controller;
     let sheet = session.sheet;
-    let drum = session.drum;
     let step = sheet_session::perform(sheet, call);
     let next = step.session;
     let reply = step.reply;
@@ -73,31 +65,6 @@ fn perform_sheet_call(session: Session, call: SheetCall) -> SessionStep
         session: Session {
             controller,
             sheet: next,
-            drum,
-        },
-        reply,
-    }
-}
-
-// Performs a command of the drum. The contract rules out another controller than a run leaves, and a run whose scans
-// don't count for the sheet.
-fn perform_drum_call(session: Session, call: DrumCall) -> SessionStep
-    requires { ValidSession session }
-    ensures { (result ≡ after_drum_call session (performed session.controller session.drum call)) × ValidSession result.session }
-{
-    let controller = session.controller;
-    let sheet = session.sheet;
-    let drum = session.drum;
-    let result = drum_session::perform(controller, drum, call);
-    let next = result.controller;
-    let held = result.session;
-    let last = result.last;
-    let reply = result.reply;
-    SessionStep {
-        session: Session {
-            controller: next,
-            sheet: sheet_session::after_run(sheet, last),
-            drum: held,
         },
         reply,
     }
@@ -119,7 +86,6 @@ pub fn perform(session: Session, command: Command, buffer: &mut [u8]) -> Session
             after_call(session, step)
         }
         Command::Sheet(call) => perform_sheet_call(session, call),
-        Command::Drum(call) => perform_drum_call(session, call),
         Command::Calculated(number) => SessionStep {
             session,
             reply: Reply::Number(number),

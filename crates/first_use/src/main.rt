@@ -1,11 +1,9 @@
-// README's first use, listing by listing: the calls of a controller, of a sheet, of the hand-held terminal and of a
-// drum. No function here has a proof file.
+// README's first use, listing by listing: the calls of a controller, of a sheet and of the hand-held terminal. No
+// function here has a proof file.
 ghost use Rattle.controller.specs.Valid.{Valid};
 
 use answers::ScanValues;
 use controller::{Answer, Controller};
-use drum::{Drum, Kind, Offer};
-use drum_run::OtherInputs;
 use rights::Writer;
 use sheet::Sheet;
 use signals::Input;
@@ -48,7 +46,6 @@ fn main() {
     print::verdict(taken);
     let restarted = back.controller; // MD bit 8 tells whether the image brought the memory fault
     print::answer(b"XP", restarted.read(parameters::XP)); // 500
-    try_settings(restarted);
 }
 
 fn keep_sheet(values: ScanValues) {
@@ -77,33 +74,4 @@ fn type_line(controller: Controller) -> Controller
         LineAnswer::Refused(refusal) => print::refusal(refusal), // nothing has changed, in the controller or the buffer
     }
     t.controller // the write is made
-}
-
-fn try_settings(controller: Controller)
-    requires { Valid controller }
-{
-    let w = controller.write(Writer::Engineer, parameters::TI, 50); // 5.0 s
-    let tuned = w.controller;
-    let cold = Drum {
-        temperature: 2000.0, // in samples
-        kind: Kind::Lag {
-            gain: 1.0,
-            rate: 0.05,
-        },
-    };
-    let inputs = OtherInputs {
-        pins: 0x80,
-        sample2: 0,
-        sample3: 0,
-        buttons: 2, // A stays pressed
-        sensors: 0,
-    };
-    let r = drum_run::run(tuned, cold, inputs, 400); // 400 turns, a scan each: 14.4 s of a dryer
-    print::decimal(b"turns", r.turns as i64); // fewer where a turn was refused: then r.number tells why
-    let warm = r.drum;
-    let offered = warm.offer();
-    match offered {
-        Offer::Sample(sample) => print::decimal(b"sample", sample as i64), // 0 to 10000
-        Offer::Refused(refusal) => print::refusal(refusal), // 21: its temperature isn't finite
-    }
 }

@@ -10,7 +10,7 @@ use Rattle.signals.specs.declared.Refusal.{Refusal}
 use Rattle.signals.specs.declared.Refusal.TheVariants.{Sample, ButtonBits, SensorBits, Number, ReadOnly, Range, Pair}
 use Rattle.signals.specs.declared.Refusal.TheVariants.{Setpoint, RequestBits, RemotePin, Cause}
 use Rattle.signals.specs.declared.Refusal.TheVariants.{ImageLength, ImageField, ImageValue, ShortBuffer, Clock, Mnemonic, ValueForm}
-use Rattle.signals.specs.declared.Refusal.TheVariants.{ComputerPin, WriterRight, NotFinite}
+use Rattle.signals.specs.declared.Refusal.TheVariants.{ComputerPin, WriterRight}
 use Rattle.controller.specs.declared.Controller.{Controller}
 use Rattle.terminal.specs.Terminal.{reply_text, present_value, replied, reply_of_line}
 use Rattle.terminal.specs.declared.LineAnswer.{LineAnswer}
@@ -47,7 +47,6 @@ refusal_length Mnemonic = omega arith
 refusal_length ValueForm = omega arith
 refusal_length ComputerPin = omega arith
 refusal_length WriterRight = omega arith
-refusal_length NotFinite = omega arith
 
 text_length : (a : LineAnswer) (bytes : List ℕ) → length bytes ≤ 9 → length (answer_text (reply_of_line a) bytes) ≤ 22
 unfolding answer_text

@@ -9,14 +9,14 @@ use Rattle.terminal.specs.Terminal.{LineReply, reply, number}
 use Rattle.handheld.specs.Sessions.{SessionOutcome, typed_outcome}
 use Rattle.handheld.specs.declared.session.Session.{Session}
 
--- the names of the refusals, in the order of their numbers, 1 to 21
+-- the names of the refusals, in the order of their numbers, 1 to 20
 abbrev pub refusal_names : List (List ℕ)
 refusal_names =
     ascii "sample" ∷ ascii "button bits" ∷ ascii "sensor bits"
     ∷ ascii "number" ∷ ascii "read only" ∷ ascii "out of range" ∷ ascii "pair out of order" ∷ ascii "setpoint"
     ∷ ascii "request bits" ∷ ascii "Remote pin" ∷ ascii "cause"
     ∷ ascii "image length" ∷ ascii "image field" ∷ ascii "image value" ∷ ascii "short buffer" ∷ ascii "clock"
-    ∷ ascii "no mnemonic" ∷ ascii "no value" ∷ ascii "Computer pin" ∷ ascii "no right" ∷ ascii "not finite" ∷ []
+    ∷ ascii "no mnemonic" ∷ ascii "no value" ∷ ascii "Computer pin" ∷ ascii "no right" ∷ []
 
 -- that of a number; none has entry 0
 abbrev pub refusal_name : ℕ → List ℕ

@@ -33,7 +33,6 @@ fn name_row(refusal: Refusal) -> [u8; 17]
         Refusal::ValueForm => *b"no value         ",
         Refusal::ComputerPin => *b"Computer pin     ",
         Refusal::WriterRight => *b"no right         ",
-        Refusal::NotFinite => *b"not finite       ",
     }
 }
 
@@ -62,7 +61,6 @@ fn name_length(refusal: Refusal) -> usize
         Refusal::ValueForm => 8,
         Refusal::ComputerPin => 12,
         Refusal::WriterRight => 8,
-        Refusal::NotFinite => 10,
     }
 }
 

@@ -1,8 +1,7 @@
 -- Document 01, "By whose hand a call is declined", and document 02: which scans, writes and reads are refused, and with
 -- which number, told by the input's numbers and bits, the writer, the parameter's number, the value and the state, in
--- the papers' order and apart from the rules' lists of tests. Restarts.antt tells it of restarts, `SameSave`
--- (guarantee) of saves, and drum_guarantee of offers, steps and runs. Shared are the types of the state, the bits of a
--- word and the value of a parameter.
+-- the papers' order and apart from the rules' lists of tests. Restarts.antt tells it of restarts, and `SameSave`
+-- (guarantee) of saves. Shared are the types of the state, the bits of a word and the value of a parameter.
 use Rattle.std.specs.Prelude.{◌≡◌, Bool, not, ◌&&◌, ◌||◌, List, [], ◌∷◌, ℕ, ◌+◌, ltb, leb, eqb, ℤ, nat_abs}
 use Rattle.std.proofs.Math.Option.{Option, some, none}
 use Rattle.std.specs.Int.Signed.{le_z}
@@ -12,7 +11,7 @@ use Rattle.signals.specs.declared.Input.{Input}
 use Rattle.signals.specs.declared.Refusal.{Refusal}
 use Rattle.signals.specs.declared.Refusal.TheVariants.{Sample, ButtonBits, SensorBits, Number, ReadOnly, Range, Pair, Setpoint}
 use Rattle.signals.specs.declared.Refusal.TheVariants.{RequestBits, RemotePin, Cause, ImageLength, ImageField, ImageValue}
-use Rattle.signals.specs.declared.Refusal.TheVariants.{ShortBuffer, Clock, Mnemonic, ValueForm, ComputerPin, WriterRight, NotFinite}
+use Rattle.signals.specs.declared.Refusal.TheVariants.{ShortBuffer, Clock, Mnemonic, ValueForm, ComputerPin, WriterRight}
 use Rattle.signals.specs.declared.Verdict.TheVariants as verdict
 use Rattle.signals.specs.declared.clock.ClockReading.{ClockReading}
 use Rattle.signals.proofs.Refusal.number.Reads as number-reads
@@ -115,8 +114,7 @@ RefusalNumbers =
 abbrev pub in_order_of_numbers : List Refusal
 in_order_of_numbers =
     Sample ∷ ButtonBits ∷ SensorBits ∷ Number ∷ ReadOnly ∷ Range ∷ Pair ∷ Setpoint ∷ RequestBits ∷ RemotePin ∷ Cause
-    ∷ ImageLength ∷ ImageField ∷ ImageValue ∷ ShortBuffer ∷ Clock ∷ Mnemonic ∷ ValueForm ∷ ComputerPin ∷ WriterRight
-    ∷ NotFinite ∷ []
+    ∷ ImageLength ∷ ImageField ∷ ImageValue ∷ ShortBuffer ∷ Clock ∷ Mnemonic ∷ ValueForm ∷ ComputerPin ∷ WriterRight ∷ []
 
 -- a caller gets of each the number of its place
 abbrev pub NumberedFrom : ℕ → List Refusal → Type 0

@@ -7,12 +7,11 @@ use Rattle.answers.specs.declared.ScanValues.{ScanValues}
 use Rattle.sheet.specs.declared.Sheet.{Sheet}
 use Rattle.numerals.specs.Numerals.{digit_byte, last_digits, places_within, places, digits, decimal, hexadecimal}
 use Rattle.formatting.specs.Ascii.{ascii}
-use Rattle.drum_lines.specs.BitsText.{small_letter, small_letters, bits_text}
 use Rattle.sheet_lines.specs.ModeWords.{mode_word}
 use Rattle.sheet_lines.specs.SheetText.{sheet_text}
 use Rattle.replies.specs.declared.Reply.{Reply}
 use Rattle.replies.specs.declared.Reply.TheVariants.{Accepted, Value, Answer, Clock, Image, Line}
-use Rattle.replies.specs.declared.Reply.TheVariants.{WholeSheet, Full, InvalidSheet, Number, Drum, Sample, Run, Refused, Error}
+use Rattle.replies.specs.declared.Reply.TheVariants.{WholeSheet, Full, InvalidSheet, Number, Refused, Error}
 
 -- a blank and a number
 unfoldable pub spaced : ℕ → List ℕ
@@ -43,18 +42,6 @@ image_text saved = ascii "image " ++ hexadecimal (take 137 saved)
 unfoldable pub line_text : ℕ → List ℕ → List ℕ
 line_text count saved = ascii "reply" ++ spaced count ++ ascii " " ++ hexadecimal (take count saved)
 
--- the bits of the drum's temperature
-unfoldable pub drum_text : ℕ → List ℕ
-drum_text bits = ascii "drum " ++ bits_text bits
-
--- what the drum offers
-unfoldable pub sample_text : ℕ → List ℕ
-sample_text sample = ascii "sample" ++ spaced sample
-
--- of a run: the turns done, the refusal's number or 0, and the bits of the temperature
-unfoldable pub run_text : ℕ → ℕ → ℕ → List ℕ
-run_text turns number bits = ascii "run" ++ spaced turns ++ spaced number ++ ascii " " ++ bits_text bits
-
 unfoldable pub refused_text : ℕ → List ℕ
 refused_text number = ascii "refused" ++ spaced number
 
@@ -70,9 +57,6 @@ reply_text WholeSheet saved sheet = sheet_text sheet.values
 reply_text Full saved sheet = ascii "full"
 reply_text InvalidSheet saved sheet = ascii "refused"
 reply_text (Number v) saved sheet = decimal v
-reply_text (Drum bits) saved sheet = drum_text bits
-reply_text (Sample sample) saved sheet = sample_text sample
-reply_text (Run turns number bits) saved sheet = run_text turns number bits
 reply_text (Refused number) saved sheet = refused_text number
 reply_text Error saved sheet = ascii "error"
 
@@ -86,8 +70,3 @@ answer_example :
     ≡ ascii "scan 4098 37183 0 0 auto 500"
 unfolding answer_text words_text spaced digit_byte last_digits places_within places digits decimal mode_word
 answer_example = refl
-
--- a run of 100 turns that ended by itself, with the drum at 1.5
-run_example : run_text 100 0 0x3FF8000000000000 ≡ ascii "run 100 0 3ff8000000000000"
-unfolding run_text spaced digit_byte last_digits places_within places digits bits_text small_letters small_letter
-run_example = refl

@@ -10,15 +10,14 @@ use Rattle.numerals.specs.DigitLaws.{hexadecimal_length}
 use Rattle.numerals.specs.Shortest.{digits_few, decimal_few}
 use Rattle.formatting.specs.Buffer.{buffer, append_all}
 use Rattle.formatting.specs.Laws.{replaced, append_room}
-use Rattle.drum_lines.specs.BitsText.{bits_length}
 use Rattle.sheet_lines.specs.Appended.{sum_length}
 use Rattle.sheet_lines.specs.ModeLaws.{word_length}
 use Rattle.sheet_lines.specs.SheetText.{sheet_text}
 use Rattle.replies.specs.Replies.{spaced, words_text, answer_text, value_text, clock_text, image_text, line_text, refused_text}
-use Rattle.replies.specs.Replies.{drum_text, sample_text, run_text, reply_text, reply_line}
+use Rattle.replies.specs.Replies.{reply_text, reply_line}
 use Rattle.replies.specs.declared.Reply.{Reply}
 use Rattle.replies.specs.declared.Reply.TheVariants.{Accepted, Value, Answer, Clock, Image, Line}
-use Rattle.replies.specs.declared.Reply.TheVariants.{WholeSheet, Full, InvalidSheet, Number, Drum, Sample, Run, Refused, Error}
+use Rattle.replies.specs.declared.Reply.TheVariants.{WholeSheet, Full, InvalidSheet, Number, Refused, Error}
 
 spaced_length : (n : ℕ) → n < 65536 → length (spaced n) ≤ 6
 unfolding spaced
@@ -43,11 +42,6 @@ abbrev pub ReadingRange : ClockReading → Type 0
 ReadingRange None = Unit {0}
 ReadingRange (At milliseconds) = milliseconds < 18446744073709551616
 
--- the numbers of a run that their types hold
-pub record RunRange (turns number : ℕ) : Type 0 where
-  pub done : turns < 65536
-  pub refusal : number < 256
-
 -- the numbers of a reply; of a sheet it is known how long its text is
 abbrev pub InRange : Reply → Sheet → Type 0
 InRange (Answer v) sheet = AnswerRange v
@@ -61,9 +55,6 @@ InRange Image sheet = Unit {0}
 InRange Full sheet = Unit {0}
 InRange InvalidSheet sheet = Unit {0}
 InRange (Number v) sheet = mag v < 9223372036854775808
-InRange (Drum bits) sheet = Unit {0}
-InRange (Sample sample) sheet = sample < 65536
-InRange (Run turns number bits) sheet = RunRange turns number
 InRange Error sheet = Unit {0}
 
 words_length : (v : ScanValues) → WordsRange v → length (words_text v) ≤ 28
@@ -87,16 +78,9 @@ line_length_lem count saved h size =
     let d = digits_few count 20 (omega arith) (omega arith) in
     simp length-append (omega (arith, hexadecimal_length (take count saved), length-take count saved))
 
-run_length : (turns number bits : ℕ) → RunRange turns number → length (run_text turns number bits) ≤ 32
-unfolding run_text
-run_length turns number bits h =
-    let t = spaced_length turns h.done in
-    let n = spaced_length number (omega (arith, h.refusal)) in
-    simp length-append (omega (arith, bits_length bits))
-
 text_length : (reply : Reply) (saved : List ℕ) (sheet : Sheet) → InRange reply sheet → length saved ≤ 346 →
     length (reply_text reply saved sheet) ≤ 719
-unfolding reply_text answer_text value_text image_text drum_text sample_text refused_text
+unfolding reply_text answer_text value_text image_text refused_text
 text_length (Answer v) saved sheet h size =
     let w = words_length v h.words in
     let m = word_length v.mode in
@@ -113,9 +97,6 @@ text_length Image saved sheet h size =
 text_length Full saved sheet h size = omega arith
 text_length InvalidSheet saved sheet h size = omega arith
 text_length (Number v) saved sheet h size = omega (arith, sum_length v h)
-text_length (Drum bits) saved sheet h size = simp length-append (omega (arith, bits_length bits))
-text_length (Sample sample) saved sheet h size = let d = spaced_length sample h in simp length-append (omega arith)
-text_length (Run turns number bits) saved sheet h size = omega (arith, run_length turns number bits h)
 text_length Error saved sheet h size = omega arith
 
 pub reply_length : (reply : Reply) (saved : List ℕ) (sheet : Sheet) → InRange reply sheet → length saved ≤ 346 →

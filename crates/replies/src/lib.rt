@@ -2,9 +2,9 @@
 ghost use Rattle.std.specs.Prelude.{◌≡◌, take};
 ghost use Rattle.numerals.specs.Numerals.{hexadecimal};
 ghost use Rattle.formatting.specs.Buffer.{buffer, append_all};
-ghost use Rattle.replies.specs.ReplyLaws.{WordsRange, AnswerRange, ReadingRange, RunRange, InRange};
+ghost use Rattle.replies.specs.ReplyLaws.{WordsRange, AnswerRange, ReadingRange, InRange};
 ghost use Rattle.replies.specs.Replies.{spaced, words_text, answer_text, refused_text, value_text, clock_text, image_text};
-ghost use Rattle.replies.specs.Replies.{line_text, drum_text, sample_text, run_text, reply_text, reply_line};
+ghost use Rattle.replies.specs.Replies.{line_text, reply_text, reply_line};
 
 use answers::ScanValues;
 use sheet::Sheet;
@@ -30,12 +30,6 @@ pub enum Reply {
     InvalidSheet,
     // what the arithmetic gives
     Number(i64),
-    // the drum's temperature after a step, by its bits
-    Drum(u64),
-    // what the drum offers
-    Sample(u16),
-    // of a run: the turns done, the number of the refusal that stopped it or 0, and the bits of the temperature
-    Run(u16, u8, u64),
     Refused(u8),
     // the line was no command
     Error,
@@ -131,34 +125,6 @@ fn append_line(out: &mut [u8], used: usize, count: usize, saved: &[u8]) -> usize
     append_front(out, blank, saved, count)
 }
 
-// The drum after a step. The contract rules out other bits.
-fn append_drum(out: &mut [u8], used: usize, bits: u64) -> usize
-    ensures { buffer out.new result ≡ append_all (buffer out.old used) (drum_text bits) }
-{
-    let name = formatting::append_bytes(out, used, b"drum ");
-    drum_lines::print::append_bits(out, name, bits)
-}
-
-// What the drum offers.
-fn append_sample(out: &mut [u8], used: usize, sample: u16) -> usize
-    ensures { buffer out.new result ≡ append_all (buffer out.old used) (sample_text sample) }
-{
-    let name = formatting::append_bytes(out, used, b"sample");
-    append_spaced(out, name, sample as u64)
-}
-
-// What a run did. The contract rules out that the turns and the number are exchanged.
-fn append_run(out: &mut [u8], used: usize, turns: u16, number: u8, bits: u64) -> usize
-    ensures { (buffer out.new result ≡ append_all (buffer out.old used) (run_text turns number bits))
-        × RunRange turns number }
-{
-    let name = formatting::append_bytes(out, used, b"run");
-    let done = append_spaced(out, name, turns as u64);
-    let stop = append_spaced(out, done, number as u64);
-    let blank = formatting::append_byte(out, stop, b' ');
-    drum_lines::print::append_bits(out, blank, bits)
-}
-
 // What a reply's line has before its end. The contract also says that the reply's numbers are such as its types hold,
 // so that a caller knows how long the line is.
 fn append_text(out: &mut [u8], used: usize, reply: Reply, saved: &[u8], sheet: Sheet) -> usize
@@ -176,9 +142,6 @@ fn append_text(out: &mut [u8], used: usize, reply: Reply, saved: &[u8], sheet: S
         Reply::Full => formatting::append_bytes(out, used, b"full"),
         Reply::InvalidSheet => formatting::append_bytes(out, used, b"refused"),
         Reply::Number(number) => formatting::append_signed(out, used, number),
-        Reply::Drum(bits) => append_drum(out, used, bits),
-        Reply::Sample(sample) => append_sample(out, used, sample),
-        Reply::Run(turns, number, bits) => append_run(out, used, turns, number, bits),
         Reply::Refused(number) => append_refused(out, used, number),
         Reply::Error => formatting::append_bytes(out, used, b"error"),
     }

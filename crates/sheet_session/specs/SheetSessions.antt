@@ -17,9 +17,9 @@ use Rattle.commands.specs.declared.SheetCall.TheVariants.{New, Last, Feed, Read,
 use Rattle.replies.specs.declared.Reply.{Reply}
 use Rattle.replies.specs.declared.Reply.TheVariants as reply
 use Rattle.replies.specs.declared.Reply.TheVariants.{Accepted, Value, Answer, Clock, Image, Line}
-use Rattle.replies.specs.declared.Reply.TheVariants.{WholeSheet, Full, InvalidSheet, Drum, Sample, Run, Refused, Error}
-use Rattle.answers.specs.declared.LastAnswer.{LastAnswer}
-use Rattle.answers.specs.declared.LastAnswer.TheVariants as lastanswer
+use Rattle.replies.specs.declared.Reply.TheVariants.{WholeSheet, Full, InvalidSheet, Refused, Error}
+use Rattle.sheet_session.specs.declared.LastAnswer.{LastAnswer}
+use Rattle.sheet_session.specs.declared.LastAnswer.TheVariants as lastanswer
 use Rattle.sheet_session.specs.declared.SheetSession.{SheetSession}
 use Rattle.sheet_session.specs.declared.SheetStep.{SheetStep}
 
@@ -45,24 +45,11 @@ last_after last WholeSheet = last
 last_after last Full = last
 last_after last InvalidSheet = last
 last_after last (reply.Number v) = last
-last_after last (Drum bits) = last
-last_after last (Sample sample) = last
-last_after last (Run turns number bits) = last
 last_after last (Refused n) = last
 last_after last Error = last
 
 unfoldable pub after_reply : SheetSession → Reply → SheetSession
 after_reply s reply = record { sheet = s.sheet; numbers = s.numbers; last = last_after s.last reply }
-
--- ---- after a run of drum and controller: its turns count as accepted scans
-
--- the answer of its last turn, if one was done; else the earlier one
-abbrev pub later : LastAnswer → LastAnswer → LastAnswer
-later earlier lastanswer.None = earlier
-later earlier (lastanswer.Answer v) = lastanswer.Answer v
-
-unfoldable pub after_run : SheetSession → LastAnswer → SheetSession
-after_run s last = record { sheet = s.sheet; numbers = s.numbers; last = later s.last last }
 
 -- ---- an answer is entered: numbers and last answer stay
 

@@ -2,12 +2,19 @@
 ghost use Rattle.std.specs.Prelude.{◌≡◌};
 ghost use Rattle.sheet.specs.Valid.{Valid};
 ghost use Rattle.sheet_session.specs.SheetSessions.{first_session, last_after, after_reply, with_sheet, reply_to_entry, entered_step};
-ghost use Rattle.sheet_session.specs.SheetSessions.{later, after_run, last_step, number_step, kept_as, kept_step, sheet_step};
+ghost use Rattle.sheet_session.specs.SheetSessions.{last_step, number_step, kept_as, kept_step, sheet_step};
 
-use answers::{LastAnswer, ScanValues};
+use answers::ScanValues;
 use commands::SheetCall;
 use replies::Reply;
 use sheet::{Entry, KeptResult, Sheet, Validity};
+
+// The answer of the last accepted scan, if there was one.
+#[derive(Drop)]
+pub enum LastAnswer {
+    None,
+    Answer(ScanValues),
+}
 
 // The sheet, the numbers of a kept one as lines set them, and the answer that is entered next.
 #[derive(Drop)]
@@ -50,9 +57,6 @@ fn last_after(last: LastAnswer, reply: Reply) -> LastAnswer
         Reply::Full => last,
         Reply::InvalidSheet => last,
         Reply::Number(_) => last,
-        Reply::Drum(_) => last,
-        Reply::Sample(_) => last,
-        Reply::Run(_, _, _) => last,
         Reply::Refused(_) => last,
         Reply::Error => last,
     }
@@ -69,31 +73,6 @@ pub fn after_reply(session: SheetSession, reply: Reply) -> SheetSession
         sheet,
         numbers,
         last: last_after(last, reply),
-    }
-}
-
-// Which of two answers is the last one. The contract rules out that a run with no turn done takes the earlier away.
-fn later(earlier: LastAnswer, last: LastAnswer) -> LastAnswer
-    ensures { result ≡ later earlier last }
-{
-    match last {
-        LastAnswer::None => earlier,
-        LastAnswer::Answer(values) => LastAnswer::Answer(values),
-    }
-}
-
-// After a run of drum and controller whose last scan answered so, if there was one. The contract rules out that the
-// sheet or its numbers change.
-pub fn after_run(session: SheetSession, last: LastAnswer) -> SheetSession
-    ensures { result ≡ after_run session last }
-{
-    let sheet = session.sheet;
-    let numbers = session.numbers;
-    let earlier = session.last;
-    SheetSession {
-        sheet,
-        numbers,
-        last: later(earlier, last),
     }
 }
 

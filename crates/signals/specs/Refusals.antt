@@ -9,7 +9,7 @@ use Rattle.signals.specs.declared.Refusal.{Refusal}
 use Rattle.signals.specs.declared.Refusal.TheVariants.{Sample, ButtonBits, SensorBits, Number, ReadOnly, Range, Pair}
 use Rattle.signals.specs.declared.Refusal.TheVariants.{Setpoint, RequestBits, RemotePin, Cause}
 use Rattle.signals.specs.declared.Refusal.TheVariants.{ImageLength, ImageField, ImageValue, ShortBuffer, Clock, Mnemonic, ValueForm}
-use Rattle.signals.specs.declared.Refusal.TheVariants.{ComputerPin, WriterRight, NotFinite}
+use Rattle.signals.specs.declared.Refusal.TheVariants.{ComputerPin, WriterRight}
 use Rattle.signals.specs.declared.Verdict.{Verdict}
 use Rattle.signals.specs.declared.Verdict.TheVariants.{Accepted, Refused}
 use Rattle.signals.specs.declared.clock.ClockReading.{ClockReading}
@@ -36,7 +36,6 @@ number_of Mnemonic = 17
 number_of ValueForm = 18
 number_of ComputerPin = 19
 number_of WriterRight = 20
-number_of NotFinite = 21
 
 -- and of a verdict: none where the call is accepted
 abbrev pub number_in : Verdict → Option ℕ

@@ -69,8 +69,7 @@ pub enum Adjustment {
 }
 
 // Why a call is refused: 1 to 3 the plant's, 4 to 11 the writer's, of which 4 is a reader's too, 12 to 14 a restart's,
-// 15 a save's and a terminal's, 16 the plant's again, 17 and 18 a terminal's, 19 and 20 the writer's again, 21 a
-// drum's.
+// 15 a save's and a terminal's, 16 the plant's again, 17 and 18 a terminal's, 19 and 20 the writer's again.
 #[derive(Drop)]
 pub enum Refusal {
     // 1: a sample above 10000
@@ -113,8 +112,6 @@ pub enum Refusal {
     ComputerPin,
     // 20: the writer hasn't that parameter
     WriterRight,
-    // 21: a drum's temperature, its gain, its rate or the new temperature isn't finite
-    NotFinite,
 }
 
 // What a call that answers no value comes to: accepted, or why not.
@@ -241,7 +238,6 @@ impl Refusal {
             Refusal::ValueForm => 18,
             Refusal::ComputerPin => 19,
             Refusal::WriterRight => 20,
-            Refusal::NotFinite => 21,
         }
     }
 }

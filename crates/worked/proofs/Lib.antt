@@ -1,4 +1,3 @@
-pub mod DrumFigures
 pub mod LineFigures
 pub mod ModelCalls
 pub mod RightFigures

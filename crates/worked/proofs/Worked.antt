@@ -5,8 +5,6 @@ use mathlib.Core.List.{[], ◌∷◌}
 use Prim.Native.Nat.{ℕ, ◌+◌, ◌*◌}
 use lib.Dec.{T, leb, ltb, lit<, lit≤}
 use native.Mathlib.Omega.{arith}
-use lib.Count.{count_trailing_zeros}
-use lib.Ieee as i
 use lib.IntN.{pos, neg_ℤ}
 use lib.ListN.{drop}
 use Rattle.integers.specs.Limit as Limit
@@ -56,7 +54,6 @@ use Rattle.controller.specs.declared.Answer.TheVariants.{Accepted}
 use Rattle.controller.specs.declared.CallResult.{CallResult}
 use Rattle.controller.specs.declared.Controller.{Controller}
 use Rattle.controller.specs.declared.ScanResult.{ScanResult}
-use Rattle.drum.specs.Steps as steps
 use Rattle.guarantee.specs.Exact as call
 use Rattle.guarantee.specs.Exact.{Calls, none, ◌then◌}
 use Rattle.guarantee.specs.Modes as q
@@ -177,8 +174,7 @@ image_figure sw = refl
 pub worked : AllHold figures
 unfolding figures proportional_term integral_term derivative_term limited_term stored_term whole at_least at_most limited stored
     stored_units nearest_even half_even half_up scaled ratio_quotient inverse_quotient counted open_count_after
-    byte_of md_high md_low MD ds_low DS buttons_of pins_of switches_of steps.step_of steps.temperature_after steps.constants_finite
-    i.of_bits i.of_fields i.odd i.units i.round i.size i.span i.climb i.sum i.add i.sub i.mul i.neg i.of_int count_trailing_zeros
+    byte_of md_high md_low MD ds_low DS buttons_of pins_of switches_of
 worked =
     (lit< tt, lit< tt, refl) and
     (lit< tt, lit< tt, refl) and refl and
@@ -192,8 +188,6 @@ worked =
     refl and
     (λ c. (write_figures c).0) and (λ c. (write_figures c).1) and
     image_figure and
-    refl and refl and
-    refl and refl and refl and
     tt
 
 -- a root is told by its square and the next one's, which are shorter to compute than the search from 10000 down

@@ -24,9 +24,6 @@ use Rattle.controller.specs.Scan.{scan}
 use Rattle.controller.specs.State.{start_indications, fresh_controller}
 use Rattle.controller.specs.Write.{write}
 use Rattle.controller.specs.declared.Controller.{Controller}
-use Rattle.drum.specs.Steps.{step_of}
-use Rattle.worked.specs.DrumFigures as drums
-use Rattle.worked.specs.DrumFigures.{lag, dryer_lag, dryer_integrator, signed_lag, steps_to, half, four, eight}
 
 -- every statement of a list holds
 abbrev pub AllHold : List (Type 0) → Type 0
@@ -83,16 +80,6 @@ figures =
     ∷ ((c : Controller) → write c Engineer 24 (pos 0x1800) ≡ record { next = c; answer = number 9 })
     -- "A fresh image's sumcheck is AC42h.", whatever the switch word: the image's last field
     ∷ ((sw : ℕ) → drop 132 (saved_image (fresh_controller sw)) ≡ 0x7F ∷ 0 ∷ 2 ∷ 0xAC ∷ 0x42 ∷ [])
-    -- document 02, request 8: "A lag with gain 0 and rate 0.5 takes 8 to exactly 4."
-    ∷ (step_of (lag eight drums.zero half) 9999 ≡ steps_to (lag four drums.zero half))
-    ∷ (step_of (lag eight drums.zero half) 65535 ≡ steps_to (lag four drums.zero half))
-    -- "operations in just that order, each rounded once": 3293.9, gain 1.03, rate 0.05 with 9279 units, and for the
-    -- integrator 3072.9, rate 0.05 with 7949. Every other order, every fused operation and every one of 32 bits gives
-    -- other bits (tests/figures/drum_orders.py computes them), but for T - rate × (T - gain × u), which differs in a
-    -- zero's sign alone: -0.0 with gain -1 and rate 1 goes to 0.0
-    ∷ (step_of (dryer_lag 0x40A9BBCCCCCCCCCD) 9279 ≡ steps_to (dryer_lag 0x40AC2E25A1CAC084))
-    ∷ (step_of (dryer_integrator 0x40A801CCCCCCCCCD) 7949 ≡ steps_to (dryer_integrator 0x40AB1CB333333334))
-    ∷ (step_of (signed_lag 0x8000000000000000) 0 ≡ steps_to (signed_lag 0x0000000000000000))
     ∷ []
 
 -- the three terms of a change c - c1, of c and of D

@@ -1,4 +1,3 @@
-pub mod DrumFigures
 pub mod FallBackFigures
 pub mod Figures
 pub mod LineFigures

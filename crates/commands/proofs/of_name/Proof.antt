@@ -84,45 +84,16 @@ returns_4 c =
       sym test4.before.same4.ensures ∙ test4.if4.true,
     ) c.access.ensures
 
-slice_aggregate_same_5 : tie.Need-slice-aggregate-same-5
-slice_aggregate_same_5 c = refl
-
-same_requires_5 : tie.Need-same-requires-5
-same_requires_5 c κs = tt
-
-set_requires : tie.Need-set-requires
-set_requires c κs =
-    let test4 = c.before.before.before.before in
-    let test2 = test4.before.before.before.before.before.before in
-    test2.before.before.before.before.before.before.before.requires
-
-returns_5 : tie.Need-returns-5
-unfolding named_command
-returns_5 c =
-    let test5 = c.before in
-    let test4 = test5.before.before.before in
-    let test3 = test4.before.before.before in
-    let test2 = test3.before.before.before in
-    let test1 = test2.before.before.before in
-    rw (
-      sym test1.before.same.ensures ∙ test1.if1.false,
-      sym test2.before.same2.ensures ∙ test2.if2.false,
-      sym test3.before.same3.ensures ∙ test3.if3.false,
-      sym test4.before.same4.ensures ∙ test4.if4.false,
-      sym test5.before.same5.ensures ∙ test5.if5.true,
-    ) c.set.ensures
-
 parse_requires : tie.Need-parse-requires
 parse_requires c κs = tt
 
 of_numbers_requires : tie.Need-of-numbers-requires
 of_numbers_requires c κs = tt
 
-returns_6 : tie.Need-returns-6
+returns_5 : tie.Need-returns-5
 unfolding named_command
-returns_6 c =
-    let test5 = c.before.before in
-    let test4 = test5.before.before.before in
+returns_5 c =
+    let test4 = c.before.before in
     let test3 = test4.before.before.before in
     let test2 = test3.before.before.before in
     let test1 = test2.before.before.before in
@@ -131,7 +102,6 @@ returns_6 c =
       sym test2.before.same2.ensures ∙ test2.if2.false,
       sym test3.before.same3.ensures ∙ test3.if3.false,
       sym test4.before.same4.ensures ∙ test4.if4.false,
-      sym test5.before.same5.ensures ∙ test5.if5.false,
     ) (rw c.before.parse.ensures at c.of-numbers.ensures)
 
 pub of_name_spec : {M : Type 1} → statement M
@@ -154,10 +124,6 @@ of_name_spec =
     same_requires_4
     access_requires
     returns_4
-    slice_aggregate_same_5
-    same_requires_5
-    set_requires
-    returns_5
     parse_requires
     of_numbers_requires
-    returns_6)
+    returns_5)

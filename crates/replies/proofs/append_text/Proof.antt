@@ -1,4 +1,4 @@
--- `replies::append_text` meets its contract. No call in it requires anything, which the list below says at each.
+-- `replies::append_text` meets its contract.
 use mathlib.Core.Path.{refl}
 use mir.Syntax.{w32, w64}
 use Rattle.integers.specs.Machine.{back}
@@ -13,23 +13,44 @@ enum_told c = c.match.keys1
 slice_aggregate_append_bytes : tie.Need-slice-aggregate-append-bytes
 slice_aggregate_append_bytes c = refl
 
+append_bytes_requires : tie.Need-append-bytes-requires
+append_bytes_requires c κs = tt
+
 enum_known_reply : tie.Need-enum-known-reply
 enum_known_reply c = c.match.keys2
+
+append_value_requires : tie.Need-append-value-requires
+append_value_requires c κs = tt
 
 enum_known_reply_2 : tie.Need-enum-known-reply-2
 enum_known_reply_2 c = c.match.keys3
 
+append_answer_requires : tie.Need-append-answer-requires
+append_answer_requires c κs = tt
+
 enum_known_reply_3 : tie.Need-enum-known-reply-3
 enum_known_reply_3 c = c.match.keys4
+
+append-clock-requires : tie.Need-append-clock-requires
+append-clock-requires c κs = tt
 
 enum_told_2 : tie.Need-enum-told-2
 enum_told_2 c = c.match.keys5
 
+append-image-requires : tie.Need-append-image-requires
+append-image-requires c κs = tt
+
 enum_known_reply_4 : tie.Need-enum-known-reply-4
 enum_known_reply_4 c = c.match.keys6
 
+append_line_requires : tie.Need-append-line-requires
+append_line_requires c κs = tt
+
 enum_told_3 : tie.Need-enum-told-3
 enum_told_3 c = c.match.keys7
+
+append-sheet-requires : tie.Need-append-sheet-requires
+append-sheet-requires c κs = tt
 
 enum_told_4 : tie.Need-enum-told-4
 enum_told_4 c = c.match.keys8
@@ -37,32 +58,38 @@ enum_told_4 c = c.match.keys8
 slice_aggregate_append_bytes_2 : tie.Need-slice-aggregate-append-bytes-2
 slice_aggregate_append_bytes_2 c = refl
 
+append_bytes_requires_2 : tie.Need-append-bytes-requires-2
+append_bytes_requires_2 c κs = tt
+
 enum_told_5 : tie.Need-enum-told-5
 enum_told_5 c = c.match.keys9
 
 slice_aggregate_append_bytes_3 : tie.Need-slice-aggregate-append-bytes-3
 slice_aggregate_append_bytes_3 c = refl
 
+append_bytes_requires_3 : tie.Need-append-bytes-requires-3
+append_bytes_requires_3 c κs = tt
+
 enum_known_reply_5 : tie.Need-enum-known-reply-5
 enum_known_reply_5 c = c.match.keys10
+
+append_signed_requires : tie.Need-append-signed-requires
+append_signed_requires c κs = tt
 
 enum_known_reply_6 : tie.Need-enum-known-reply-6
 enum_known_reply_6 c = c.match.keys11
 
-enum_known_reply_7 : tie.Need-enum-known-reply-7
-enum_known_reply_7 c = c.match.keys12
-
-enum_known_reply_8 : tie.Need-enum-known-reply-8
-enum_known_reply_8 c = c.match.keys13
-
-enum_known_reply_9 : tie.Need-enum-known-reply-9
-enum_known_reply_9 c = c.match.keys14
+append-refused-requires : tie.Need-append-refused-requires
+append-refused-requires c κs = tt
 
 enum_told_6 : tie.Need-enum-told-6
-enum_told_6 c = c.match.keys15
+enum_told_6 c = c.match.keys12
 
 slice_aggregate_append_bytes_4 : tie.Need-slice-aggregate-append-bytes-4
 slice_aggregate_append_bytes_4 c = refl
+
+append_bytes_requires_4 : tie.Need-append-bytes-requires-4
+append_bytes_requires_4 c κs = tt
 
 same_length : tie.Need-same-length
 same_length c = c.before.before.append-bytes.auto.0
@@ -162,49 +189,21 @@ returns_10 c =
     (rw v.1 (rw (back w64 v.0.0 range) at c.before.before.append-signed.ensures), rw v.1 range)
 
 same_length_11 : tie.Need-same-length-11
-same_length_11 c = c.before.before.append-drum.auto.0
+same_length_11 c = c.before.before.append-refused.auto.0
 
 returns_11 : tie.Need-returns-11
 unfolding reply_text
 returns_11 c =
-    let e = c.before.before.before.before.before.reply6.given.1 in
-    (rw e c.before.before.append-drum.ensures, rw e tt)
+    let k = c.before.before.before.before in
+    let e = k.before.reply6.given.1 in
+    (rw e c.before.before.append-refused.ensures, rw e k.known-told6.given.0.1)
 
 same_length_12 : tie.Need-same-length-12
-same_length_12 c = c.before.before.append-sample.auto.0
+same_length_12 c = c.before.before.append-bytes4.auto.0
 
 returns_12 : tie.Need-returns-12
 unfolding reply_text
 returns_12 c =
-    let k = c.before.before.before.before in
-    let e = k.before.reply7.given.1 in
-    (rw e c.before.before.append-sample.ensures, rw e k.known-told7.given.0.1)
-
-same_length_13 : tie.Need-same-length-13
-same_length_13 c = c.before.before.append-run.auto.0
-
-returns_13 : tie.Need-returns-13
-unfolding reply_text
-returns_13 c =
-    let e = c.before.before.before.before.before.reply8.given.1 in
-    (rw e c.before.before.append-run.ensures.0, rw e c.before.before.append-run.ensures.1)
-
-same_length_14 : tie.Need-same-length-14
-same_length_14 c = c.before.before.append-refused.auto.0
-
-returns_14 : tie.Need-returns-14
-unfolding reply_text
-returns_14 c =
-    let k = c.before.before.before.before in
-    let e = k.before.reply9.given.1 in
-    (rw e c.before.before.append-refused.ensures, rw e k.known-told9.given.0.1)
-
-same_length_15 : tie.Need-same-length-15
-same_length_15 c = c.before.before.append-bytes4.auto.0
-
-returns_15 : tie.Need-returns-15
-unfolding reply_text
-returns_15 c =
     let e = c.before.before.before.before.before.enum-told6.given.1 in
     (rw e c.before.before.append-bytes4.ensures, rw e tt)
 
@@ -214,38 +213,32 @@ append_text_spec =
     (tie.spec
     enum_told
     slice_aggregate_append_bytes
-    (λ c κs. tt)
+    append_bytes_requires
     enum_known_reply
-    (λ c κs. tt)
+    append_value_requires
     enum_known_reply_2
-    (λ c κs. tt)
+    append_answer_requires
     enum_known_reply_3
-    (λ c κs. tt)
+    append-clock-requires
     enum_told_2
-    (λ c κs. tt)
+    append-image-requires
     enum_known_reply_4
-    (λ c κs. tt)
+    append_line_requires
     enum_told_3
-    (λ c κs. tt)
+    append-sheet-requires
     enum_told_4
     slice_aggregate_append_bytes_2
-    (λ c κs. tt)
+    append_bytes_requires_2
     enum_told_5
     slice_aggregate_append_bytes_3
-    (λ c κs. tt)
+    append_bytes_requires_3
     enum_known_reply_5
-    (λ c κs. tt)
+    append_signed_requires
     enum_known_reply_6
-    (λ c κs. tt)
-    enum_known_reply_7
-    (λ c κs. tt)
-    enum_known_reply_8
-    (λ c κs. tt)
-    enum_known_reply_9
-    (λ c κs. tt)
+    append-refused-requires
     enum_told_6
     slice_aggregate_append_bytes_4
-    (λ c κs. tt)
+    append_bytes_requires_4
     same_length
     returns
     same_length_2
@@ -269,10 +262,4 @@ append_text_spec =
     same_length_11
     returns_11
     same_length_12
-    returns_12
-    same_length_13
-    returns_13
-    same_length_14
-    returns_14
-    same_length_15
-    returns_15)
+    returns_12)

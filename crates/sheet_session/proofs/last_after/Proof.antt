@@ -39,15 +39,6 @@ enum_told_10 c = c.match.keys11
 enum_told_11 : tie.Need-enum-told-11
 enum_told_11 c = c.match.keys12
 
-enum_told_12 : tie.Need-enum-told-12
-enum_told_12 c = c.match.keys13
-
-enum_told_13 : tie.Need-enum-told-13
-enum_told_13 c = c.match.keys14
-
-enum_told_14 : tie.Need-enum-told-14
-enum_told_14 c = c.match.keys15
-
 returns : tie.Need-returns
 returns c = rw c.before.reply.given.1 refl
 
@@ -84,15 +75,6 @@ returns_11 c = rw c.enum-told10.given.1 refl
 returns_12 : tie.Need-returns-12
 returns_12 c = rw c.enum-told11.given.1 refl
 
-returns_13 : tie.Need-returns-13
-returns_13 c = rw c.enum-told12.given.1 refl
-
-returns_14 : tie.Need-returns-14
-returns_14 c = rw c.enum-told13.given.1 refl
-
-returns_15 : tie.Need-returns-15
-returns_15 c = rw c.enum-told14.given.1 refl
-
 pub last_after_spec : {M : Type 1} → statement M
 last_after_spec =
     tie.close
@@ -109,9 +91,6 @@ last_after_spec =
     enum_told_9
     enum_told_10
     enum_told_11
-    enum_told_12
-    enum_told_13
-    enum_told_14
     returns
     returns_2
     returns_3
@@ -123,7 +102,4 @@ last_after_spec =
     returns_9
     returns_10
     returns_11
-    returns_12
-    returns_13
-    returns_14
-    returns_15)
+    returns_12)

@@ -25,14 +25,8 @@ perform_sheet_call_requires c κs = c.before.before.before.before.requires
 enum_known_command_3 : tie.Need-enum-known-command-3
 enum_known_command_3 c = c.match.keys3
 
-perform_drum_call_requires : tie.Need-perform-drum-call-requires
-perform_drum_call_requires c κs = c.before.before.before.before.requires
-
-enum_known_command_4 : tie.Need-enum-known-command-4
-enum_known_command_4 c = c.match.keys4
-
 enum_told : tie.Need-enum-told
-enum_told c = c.match.keys5
+enum_told c = c.match.keys4
 
 same_length : tie.Need-same-length
 same_length c = c.before.before.before.perform.auto.1.1.0
@@ -57,19 +51,13 @@ returns_2 c =
 returns_3 : tie.Need-returns-3
 unfolding session_step session_buffer
 returns_3 c =
-    let command-is = c.before.before.command3.given.1 in
-    (rw command-is c.perform-drum-call.ensures.0, rw command-is refl, c.perform-drum-call.ensures.1)
+    let number = c.before.command3.given in
+    let same = back w64 number.0.0 c.known-told3.given.0.1 in
+    (rw (number.1, same) refl, rw number.1 refl, c.before.before.before.before.requires)
 
 returns_4 : tie.Need-returns-4
 unfolding session_step session_buffer
 returns_4 c =
-    let number = c.before.command4.given in
-    let same = back w64 number.0.0 c.known-told4.given.0.1 in
-    (rw (number.1, same) refl, rw number.1 refl, c.before.before.before.before.requires)
-
-returns_5 : tie.Need-returns-5
-unfolding session_step session_buffer
-returns_5 c =
     let command-is = c.enum_told.given.1 in
     (rw command-is refl, rw command-is refl, c.before.before.before.requires)
 
@@ -83,12 +71,9 @@ perform_spec =
     enum_known_command_2
     perform_sheet_call_requires
     enum_known_command_3
-    perform_drum_call_requires
-    enum_known_command_4
     enum_told
     same_length
     returns
     returns_2
     returns_3
-    returns_4
-    returns_5)
+    returns_4)

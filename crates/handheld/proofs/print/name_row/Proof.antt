@@ -64,9 +64,6 @@ enum_told_19 c = search rules
 enum_told_20 : tie.Need-enum-told-20
 enum_told_20 c = search rules
 
-enum_told_21 : tie.Need-enum-told-21
-enum_told_21 c = search rules
-
 returns : tie.Need-returns
 returns c = rw c.before.before.enum_told.given.1 refl
 
@@ -127,9 +124,6 @@ returns_19 c = rw c.before.before.enum-told19.given.1 refl
 returns_20 : tie.Need-returns-20
 returns_20 c = rw c.before.before.enum-told20.given.1 refl
 
-returns_21 : tie.Need-returns-21
-returns_21 c = rw c.before.before.enum-told21.given.1 refl
-
 pub name_row_spec : {M : Type 1} → statement M
 name_row_spec =
     tie.close
@@ -154,7 +148,6 @@ name_row_spec =
     enum_told_18
     enum_told_19
     enum_told_20
-    enum_told_21
     returns
     returns_2
     returns_3
@@ -174,5 +167,4 @@ name_row_spec =
     returns_17
     returns_18
     returns_19
-    returns_20
-    returns_21)
+    returns_20)

@@ -65,9 +65,6 @@ enum_told_19 c = search rules
 enum_told_20 : tie.Need-enum-told-20
 enum_told_20 c = search rules
 
-enum_told_21 : tie.Need-enum-told-21
-enum_told_21 c = search rules
-
 returns : tie.Need-returns
 returns c = sym (ap number_of c.enum_told.given.1)
 
@@ -128,9 +125,6 @@ returns_19 c = sym (ap number_of c.enum-told19.given.1)
 returns_20 : tie.Need-returns-20
 returns_20 c = sym (ap number_of c.enum-told20.given.1)
 
-returns_21 : tie.Need-returns-21
-returns_21 c = sym (ap number_of c.enum-told21.given.1)
-
 pub number_spec : {M : Type 1} → statement M
 number_spec =
     tie.close
@@ -155,7 +149,6 @@ number_spec =
     enum_told_18
     enum_told_19
     enum_told_20
-    enum_told_21
     returns
     returns_2
     returns_3
@@ -175,5 +168,4 @@ number_spec =
     returns_17
     returns_18
     returns_19
-    returns_20
-    returns_21)
+    returns_20)

@@ -1,3 +1,0 @@
-pub mod Finite
-pub mod Offers
-pub mod Steps

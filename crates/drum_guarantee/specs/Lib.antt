@@ -1,4 +1,0 @@
-pub mod Drums
-pub mod Turns
-pub mod Endings
-pub mod Claim

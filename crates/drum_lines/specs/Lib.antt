@@ -1,4 +1,0 @@
-pub mod Bits
-pub mod BitsLaws
-pub mod BitsText
-pub mod Drums

@@ -1,2 +1,0 @@
-pub mod DrumSessions
-pub mod DrumSessionLaws
