@@ -1,5 +1,7 @@
 // The lines of the arithmetic: a call's name and its arguments, and the number that answers them. Each argument is
 // tested against its range before the function is called.
+#![tactic(auto)]
+
 ghost use Rattle.std.specs.Prelude.{◌≡◌, ◌≤◌, ◌<◌, max, nat_abs};
 ghost use Rattle.terms.specs.Terms.{TuningRange};
 ghost use Rattle.text.specs.Arguments.{argument, natural_in};
@@ -12,7 +14,7 @@ use terms::Tuning;
 use text::arguments::{Arguments, Natural};
 
 // What answers a line of the arithmetic.
-#[derive(Drop)]
+#[derive(Clone, Copy)]
 pub enum Calculation {
     Number(i64),
     // the line is no call, or an argument lies outside its range
@@ -20,14 +22,14 @@ pub enum Calculation {
 }
 
 // A number of at most that size, above or below zero; where the value is greater, ok is false.
-#[derive(Drop)]
+#[derive(Clone, Copy)]
 struct Signed {
     ok: bool,
     value: i64,
 }
 
 // A tuning made of a call's arguments; where one of them lies outside its range, ok is false.
-#[derive(Drop)]
+#[derive(Clone, Copy)]
 struct Setting {
     ok: bool,
     tuning: Tuning,

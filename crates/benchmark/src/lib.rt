@@ -1,5 +1,7 @@
 // Two square roots for the benchmark to count: that of the table, as the product reads it, and the computed one that
 // the product had before document 02's request 3. Nothing of the product depends on this crate.
+#![tactic(auto)]
+
 ghost use Rattle.std.specs.Prelude.{◌≡◌, ◌≤◌};
 ghost use Rattle.scaling.specs.Root.{root_of};
 

@@ -1,4 +1,6 @@
 // The command that a line of the console is. A line of another form is no command.
+#![tactic(auto)]
+
 ghost use Rattle.std.specs.Prelude.{◌≡◌, ◌≤◌, length};
 ghost use Rattle.text.specs.Hexadecimal.{count_in, bytes_in};
 ghost use Rattle.commands.specs.Commands.{named_command, restart_image, restart_of, command_in, bytes_after};
@@ -16,7 +18,7 @@ mod write_call;
 mod writer;
 
 // A call of the controller.
-#[derive(Drop)]
+#[derive(Clone, Copy)]
 pub enum Call {
     Fresh(u16),
     Scan(Input),
@@ -35,7 +37,7 @@ pub enum Call {
 }
 
 // A command of the drying sheet.
-#[derive(Drop)]
+#[derive(Clone, Copy)]
 pub enum SheetCall {
     New,
     // enters the answer of the last accepted scan
@@ -49,7 +51,7 @@ pub enum SheetCall {
     Kept,
 }
 
-#[derive(Drop)]
+#[derive(Clone, Copy)]
 pub enum Command {
     Call(Call),
     Sheet(SheetCall),

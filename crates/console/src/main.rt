@@ -22,6 +22,8 @@
 //     integral XP W TI MINUTES C, derivative XP W TD MINUTES INVERTED D
 // A line that is no such command gets `error` and changes nothing. A run begins with a controller that is fresh with
 // SW 0, an empty sheet, and all numbers of a kept one 0.
+#![tactic(auto)]
+
 ghost use Rattle.std.specs.Prelude.{◌≡◌, length};
 ghost use Rattle.console.specs.Lines.{Performed};
 ghost use Rattle.console.specs.Sessions.{ValidSession};
@@ -31,7 +33,7 @@ use session::Session;
 mod session;
 
 // The session after a line, and how much of the output is used.
-#[derive(Drop)]
+#[derive(Clone, Copy)]
 struct Answered {
     session: Session,
     used: usize,

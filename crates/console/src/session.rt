@@ -10,14 +10,14 @@ use replies::Reply;
 use sheet_session::SheetSession;
 
 // The state of a run.
-#[derive(Drop)]
+#[derive(Clone, Copy)]
 pub struct Session {
     pub controller: Controller,
     pub sheet: SheetSession,
 }
 
 // The session after a line, and the reply to it.
-#[derive(Drop)]
+#[derive(Clone, Copy)]
 pub struct SessionStep {
     pub session: Session,
     pub reply: Reply,

@@ -1,6 +1,8 @@
 // The public constants of the library, each by its name, with its value stated: a program that names one gets the
 // number of the papers. No other contract says this, since a constant is a number wherever it is used. Nothing of the
 // product depends on this crate.
+#![tactic(auto)]
+
 ghost use Rattle.std.specs.Prelude.{[], ◌∷◌, ◌≡◌, pos, neg_ℤ};
 
 use controller::Controller;

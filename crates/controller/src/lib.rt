@@ -1,4 +1,6 @@
 // The controller: its state, and start fresh. The other calls and the table of parameters are in files of their own.
+#![tactic(auto)]
+
 ghost use Rattle.std.specs.Prelude.{◌≡◌, ◌≤◌};
 ghost use Rattle.parameters.specs.Legal.{Legal};
 ghost use Rattle.outputs.specs.OutputLaws.{OutputRange};
@@ -27,7 +29,7 @@ mod write;
 // All that lasts between calls but the output: SW; parameters 1 to 23; request, memory fault, open count
 // and pins; user bits and MD bit 4; PV, SP, ER and MP; buttons, battery and alarms; the earlier PVs and SP; the last
 // accepted reading of the host's clock.
-#[derive(Drop)]
+#[derive(Clone, Copy)]
 pub struct Core {
     sw: u16,
     parameters: Parameters,
@@ -41,32 +43,32 @@ pub struct Core {
 
 // The output is a whole number of 1/65,536 units. "Each call takes the controller and hands back the next one": the
 // fields are private, so that only a start fresh and the calls give a controller.
-#[derive(Drop)]
+#[derive(Clone, Copy)]
 pub struct Controller {
     core: Core,
     output: i64,
 }
 
-#[derive(Drop)]
+#[derive(Clone, Copy)]
 pub enum Answer {
     Accepted(ScanValues),
     Refused(Refusal),
 }
 
-#[derive(Drop)]
+#[derive(Clone, Copy)]
 pub struct ScanResult {
     pub controller: Controller,
     pub answer: Answer,
 }
 
 // What a write or a restart returns.
-#[derive(Drop)]
+#[derive(Clone, Copy)]
 pub struct CallResult {
     pub controller: Controller,
     pub verdict: Verdict,
 }
 
-#[derive(Drop)]
+#[derive(Clone, Copy)]
 pub enum ReadAnswer {
     Value(i32),
     Refused(Refusal),

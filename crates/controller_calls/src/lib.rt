@@ -1,4 +1,6 @@
 // What comes of a call of the controller that a line of the console makes: its next state, and the reply.
+#![tactic(auto)]
+
 ghost use Rattle.std.specs.Prelude.{◌≡◌, length, replicate};
 ghost use Rattle.controller.specs.Answers.{reply_of, reply_of_verdict, reply_of_read};
 ghost use Rattle.controller.specs.Read.{read};
@@ -25,7 +27,7 @@ pub fn buffer() -> [u8; 346]
 }
 
 // The controller after a call, and the reply to it.
-#[derive(Drop)]
+#[derive(Clone, Copy)]
 pub struct Step {
     pub controller: Controller,
     pub reply: Reply,

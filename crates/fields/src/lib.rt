@@ -1,5 +1,7 @@
 // The image as bytes: 28 fields of a tag, a length and a value, encoded in the caller's buffer and
 // decoded again; and the sumcheck over the values.
+#![tactic(auto)]
+
 ghost use Rattle.std.specs.Prelude.{◌≡◌, ◌+◌, ◌<◌, ◌≤◌, ◌++◌, length, take, drop};
 ghost use Rattle.signals.specs.Refusals.{number_in, refused_by};
 ghost use Rattle.fields.specs.Fields.{tag_of, length_of, field_bytes, fields_from, sum_of, with_sumcheck, save_tests, saved_in};

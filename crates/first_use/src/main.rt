@@ -1,5 +1,7 @@
 // README's first use, listing by listing: the calls of a controller, of a sheet and of the hand-held terminal. No
 // function here has a proof file.
+#![tactic(auto)]
+
 ghost use Rattle.controller.specs.Valid.{Valid};
 
 use answers::ScanValues;

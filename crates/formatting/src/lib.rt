@@ -1,5 +1,7 @@
 // Bytes and numbers appended to an output buffer, behind the bytes used; a function's result is how many are used then.
 // What doesn't fit is left out, so no call has a condition, and the contracts state every byte of the buffer.
+#![tactic(auto)]
+
 ghost use Rattle.std.specs.Prelude.{◌≡◌, [], ◌∷◌, ◌≤◌, ◌<◌};
 ghost use Rattle.numerals.specs.Numerals.{last_digits, digits, decimal, hexadecimal, hexadecimal_word};
 ghost use Rattle.formatting.specs.Buffer.{buffer, append_all};

@@ -4,6 +4,8 @@
 // who types from then on (who.rt), and `pins N` makes one scan with these pins (plant.rt). A line longer than 300 bytes
 // has no form that the terminal knows, and neither has its beginning, by which it is answered (`long-line`,
 // specs/LongLines.antt): `? 17 no mnemonic` or `? 18 no value`.
+#![tactic(auto)]
+
 ghost use Rattle.std.specs.Prelude.{◌≡◌, ◌≤◌, length, take, replicate};
 ghost use Rattle.controller.specs.Valid.{Valid};
 ghost use Rattle.handheld.specs.Answers.{Answers};
@@ -17,7 +19,7 @@ mod session;
 mod who;
 
 // The session after a line, and how much of the output is used.
-#[derive(Drop)]
+#[derive(Clone, Copy)]
 struct Answered {
     session: Session,
     used: usize,

@@ -11,7 +11,7 @@ use signals::Input;
 use signals::clock::ClockReading;
 use terminal::{LineAnswer, LineResult};
 
-#[derive(Drop)]
+#[derive(Clone, Copy)]
 pub enum PlantLine {
     Pins(u8),
     Terminal,

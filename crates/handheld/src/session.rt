@@ -9,14 +9,14 @@ use terminal::LineAnswer;
 use writer_lines::ParsedWriter;
 
 // The controller, and who types.
-#[derive(Drop)]
+#[derive(Clone, Copy)]
 pub struct Session {
     pub controller: Controller,
     pub writer: Writer,
 }
 
 // The session after a line, and the answer to it.
-#[derive(Drop)]
+#[derive(Clone, Copy)]
 pub struct SessionResult {
     pub session: Session,
     pub answer: LineAnswer,

@@ -1,5 +1,7 @@
 // Signed numbers taken apart into sign and magnitude and put together again, limited, and quotients taken to the
 // nearest whole number. The laws that let `omega` read integers, for the proofs of every crate above, are in specs/.
+#![tactic(auto)]
+
 ghost use Rattle.std.specs.Prelude.{◌≡◌, ◌*◌, ◌<◌, ◌≤◌, pos, nat_abs, ◌+ℤ◌, ◌-ℤ◌, ◌*ℤ◌};
 ghost use Rattle.std.specs.Int.Signed.{le_z, lt_z, mag};
 ghost use Rattle.integers.specs.Choice.{if◌then◌else◌};

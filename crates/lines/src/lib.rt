@@ -1,5 +1,7 @@
 // Lines of standard input, and standard output. The contracts speak of the bytes received: a read hands over any bytes
 // whatever, and nothing is known but how many; what comes of them is stated byte by byte.
+#![tactic(auto)]
+
 ghost use Rattle.std.specs.Prelude.{◌≡◌, cond, min, ltb};
 ghost use Rattle.lines.specs.Lines.{Appended, started, begun, ended, Advanced, Refilled, Continued, NextLine};
 
@@ -8,7 +10,7 @@ use libc::{STDIN_FILENO, STDOUT_FILENO};
 // Where reading and writing stand: bytes `at` to `end` of the last read are unread, `len` bytes of the line buffer are
 // filled, `complete` says whether they are a line, `more` whether the input goes on, and `used` bytes of the output are
 // still to be written.
-#[derive(Drop)]
+#[derive(Clone, Copy)]
 pub struct ReaderState {
     at: usize,
     end: usize,
@@ -39,7 +41,7 @@ fn least(a: usize, b: usize) -> usize
 }
 
 // What came of bytes: how many were used, how many bytes the line has then, and whether its end was met.
-#[derive(Drop)]
+#[derive(Clone, Copy)]
 struct AppendResult {
     count: usize,
     len: usize,

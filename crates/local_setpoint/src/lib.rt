@@ -1,5 +1,7 @@
 // The local setpoint SL and the ratio setpoint RS in a scan. Step 4: moved by hand; SL that tracks PV. Step 5: SL that
 // follows SP.
+#![tactic(auto)]
+
 ghost use Rattle.std.specs.Prelude.{◌≡◌};
 ghost use Rattle.integers.specs.Limit.{limited};
 ghost use Rattle.integers.specs.Machine.{Small};

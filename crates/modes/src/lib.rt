@@ -1,4 +1,6 @@
 // What decides the mode, and the mode: causes, the request, the priority order.
+#![tactic(auto)]
+
 ghost use Rattle.std.specs.Prelude.{◌≡◌, true};
 ghost use Rattle.signals.specs.declared.Input.{Input};
 ghost use Rattle.modes.specs.Modes.{is_open_cause, is_cause, counted, open_count_after, request_by, request_after};
@@ -8,7 +10,7 @@ ghost use Rattle.modes.specs.Modes.{is_automatic, is_track, is_remote, is_ratio,
 use signals::{Buttons, Input};
 
 // What was requested last, by a button or by a write of MD.
-#[derive(Drop)]
+#[derive(Clone, Copy)]
 pub enum Request {
     Manual,
     Auto,
@@ -16,7 +18,7 @@ pub enum Request {
 }
 
 // The modes in their priority order.
-#[derive(Drop)]
+#[derive(Clone, Copy)]
 pub enum Mode {
     Hold,
     Track,
@@ -36,7 +38,7 @@ const SCANS_BEFORE_CAUSE: u8 = OPEN_CAUSE_SCANS - 1;
 
 // The part of the state that, with S2.1, decides the mode: the request, the memory fault, the count of consecutive open
 // scans (up to 85), and the last scan's pin byte.
-#[derive(Drop)]
+#[derive(Clone, Copy)]
 pub struct Conditions {
     pub request: Request,
     pub fault: bool,

@@ -1,23 +1,25 @@
 // Numbers in ASCII digits, read: what is wrong with the bytes is in the answer. `writing` writes them.
+#![tactic(auto)]
+
 ghost use Rattle.std.specs.Prelude.{◌≡◌, ◌≤◌, ◌<◌};
 ghost use Rattle.numerals.specs.Numerals.{digit_value, read_on, digits_of, with_sign};
 ghost use Rattle.numerals.specs.Parsed.{within64, natural_of, parsed_number, number_of, parsed_word};
 
 pub mod writing;
 
-#[derive(Drop)]
+#[derive(Clone, Copy)]
 pub enum ParsedNatural {
     Natural(u64),
     Malformed,
 }
 
-#[derive(Drop)]
+#[derive(Clone, Copy)]
 pub enum ParsedNumber {
     Number(i64),
     Malformed,
 }
 
-#[derive(Drop)]
+#[derive(Clone, Copy)]
 pub enum ParsedWord {
     Word(u16),
     Malformed,

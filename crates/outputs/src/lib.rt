@@ -1,5 +1,7 @@
 // Step 6 of a scan: the output in each mode, the terms and what they are made of, the limits. What is remembered of
 // earlier scans is in a file of its own.
+#![tactic(auto)]
+
 ghost use Rattle.std.specs.Prelude.{◌≡◌, ◌≤◌, min, nat_abs, pos};
 ghost use Rattle.integers.specs.Machine.{Small};
 ghost use Rattle.terms.specs.Fraction.{stored_units, limited_stored};
@@ -22,7 +24,7 @@ pub mod earlier;
 pub mod restarted;
 
 // What is remembered of earlier scans: nothing; the PV and SP of the last one; these and the PV of the one before it.
-#[derive(Drop)]
+#[derive(Clone, Copy)]
 pub enum History {
     Nothing,
     One { pv: i64, sp: i64 },
@@ -30,7 +32,7 @@ pub enum History {
 }
 
 // The previous PV and SP and the PV before, as the terms take them.
-#[derive(Drop)]
+#[derive(Clone, Copy)]
 pub struct Past {
     pub pv: i64,
     pub sp: i64,
@@ -39,7 +41,7 @@ pub struct Past {
 
 // What a scan is computed by: the switches, its mode, whether it goes to minimum in Manual or Forced
 // Manual, and its input.
-#[derive(Drop)]
+#[derive(Clone, Copy)]
 pub struct Context {
     pub switches: Switches,
     pub mode: Mode,

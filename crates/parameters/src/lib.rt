@@ -1,4 +1,6 @@
 // Parameters 1 to 23, and the numbers of all 32.
+#![tactic(auto)]
+
 ghost use Rattle.std.specs.Prelude.{◌≡◌};
 ghost use Rattle.parameters.specs.Table.{parameters_of, value, with_value};
 
@@ -8,7 +10,7 @@ mod rows;
 mod written;
 
 // The values by their numbers, IC the last; entry 0 is not used.
-#[derive(Drop)]
+#[derive(Clone, Copy)]
 pub struct Parameters {
     values: [i64; VALUE_COUNT],
 }
@@ -17,7 +19,7 @@ pub const VALUE_COUNT: usize = IC as usize + 1;
 
 // "a parameter number from 1 to 32 chooses the range and the rule": what the row of a number says of a value that is
 // written, or the refusal.
-#[derive(Drop)]
+#[derive(Clone, Copy)]
 pub enum Rule {
     // "number outside 1..32 (reads too)", and its refusal
     Unknown(Refusal),

@@ -1,4 +1,6 @@
 // What answers a command, and its line, appended to the output.
+#![tactic(auto)]
+
 ghost use Rattle.std.specs.Prelude.{◌≡◌, take};
 ghost use Rattle.numerals.specs.Numerals.{hexadecimal};
 ghost use Rattle.formatting.specs.Buffer.{buffer, append_all};
@@ -10,7 +12,7 @@ use answers::ScanValues;
 use sheet::Sheet;
 use signals::clock::ClockReading;
 
-#[derive(Drop)]
+#[derive(Clone, Copy)]
 pub enum Reply {
     Accepted,
     Value(i32),

@@ -1,4 +1,6 @@
 // Document 02, request 6: who may write which parameter.
+#![tactic(auto)]
+
 ghost use Rattle.std.specs.Prelude.{◌≡◌};
 ghost use Rattle.signals.specs.Refusals.{number_in, refused_by};
 ghost use Rattle.rights.specs.Rights.{may_write, needs_pin, pin_tests, right_tests, access_tests};
@@ -7,7 +9,7 @@ use parameters::{DS, MD, RB, RS, Rule, SL};
 use signals::{Refusal, Verdict};
 
 // Who writes: each write and each line of the terminal names one.
-#[derive(Drop)]
+#[derive(Clone, Copy)]
 pub enum Writer {
     Operator,
     Engineer,

@@ -1,4 +1,6 @@
 // Document 01's scaling of samples: a channel's range, the root of channel 1, and the quotients of a ratio setpoint.
+#![tactic(auto)]
+
 ghost use Rattle.std.specs.Prelude.{◌≡◌, ◌≤◌, pos, ◌*ℤ◌};
 ghost use Rattle.integers.specs.Rounding.{nearest_even};
 ghost use Rattle.scaling.specs.Scale.{scaled, ChannelRange};

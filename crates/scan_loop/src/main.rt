@@ -1,6 +1,8 @@
 // A host's loop, in which every call that returns a controller or a sheet is made; both stand in a struct. What is done
 // in a turn stands in functions whose contracts say that both are Valid before and after it. They need no proof file;
 // the loop alone has one (proofs/dry/Proof.antt).
+#![tactic(auto)]
+
 ghost use Rattle.controller.specs.Valid.{Valid};
 ghost use Rattle.sheet.specs.Valid.{Valid as ValidSheet};
 
@@ -10,7 +12,7 @@ use sheet::Sheet;
 use signals::clock::ClockReading;
 use signals::{Input, Verdict};
 
-#[derive(Drop)]
+#[derive(Clone, Copy)]
 struct Dryer {
     controller: Controller,
     sheet: Sheet,

@@ -1,4 +1,6 @@
 // Steps 1, 4 and 5 of a scan: PV, trim, SP, ER and MP; SL and RS by `local_setpoint`; and the alarms.
+#![tactic(auto)]
+
 ghost use Rattle.std.specs.Prelude.{◌≡◌, ◌≤◌};
 ghost use Rattle.integers.specs.Machine.{Small};
 ghost use Rattle.scaling.specs.Ratio.{RatioRange};
@@ -15,7 +17,7 @@ use parameters::Parameters;
 use signals::{Input, Switches};
 
 // PV, SP, ER and MP of a scan.
-#[derive(Drop)]
+#[derive(Clone, Copy)]
 pub struct Readings {
     pub pv: i64,
     pub sp: i64,
@@ -24,7 +26,7 @@ pub struct Readings {
 }
 
 // What steps 1, 4 and 5 leave: the parameters with SL and RS moved, and the readings.
-#[derive(Drop)]
+#[derive(Clone, Copy)]
 pub struct Computed {
     pub parameters: Parameters,
     pub readings: Readings,

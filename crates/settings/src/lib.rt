@@ -1,4 +1,6 @@
 // The settings that an image holds, as the values of its fields, and back.
+#![tactic(auto)]
+
 ghost use Rattle.std.specs.Prelude.{◌≡◌, ◌≤◌};
 ghost use Rattle.signals.specs.Refusals.{number_in, refused_by};
 ghost use Rattle.fields.specs.Fields.{with_sumcheck, save_tests, saved_in};
@@ -36,7 +38,7 @@ const USER_BITS_MOST: u16 = 7;
 const LAST_PARAMETER: usize = fields::OP - 1;
 
 // Parameters 1 to 23, OP, request, memory fault, and user bits with MD bit 4: in the order of their fields.
-#[derive(Drop)]
+#[derive(Clone, Copy)]
 pub struct Settings {
     pub parameters: Parameters,
     pub op: u16,

@@ -1,5 +1,7 @@
 // The drying sheet of a lot, document 02, request 1: what the answers of accepted scans give, one entered after
 // another.
+#![tactic(auto)]
+
 ghost use Rattle.std.specs.Prelude.{◌≡◌, true, ◌<◌};
 ghost use Rattle.sheet.specs.Sheet.{place_of, is_beyond, extreme_after, has_alarm, alarms_after, empty_sheet};
 ghost use Rattle.sheet.specs.Sheet.{taken, entered};
@@ -12,21 +14,21 @@ mod kept;
 mod values;
 
 // A PV and the number of the scan that it came with.
-#[derive(Drop)]
+#[derive(Clone, Copy)]
 pub struct Occurrence {
     pub pv: i32,
     pub number: u32,
 }
 
 // "the greatest and least PV with the number of the scan where each came first (none on an empty sheet)"
-#[derive(Drop)]
+#[derive(Clone, Copy)]
 pub enum Extreme {
     None,
     First(Occurrence),
 }
 
 // Which of the two extremes.
-#[derive(Drop)]
+#[derive(Clone, Copy)]
 pub enum Bound {
     Greatest,
     Least,
@@ -34,7 +36,7 @@ pub enum Bound {
 
 // All that a sheet holds, for a host that keeps it: how many scans; how many in each mode, in the priority order; the
 // extremes of PV; how many with either alarm or both; the sums of PV and of OP.
-#[derive(Drop)]
+#[derive(Clone, Copy)]
 pub struct SheetValues {
     pub scans: u32,
     pub modes: [u32; 8],
@@ -46,39 +48,39 @@ pub struct SheetValues {
 }
 
 // The field is private, so that a sheet comes from an empty one by answers, or from values that were tested.
-#[derive(Drop)]
+#[derive(Clone, Copy)]
 pub struct Sheet {
     values: SheetValues,
 }
 
-#[derive(Drop)]
+#[derive(Clone, Copy)]
 pub enum Entry {
     Taken,
     Full,
 }
 
 // What entering an answer returns.
-#[derive(Drop)]
+#[derive(Clone, Copy)]
 pub struct EnterResult {
     pub sheet: Sheet,
     pub entry: Entry,
 }
 
 // "Means are handed out as a sum and a count, never divided."
-#[derive(Drop)]
+#[derive(Clone, Copy)]
 pub struct Mean {
     pub sum: i64,
     pub count: u32,
 }
 
-#[derive(Drop)]
+#[derive(Clone, Copy)]
 pub enum Validity {
     Valid,
     Invalid,
 }
 
 // What a host gets for values that it kept: the sheet, or an empty one beside the refusal.
-#[derive(Drop)]
+#[derive(Clone, Copy)]
 pub struct KeptResult {
     pub sheet: Sheet,
     pub validity: Validity,

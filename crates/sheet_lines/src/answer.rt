@@ -7,7 +7,7 @@ use answers::ScanValues;
 use modes::Mode;
 use text::arguments::Arguments;
 
-#[derive(Drop)]
+#[derive(Clone, Copy)]
 pub enum ParsedAnswer {
     Answer(ScanValues),
     Malformed,

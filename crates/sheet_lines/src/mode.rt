@@ -6,7 +6,7 @@ ghost use Rattle.sheet_lines.specs.ModeWords.{mode_word, mode_or, mode_of};
 
 use modes::Mode;
 
-#[derive(Drop)]
+#[derive(Clone, Copy)]
 pub enum ParsedMode {
     Mode(Mode),
     Malformed,

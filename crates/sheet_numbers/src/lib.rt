@@ -2,34 +2,36 @@
 // how many in each mode in the priority order, 9 the greatest PV and 10 the number of its scan, 11 the least PV and 12
 // the number of its scan, 13 how many scans with an alarm, 14 the sum of PV and 15 that of OP. Where the number of a
 // scan is 0 there is no extreme.
+#![tactic(auto)]
+
 ghost use Rattle.std.specs.Prelude.{◌≡◌};
 ghost use Rattle.sheet_numbers.specs.Numbers.{no_numbers, count_in, extreme_in, counts_in, values_in, with_number};
 
 use sheet::{Extreme, Occurrence, SheetValues};
 
 // A number of 32 bits that is never below zero; where it is none, ok is false.
-#[derive(Drop)]
+#[derive(Clone, Copy)]
 struct Count {
     ok: bool,
     value: u32,
 }
 
 // An extreme; where one of its two numbers is out of its type's range, ok is false.
-#[derive(Drop)]
+#[derive(Clone, Copy)]
 struct ParsedExtreme {
     ok: bool,
     extreme: Extreme,
 }
 
 // How many scans there were in each mode; where one count is out of its type's range, ok is false.
-#[derive(Drop)]
+#[derive(Clone, Copy)]
 struct Counts {
     ok: bool,
     values: [u32; 8],
 }
 
 // The values of a sheet; where one number is out of its type's range, ok is false.
-#[derive(Drop)]
+#[derive(Clone, Copy)]
 pub struct ParsedValues {
     pub ok: bool,
     pub values: SheetValues,

@@ -1,4 +1,6 @@
 // What a run holds for the drying sheet, and what comes of the sheet's commands.
+#![tactic(auto)]
+
 ghost use Rattle.std.specs.Prelude.{◌≡◌};
 ghost use Rattle.sheet.specs.Valid.{Valid};
 ghost use Rattle.sheet_session.specs.SheetSessions.{first_session, last_after, after_reply, with_sheet, reply_to_entry, entered_step};
@@ -10,14 +12,14 @@ use replies::Reply;
 use sheet::{Entry, KeptResult, Sheet, Validity};
 
 // The answer of the last accepted scan, if there was one.
-#[derive(Drop)]
+#[derive(Clone, Copy)]
 pub enum LastAnswer {
     None,
     Answer(ScanValues),
 }
 
 // The sheet, the numbers of a kept one as lines set them, and the answer that is entered next.
-#[derive(Drop)]
+#[derive(Clone, Copy)]
 pub struct SheetSession {
     pub sheet: Sheet,
     pub numbers: [i64; 16],
@@ -25,7 +27,7 @@ pub struct SheetSession {
 }
 
 // The session after a command, and the reply to it.
-#[derive(Drop)]
+#[derive(Clone, Copy)]
 pub struct SheetStep {
     pub session: SheetSession,
     pub reply: Reply,

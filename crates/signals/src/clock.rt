@@ -3,7 +3,7 @@ ghost use Rattle.std.specs.Prelude.{◌≡◌};
 ghost use Rattle.signals.specs.Clock.{is_too_early, is_after_gap};
 
 // The reading of the last accepted scan, or none since a fresh start or a restart.
-#[derive(Drop)]
+#[derive(Clone, Copy)]
 pub enum ClockReading {
     None,
     At(u64),

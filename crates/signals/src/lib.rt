@@ -1,4 +1,6 @@
 // What a scan is given, and what the bits of its bytes and of the switch word say; the refusals, and those of a scan.
+#![tactic(auto)]
+
 ghost use Rattle.std.specs.Prelude.{◌≡◌, ◌<◌};
 ghost use Rattle.signals.specs.Bits.{bit};
 ghost use Rattle.signals.specs.Refusals.{number_of, number_in, first_of, refused_by, scan_tests};
@@ -17,7 +19,7 @@ const GREATEST_SENSORS: u8 = 3;
 
 // The pin byte, the samples of channels 1 to 3, the button byte, the sensor byte and the host's milliseconds of one
 // scan.
-#[derive(Drop)]
+#[derive(Clone, Copy)]
 pub struct Input {
     pub pins: u8,
     pub sample1: u16,
@@ -29,7 +31,7 @@ pub struct Input {
 }
 
 // The used switches, true for ON: S2.1, S2.2, S2.3, S2.4, S2.5, S2.6, S2.8, S1.1.
-#[derive(Drop)]
+#[derive(Clone, Copy)]
 pub struct Switches {
     pub ratio: bool,
     pub displayinversion: bool,
@@ -42,7 +44,7 @@ pub struct Switches {
 }
 
 // The pins that decide the mode, true for 15 V.
-#[derive(Drop)]
+#[derive(Clone, Copy)]
 pub struct Pins {
     pub hold: bool,
     pub track: bool,
@@ -50,7 +52,7 @@ pub struct Pins {
 }
 
 // The buttons, true while pressed.
-#[derive(Drop)]
+#[derive(Clone, Copy)]
 pub struct Buttons {
     pub lower: bool,
     pub raise: bool,
@@ -61,7 +63,7 @@ pub struct Buttons {
 }
 
 // What Raise and Lower ask for together.
-#[derive(Drop)]
+#[derive(Clone, Copy)]
 pub enum Adjustment {
     Raise,
     Lower,
@@ -70,7 +72,7 @@ pub enum Adjustment {
 
 // Why a call is refused: 1 to 3 the plant's, 4 to 11 the writer's, of which 4 is a reader's too, 12 to 14 a restart's,
 // 15 a save's and a terminal's, 16 the plant's again, 17 and 18 a terminal's, 19 and 20 the writer's again.
-#[derive(Drop)]
+#[derive(Clone, Copy)]
 pub enum Refusal {
     // 1: a sample above 10000
     Sample,
@@ -115,7 +117,7 @@ pub enum Refusal {
 }
 
 // What a call that answers no value comes to: accepted, or why not.
-#[derive(Drop)]
+#[derive(Clone, Copy)]
 pub enum Verdict {
     Accepted,
     Refused(Refusal),

@@ -4,7 +4,7 @@ ghost use Rattle.terminal.specs.Commands.{is_word, value_of, writing, command_of
 
 use numerals::{ParsedNumber, ParsedWord};
 
-#[derive(Drop)]
+#[derive(Clone, Copy)]
 pub enum Command {
     // the first two bytes are no mnemonic
     NoMnemonic,

@@ -1,4 +1,6 @@
 // A line of the hand-held terminal: a parameter read or written by its mnemonic, and the reply in a lent buffer.
+#![tactic(auto)]
+
 ghost use Rattle.std.specs.Prelude.{◌≡◌, ◌≤◌, length};
 ghost use Rattle.controller.specs.Valid.{Valid};
 ghost use Rattle.terminal.specs.Terminal.{replied, outcome_of, read_to, written_to, answered};
@@ -14,13 +16,13 @@ mod mnemonic;
 mod reply;
 
 // How many bytes the reply has, at the front of the buffer; or why the line isn't taken.
-#[derive(Drop)]
+#[derive(Clone, Copy)]
 pub enum LineAnswer {
     Reply(usize),
     Refused(Refusal),
 }
 
-#[derive(Drop)]
+#[derive(Clone, Copy)]
 pub struct LineResult {
     pub controller: Controller,
     pub answer: LineAnswer,

@@ -1,5 +1,7 @@
 // Document 01's three terms: each an exact fraction, limited to ±10,000 units, and then the nearest
 // whole number of 1/65,536 units.
+#![tactic(auto)]
+
 ghost use Rattle.std.specs.Prelude.{◌≡◌, ◌≤◌, ◌*◌, nat_abs};
 ghost use Rattle.integers.specs.Sign.{from_sign};
 ghost use Rattle.terms.specs.Terms.{stored_term, proportional_term, integral_term, derivative_term};
@@ -8,7 +10,7 @@ ghost use Rattle.terms.specs.TermLaws.{over, turned, Storable};
 
 // What the terms are computed with: XP; W = 1H - 1L, which is above zero; TI; TD; S2.8 ON, minutes;
 // S2.4 ON, inverse output.
-#[derive(Drop)]
+#[derive(Clone, Copy)]
 pub struct Tuning {
     pub xp: u64,
     pub span: u64,

@@ -6,7 +6,7 @@ use numerals::ParsedNumber;
 
 // The numbers in front of the first word that is none, zeros behind them; `ok` says whether all words are numbers and
 // there are at most six.
-#[derive(Drop)]
+#[derive(Clone, Copy)]
 pub struct Arguments {
     pub ok: bool,
     pub count: usize,
@@ -14,14 +14,14 @@ pub struct Arguments {
 }
 
 // A number from least to most; `ok` is false, and the value least, where it lies outside.
-#[derive(Drop)]
+#[derive(Clone, Copy)]
 pub struct Natural {
     pub ok: bool,
     pub value: u64,
 }
 
 // A number of 32 bits; `ok` is false, and the value 0, where there are more.
-#[derive(Drop)]
+#[derive(Clone, Copy)]
 pub struct Integer {
     pub ok: bool,
     pub value: i32,

@@ -1,4 +1,6 @@
 // The words of a line of bytes, and what they say. Every function is total: what a line has wrong is in the answer.
+#![tactic(auto)]
+
 ghost use Rattle.std.specs.Prelude.{◌≡◌, ◌+◌, ◌≤◌, max, length, drop};
 ghost use Rattle.text.specs.Words.{fits_blank, leading, word_at, only_word, after_words, same_bytes};
 
@@ -6,7 +8,7 @@ pub mod arguments;
 pub mod hexadecimal;
 
 // The bytes of a line from `from` up to `to`.
-#[derive(Drop)]
+#[derive(Clone, Copy)]
 pub struct Span {
     pub from: usize,
     pub to: usize,

@@ -1,4 +1,6 @@
 // The status words MD and DS.
+#![tactic(auto)]
+
 ghost use Rattle.std.specs.Prelude.{◌≡◌, ◌≤◌};
 ghost use Rattle.words.specs.Words.{weight, nibble_of, byte_of, mode_bit, ds_bit5, ds_bit4, md_high, md_low, MD, ds_low, DS};
 
@@ -8,7 +10,7 @@ mod bits;
 pub mod written;
 
 // User bits 1 and 2, and MD bit 4: whether channel 3 is measured power.
-#[derive(Drop)]
+#[derive(Clone, Copy)]
 pub struct UserBits {
     pub user1: bool,
     pub user2: bool,
@@ -16,7 +18,7 @@ pub struct UserBits {
 }
 
 // What the last scan leaves to be indicated beside PV, SP, ER and MP: the button byte, the battery and the alarms.
-#[derive(Drop)]
+#[derive(Clone, Copy)]
 pub struct Indications {
     pub buttons: u8,
     pub batterylow: bool,

@@ -1,10 +1,12 @@
 // The word of a writer in a line, in small letters.
+#![tactic(auto)]
+
 ghost use Rattle.std.specs.Prelude.{◌≡◌};
 ghost use Rattle.writer_lines.specs.Writers.{writer_of};
 
 use rights::Writer;
 
-#[derive(Drop)]
+#[derive(Clone, Copy)]
 pub enum ParsedWriter {
     Writer(Writer),
     Malformed,
