@@ -80,7 +80,7 @@ class Function:
         return None
 
 
-def rewrite(body, fn, env, answers):
+def rewrite(body, fn, env):
     """Paths from a record of the older form, by the names of today's."""
 
     def path(found):
@@ -113,10 +113,12 @@ def rewrite(body, fn, env, answers):
                 place = fn.up(place) if place else None
             env[found.group(1)] = place
         line = re.sub(r"(?<![\w.'·-])(" + WORD + r")((?:\." + WORD + r")+)", path, line)
-        for old, new in answers.items():
-            line = re.sub(r"(?<![\w.'-])" + re.escape(old) + r"(?![\w.'-])", new, line)
         out.append(line)
     return "\n".join(out)
+
+
+def renamed(text, answers):
+    return re.sub(r"(?<![^\s(\[{,])" + WORD, lambda m: answers.get(m.group(), m.group()), text)
 
 
 def shorter(body):
@@ -124,8 +126,9 @@ def shorter(body):
     for found in list(re.finditer(r"let (" + WORD + r") = c(?:\.before)+ in[ \n]*", body)):
         name = r"(?<![\w.'-])" + re.escape(found.group(1))
         rest = body.replace(found.group(), "", 1)
+        chain = found.group()[found.group().index("=") + 1 :].replace(" in", "").strip()
         if not re.search(name + r"(?![\w.'-])", rest):
-            body = re.sub(name + r"(?=\.)", "c", rest)
+            body = re.sub(name + r"(?=\.)", "c", re.sub(name + r"(?=\.before)", chain, rest))
     return body
 
 
@@ -149,8 +152,9 @@ def convert(path, module, fn, left, crate):
             env = {"c": fn.asked[k][0] if k is not None else None}
             start, end = found.span()
             body = part[end:]
-            body = re.sub(r"(?m)^" + re.escape(found.group(1)) + r"((?: " + WORD + r")*) =", lambda m: new + m.group(1).replace(" κs", "") + " =", body)
-            body = shorter(rewrite(body, fn, env, {o: n for o, n in answers.items() if o != n}))
+            body = renamed(body, answers)
+            body = re.sub(r"(?m)^" + re.escape(new) + r"((?: " + WORD + r")*) =", lambda m: new + m.group(1).replace(" κs", "") + " =", body)
+            body = shorter(rewrite(body, fn, env))
             out.append(part[:start] + f"pub {new} : goal.{new}" + body)
             continue
         if re.search(r"^abbrev (" + WORD + r") : tie\.", part, re.M):
@@ -165,7 +169,7 @@ def convert(path, module, fn, left, crate):
             if place:
                 part = part.replace("tie." + name, fn.places[place]["name"])
                 imports.add(fn.places[place]["name"])
-        out.append(rewrite(part, fn, env, {o: n for o, n in answers.items() if o != n}))
+        out.append(rewrite(renamed(part, answers), fn, env))
     goals = f"Rattle.{crate}.proofs.{module}"
     kept = [u for u in uses if not re.search(r"\.(Statement\.|Tie as)", u)]
     folder = os.path.dirname(path)

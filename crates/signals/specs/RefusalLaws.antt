@@ -45,6 +45,7 @@ pub data Holds (n : ℕ) : List (Bool × ℕ) → Type 0 where
 above_holds : (rank : ℕ → ℕ) (n m : ℕ) (ts : List (Bool × ℕ)) → Above rank n ts → Holds m ts → rank n < rank m
 above_holds rank n m (t ∷ ts) a (here e q) = omega (arith, a.0, ap rank q)
 above_holds rank n m (t ∷ ts) a (later h) = above_holds rank n m ts a.1 h
+above_holds rank n m [] a h = elim h [ ]
 
 -- a number out of an answer
 some_is : (m n : ℕ) → some m ≡ some n → m ≡ n
@@ -60,6 +61,7 @@ lowest_wins rank (t ∷ ts) a n e m (later h) = go t.0 refl (λ d. lowest_wins r
     go : (b : Bool) → t.0 ≡ b → (refused_by ts ≡ some n → rank n ≤ rank m) → rank n ≤ rank m
     go true q f = omega (arith, above_holds rank t.1 m ts a.0 h, ap rank (some_is t.1 n (rw q at e)))
     go false q f = f (rw q at e)
+lowest_wins rank [] a n e m h = elim h [ ]
 
 -- ---- the numbers of a list
 
