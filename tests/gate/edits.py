@@ -2,9 +2,10 @@
 
 Usage: python3 -B -m tests.gate.edits
 
-`rt ci` leaves what its check said of each edit below target/must-fail, and by itself fails one that doesn't compile. An
-edit whose first error is one of form (the proof names something that isn't there any more) would be refused with the
-right value too, so it shows nothing. The last line printed is 'N passed, M failed', one count for each edit.
+`rt ci` has a line for each edit in its log. An edit that is refused only because a proof names something that isn't
+there any more would be refused with the right value too, so it shows nothing; `rt` says so, and passes it. A bad edit,
+which can't be applied or read, shows nothing either. The last line printed is 'N passed, M failed', one count for each
+edit.
 """
 
 import re
@@ -12,31 +13,41 @@ import sys
 
 from tests import ROOT
 from tests.gate import tally
+from tests.gate.steps import log_name
 
-REFUSED = re.compile(r": error|: no proof: ")
-FORM = re.compile(r"that can be named|has no field")
+STEP = "proofs"  # the gate's step that runs `rt ci`
+EDIT = re.compile(r"rt: must-fail (\w+/[\w.-]+)\.edit: (.*)")
+REFUSED, FORM = "refused, as it must be", "(only because a proof file names"
 
 
-def fault_of(log):
-    """What is wrong with an edit, by what its check said; an empty text if nothing is."""
-    if not log.is_file():
+def verdicts_in(log):
+    """What `rt` says of each edit, by the edit's name."""
+    lines = log.read_text(encoding="utf-8", errors="replace").splitlines() if log.is_file() else []
+    return dict(found.groups() for found in map(EDIT.match, lines) if found)
+
+
+def fault_of(verdict):
+    """What is wrong with an edit, by what `rt` said of it; an empty text if nothing is."""
+    if verdict is None:
         return "wasn't tried"
-    lines = log.read_text(encoding="utf-8", errors="replace").splitlines()
-    first = next((line for line in lines if REFUSED.search(line)), None)
-    if first is None:
-        return "wasn't refused by the check"
-    return f"is refused for its form: {first[:300]}" if FORM.search(first) else ""
+    if not verdict.startswith(REFUSED):
+        return f"wasn't refused by the check: {verdict[:300]}"
+    return f"is refused for its form: {verdict[:300]}" if verdict.startswith(f"{REFUSED} {FORM}") else ""
 
 
 def edits_in(root):
-    """Each edit of a repository, by its crate and its name, and what its check said."""
-    for path in sorted(root.glob("crates/*/must-fail/*.edit")):
-        crate = path.parent.parent.name
-        yield f"{crate}/{path.stem}", root / "target" / "must-fail" / crate / path.stem / ".log"
+    """Each edit of a repository, by its crate and its name."""
+    return [f"{path.parent.parent.name}/{path.stem}" for path in sorted(root.glob("crates/*/must-fail/*.edit"))]
+
+
+def faults_in(root):
+    """What is wrong with each edit, by its name."""
+    verdicts = verdicts_in(root / log_name(STEP))
+    return {name: fault_of(verdicts.get(name)) for name in edits_in(root)}
 
 
 def main():
-    faults = {name: fault_of(log) for name, log in edits_in(ROOT)}
+    faults = faults_in(ROOT)
     return tally.report([f"{name} {fault}" for name, fault in faults.items() if fault], len(faults), "every edit shows something")
 
 

@@ -2,10 +2,13 @@
 
 Usage: python3 -B -m tests.gate.gate
 
-The steps are `rt ci` (every listed crate proved from nothing, must-fail edits refused, programs run; a crate that is
-not listed fails it) and the tests. A line is printed for each crate, edit, program and test as it ends; all that they
-say is in logs below target/logs. After the steps comes where the time went. The last line printed is 'N passed, M
-failed' over all steps; the exit status is 0 only if M is 0.
+The steps are `rt ci` (every listed crate proved, must-fail edits refused, programs built by two compilers and run; a
+crate that is not listed fails it, and so does a file that `rt fmt` would lay out otherwise) and the tests. `rt ci` runs
+as it is, with no names, at the top, with nothing copied, deleted or left out before. It passes must-fail edits that can't
+be applied or read, and counts them on its line `rt: ok`; here each of them is a failure. A line is printed for each
+crate, edit, program and test as `rt` or the test tells of it; all that they say is in logs below out/logs. After the
+steps comes where the time went. The last line printed is 'N passed, M failed' over all steps; the exit status is 0 only
+if M is 0.
 """
 
 import concurrent.futures
@@ -16,20 +19,23 @@ from typing import NamedTuple
 
 from tests import ROOT
 from tests.gate import rt_progress, tally, times
+from tests.gate.edits import STEP
 from tests.gate.progress import duration, on_standard_output
 from tests.gate.steps import end_of, excerpt, failures_of, last_of, log_name, run_step
 
 MODULE = [sys.executable, "-B", "-m"]
 TALLY = re.compile(r"(\d+) passed, (\d+) failed")
+BAD_EDITS = re.compile(r"rt: ok;.*, (\d+) bad\b")
+CONSOLE, HANDHELD = (f"crates/{name}/out/{name}" for name in ("console", "handheld"))  # the programs that `rt ci` built
 
-PROOFS = ("proofs", ["rt", "ci"])
+PROOFS = (STEP, ["rt", "ci"])
 # Two at once, the longest first
 TESTS = (
-    ("the console's answers compared with the model's", [*MODULE, "tests.comparison.console", "target/bin/console"]),
+    ("the console's answers compared with the model's", [*MODULE, "tests.comparison.console", CONSOLE]),
     ("programs that forge a controller or a sheet", [*MODULE, "tests.outsider.outsider"]),
-    ("the arithmetic's answers compared with the model's", [*MODULE, "tests.comparison.arithmetic", "target/bin/console"]),
-    ("kept sheets compared with the model's", [*MODULE, "tests.comparison.kept_sheets", "target/bin/console"]),
-    ("the hand-held terminal's answers compared with the model's", [*MODULE, "tests.comparison.handheld", "target/bin/handheld"]),
+    ("the arithmetic's answers compared with the model's", [*MODULE, "tests.comparison.arithmetic", CONSOLE]),
+    ("kept sheets compared with the model's", [*MODULE, "tests.comparison.kept_sheets", CONSOLE]),
+    ("the hand-held terminal's answers compared with the model's", [*MODULE, "tests.comparison.handheld", HANDHELD]),
     ("must-fail edits that show nothing", [*MODULE, "tests.gate.edits"]),
     ("the gate's own tests", [*MODULE, "tests.gate.gate_test"]),
     ("the model's calls that the rules are proved to give", [*MODULE, "tests.statements.calls"]),
@@ -44,7 +50,7 @@ TESTS = (
 )
 # Timed, and so alone
 SPEED = (
-    ("the console's speed", [*MODULE, "tests.comparison.speed", "target/bin/console"]),
+    ("the console's speed", [*MODULE, "tests.comparison.speed", CONSOLE]),
 )
 
 
@@ -56,6 +62,7 @@ class Result(NamedTuple):
     trouble: str    # what is wrong besides the failures that it counts, or nothing
     seconds: float
     lines: list
+    crates: tuple = ()  # of `rt`, as they were proved
 
 
 def counts_of(last, status):
@@ -75,6 +82,13 @@ def result_of(name, lines, status, seconds):
     return Result(name, *counts_of(last_of(lines), status), seconds, lines)
 
 
+def with_bad_edits(result):
+    """The result of `rt ci`, in which each must-fail edit that can't be applied or read is a failure."""
+    bad = sum(int(found.group(1)) for found in map(BAD_EDITS.match, result.lines) if found)
+    trouble = "; ".join(filter(None, (result.trouble, f"must-fail edits: {bad} bad" if bad else "")))
+    return result._replace(failed=result.failed + bad, trouble=trouble)
+
+
 def told(result, choose):
     """The counts and the time of a step, and where it failed the lines of its log that are chosen."""
     failed = f", {result.failed} FAILED" if result.failed else ""
@@ -84,9 +98,10 @@ def told(result, choose):
 
 
 def run_proofs(step, folder, progress):
-    """The result of `rt`, whose crates, edits and programs are shown as they end."""
+    """The result of `rt ci`, whose crates, edits and programs are shown as it tells of them."""
     name, command = step
-    result = result_of(name, *rt_progress.run_rt(name, command, folder, progress, has_edits=True))
+    ended, crates = rt_progress.run_rt(name, command, folder, progress)
+    result = with_bad_edits(result_of(name, *ended))._replace(crates=tuple(crates))
     progress.print(*told(result, failures_of))
     return result
 
@@ -117,7 +132,7 @@ def run_tests(groups, folder, progress):
 def intent(folder, tests):
     """What will be done, in a line for a person."""
     crates, edits, programs = map(len, (find(folder) for find in (rt_progress.crates_in, rt_progress.edits_in, rt_progress.programs_in)))
-    return (f"Proving {crates} crates from nothing, trying {edits} must-fail edits, running {programs} programs, then {tests} tests; "
+    return (f"Proving {crates} crates, trying {edits} must-fail edits, running {programs} programs, then {tests} tests; "
             "see README.md for how long.")
 
 
@@ -126,8 +141,8 @@ def gate(proofs, groups, folder):
     with on_standard_output() as progress:
         progress.print(intent(folder, sum(len(steps) for steps, _ in groups)))
         results = [run_proofs(proofs, folder, progress), *run_tests(groups, folder, progress)]
-        lines = [line for result in results for line in result.lines]
-        progress.print("", *times.table([(result.name, result.seconds) for result in results], lines))
+        crates = [crate for result in results for crate in result.crates]
+        progress.print("", *times.table([(result.name, result.seconds) for result in results], crates))
         progress.print(*(f"FAILED: {result.name}; {log_name(result.name)}" for result in results if result.failed))
     return tally.close(sum(result.passed for result in results), sum(result.failed for result in results))
 

@@ -11,20 +11,22 @@ import subprocess
 import sys
 import tempfile
 
-from tests.gate import edits, gate, progress_test, tally, times
-from tests.gate.stand_in import printed_by, proofs_of, results_of, untimed
+from tests.gate import edits, gate, progress_test, steps, tally, times
+from tests.gate.stand_in import printed_by, proofs_of, results_of, untimed, write
 
 PASSES = ("a step", ["sh", "-c", "echo 3 passed, 0 failed"])
-# Lines as `rt ci` prints them
-RT_LINES = """rt: integers proved (12 s)
-rt: outputs proved (40 s)
-rt: console NOT PROVED (exit 1, 51 s)
-rt: must-fail outputs/minimum_lost: refused, as it must be (first at proofs/minimum/Proof.antt:31:129; 30 s)
-rt: must-fail outputs/limit_lost: refused, as it must be (5 s)
-rt: must-fail terms/half_up: NOT REFUSED: the crate is still proved with this edit (7 s)
-rt: console ran as nobody, and wrote what its file 'stdout' has (0 s)
-fn outputs::minimum: proved
-""".splitlines(keepends=True)
+# A crate with one function, and an edit of it that is wrong
+CRATE = """#![tactic(auto)]
+
+ghost use Rattle.std.specs.Prelude.{{◌≡◌}};
+
+pub fn {name}(x: u8) -> u8
+    ensures {{ result ≡ x }}
+{{
+    x
+}}
+"""
+EDIT = "file: src/lib.rt\nold:     x\nnew:     0\n"
 
 
 def counts(steps, at_once=1):
@@ -44,25 +46,28 @@ def two_at_once(first, second):
     return counts([("first", ["sh", "-c", first]), ("second", ["sh", "-c", second])], at_once=2)
 
 
-def unlisted_crate_is_refused():
-    """`rt ci` over a repository with a crate that crates.txt does not list, and over the same with it listed."""
+def rt_fails_what_it_must():
+    """`rt ci` itself over a repository with a crate that crates.txt does not list, over the same with it listed, over one
+    with a must-fail edit that has no place, and over one with a file that isn't laid out.
+    """
     with tempfile.TemporaryDirectory() as folder:
         root = pathlib.Path(folder)
         subprocess.run(["git", "init", "-q", folder], check=True)
-        for name in ("listed", "unlisted"):
-            source = root / "crates" / name / "src"
-            source.mkdir(parents=True)
-            (source / "lib.rt").write_text(f"pub fn {name}(x: u8) -> u8 {{\n    x\n}}\n")
-        failed = []
-        for listed in ("listed:\n", "listed:\nunlisted:\n"):
-            (root / "crates.txt").write_text(listed)
+        write(root, {f"crates/{name}/src/lib.rt": CRATE.format(name=name) for name in ("listed", "unlisted")})
+        write(root, {"crates/listed/must-fail/wrong.edit": EDIT})
+        found = []
+        for changes in ({"crates.txt": "listed:\n"}, {"crates.txt": "listed:\nunlisted:\n"},
+                        {"crates/listed/must-fail/lost.edit": EDIT.replace("    x", "    y")},
+                        {"crates/unlisted/src/lib.rt": CRATE.format(name="unlisted").replace("    x\n", "  x\n")}):
+            write(root, changes)
             result, printed = printed_by(proofs_of, root)
-            failed.append(result.failed)
-        timed = times.crate_seconds(result.lines)
-        ended = [line.split(": ") for line in untimed(printed)[:2]]
-        return (failed[0] > 0 and failed[1] == 0 and timed.keys() == {"listed", "unlisted"}
-                and [count for count, _ in ended] == ["proved 1 of 2", "proved 2 of 2"]
-                and {name for _, name in ended} == {"listed, N s", "unlisted, N s"})
+            found.append((result.passed, result.failed, untimed(printed)))
+    unlisted, listed, bad, laid_out = found
+    return (unlisted[:2] == (0, 1) and listed[:2] == (3, 0) and bad[:2] == (3, 1) and laid_out[:2] == (2, 1)
+            and {line.split(": ")[0].replace("kept", "proved") for line in listed[2][:3]} == {"proved 1 of 2", "proved 2 of 2", "refused 1 of 1"}
+            and {line.split(": ")[1] for line in listed[2][:3]} == {"listed, at N s", "unlisted, at N s", "listed/wrong"}
+            and any(line.startswith("BAD EDIT: listed/lost, ") for line in bad[2])
+            and any(line.startswith("NOT PROVED: unlisted") for line in laid_out[2]))
 
 
 def closes_with_the_tally():
@@ -74,41 +79,34 @@ def closes_with_the_tally():
     lines = printed.splitlines()
     after = lines[lines.index("== steps, seconds, the longest first"):]
     return (status == 0 and lines[-1] == "12 passed, 0 failed" and not any("passed" in line for line in after[:-1])
-            and bad_status == 1 and bad_printed.endswith("\nFAILED: another step; target/logs/another-step.log\n4 passed, 2 failed\n"))
-
-
-def times_are_read():
-    """The seconds of crates and edits as `rt ci` tells them."""
-    return (times.crate_seconds(RT_LINES) == {"integers": 12, "outputs": 40, "console": 51}
-            and times.edit_seconds(RT_LINES) == {"outputs": (35, 2), "terms": (7, 1)})
+            and bad_status == 1 and bad_printed.endswith("\nFAILED: another step; out/logs/another-step.log\n4 passed, 2 failed\n"))
 
 
 def longest_stands_first():
-    names = [line.split("  ")[-1] for line in times.table([("short", 1.4), ("long", 90.6)], RT_LINES) if line.startswith(" ")]
-    return names == ["long", "short", "console", "outputs", "integers", "outputs (2 edits)", "terms (1 edits)"]
+    lines = times.table([("short", 1.4), ("long", 90.6)], [("integers", 12), ("outputs", 40.2)])
+    return [line.split("  ")[-1] for line in lines if line.startswith(" ")] == ["long", "short", "outputs", "integers"]
 
 
 def edits_of_form():
-    """Which edits are found to show nothing, by what a check said of them; one of them wasn't tried."""
-    logs = {
-        "value": "P.antt:46:5: error: `returns`: the goal does not follow\nP.antt:61:5: error: `x` has no field `y`",
-        "renamed": "note: an error may follow\nP.antt:1:2: error: `x` has no field `y`",
-        "unnamed": "P.antt:1:2: error: there is nothing `x` that can be named here",
-        "searched": "note: what antt said of a `search`\nfn terms::unit: no proof: `search` does not close `returns`",
-        "silent": "refused",
-        "untried": None,
+    """Which edits are found to show nothing, by what `rt` said of them; one of them wasn't tried."""
+    verdicts = {
+        "value": "refused, as it must be: ./proofs/f/Answers.antt:46:5: error: `returns`: the goal does not follow",
+        "limit": "refused, as it must be (only by a limit of the prover, which gave no verdict): antt ran out of steps",
+        "alone": "refused, as it must be",
+        "renamed": "refused, as it must be (only because a proof file names what the edit took away): P.antt:1:2: error: no field `y`",
+        "lost": "BAD EDIT: an 'old:' text is in src/lib.rt 0 times, and not once",
+        "passes": "NOT REFUSED: the crate is still proved with this edit",
+        "killed": "NOT TRIED: its check was killed, most likely for memory",
     }
     with tempfile.TemporaryDirectory() as folder:
         root = pathlib.Path(folder)
-        (root / "crates" / "terms" / "must-fail").mkdir(parents=True)
-        for name, words in logs.items():
-            (root / "crates" / "terms" / "must-fail" / f"{name}.edit").touch()
-            if words is not None:
-                log = root / "target" / "must-fail" / "terms" / name / ".log"
-                log.parent.mkdir(parents=True)
-                log.write_text(words)
-        found = {name for name, log in edits.edits_in(root) if edits.fault_of(log)}
-    return found == {f"terms/{name}" for name in logs if name not in ("value", "searched")}
+        untried = {name for name, fault in edits.faults_in(root).items() if fault}
+        write(root, {f"crates/terms/must-fail/{name}.edit": EDIT for name in [*verdicts, "untried"]})
+        without = {name for name, fault in edits.faults_in(root).items() if fault}
+        write(root, {steps.log_name(edits.STEP): "".join(f"rt: must-fail terms/{name}.edit: {words}\n" for name, words in verdicts.items())})
+        found = {name for name, fault in edits.faults_in(root).items() if fault}
+    names = {f"terms/{name}" for name in [*verdicts, "untried"]}
+    return not untried and without == names and found == names - {"terms/value", "terms/limit", "terms/alone"}
 
 
 CASES = (
@@ -125,10 +123,9 @@ CASES = (
     ("two at once that pass", lambda: two_at_once("sleep 0.1; echo 3 passed, 0 failed", "echo 4 passed, 0 failed") == (7, 0)),
     ("one of two at once that fails", lambda: two_at_once("echo 3 passed, 0 failed", "echo 4 passed, 1 failed; exit 1") == (7, 1)),
     ("the tally after the times", closes_with_the_tally),
-    ("the seconds of crates and edits", times_are_read),
     ("the longest first", longest_stands_first),
     ("edits that show nothing", edits_of_form),
-    ("a crate that is not listed", unlisted_crate_is_refused),
+    ("repositories that rt must fail", rt_fails_what_it_must),
     *progress_test.CASES,
 )
 

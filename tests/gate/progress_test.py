@@ -1,20 +1,27 @@
 """Tests of what a person sees of a run: the lines of `rt` and of the tests as they end, their logs, and what runs now.
 
-They are among the gate's own tests (`tests/gate/gate_test.py`).
+They are among the gate's own tests (`tests/gate/gate_test.py`). `rt` is a stand-in here (`tests/gate/stand_in.py`).
 """
 
 import io
-import os
 import pathlib
 import tempfile
-from unittest import mock
 
-from tests.gate import gate, progress, rt_progress, run, stand_in, steps
+from tests.gate import gate, progress, run, stand_in, steps
+from tests.gate.stand_in import ALL_OK, OK, PROVED, RAN, REFUSED, printing
 
-START = f"Proving 3 crates; a first run takes about {run.FIRST_RUN_MINUTES} minutes, see README.md."
-# It is proved only if another crate's line was printed while it ran
-WAITS = "turns=0\nwhile [ ! -e seen ] && [ $turns -lt 50 ]; do sleep 0.1; turns=$((turns + 1)); done\n[ -e seen ]\n"
+START = "Proving 3 crates; see README.md for how long a first run takes."
+# It ends only once another crate's line was printed, and is then proved
+WAITS = """echo 'rt: quick proved'
+turns=0
+while [ ! -e seen ] && [ $turns -lt 50 ]; do sleep 0.1; turns=$((turns + 1)); done
+[ -e seen ] && echo 'rt: slow proved'
+echo '2 passed, 0 failed'
+"""
 SLEEPS = ("a step", ["sh", "-c", "sleep 0.8; echo 3 passed, 0 failed"])
+PROVED_LINES = ["proved 1 of 3: quick, at N s", "proved 2 of 3: slow, at N s", "proved 3 of 3: program, at N s"]
+REFUSED_LINES = ["refused 1 of 2: quick/turned", "refused 2 of 2: slow/lost"]
+RAN_LINES = ["ran 1 of 2: program", "ran 2 of 2: program, built by Rattle's own compiler"]
 
 
 class Watched(io.StringIO):
@@ -35,91 +42,96 @@ def script(name, text):
 
 
 def each_has_a_line():
-    """All crates, edits and programs, with their counts; `rt ci` removes target/, and yet the log is there."""
-    with stand_in.repository({"target/old": ""}) as root:
+    """All crates, edits and programs, with their counts, and the log has all that `rt` prints."""
+    with stand_in.repository(printing(PROVED + REFUSED + RAN + OK)) as root:
         result, printed = stand_in.printed_by(stand_in.proofs_of, root)
         log = (root / steps.log_name("proofs")).read_text()
-        return (result.failed == 0 and not (root / "target" / "old").exists() and log == "".join(result.lines)
-                and log.startswith("fn quick::f: proved\n") and stand_in.untimed(printed) == [
-                    "proved 1 of 3: quick, N s", "proved 2 of 3: slow, N s", "proved 3 of 3: program, N s",
-                    "refused 1 of 2: quick/turned, N s", "refused 2 of 2: slow/lost, N s", "ran 1 of 1: program, N s",
-                    "proofs, 5 passed, N s"])
+    return (result.failed == 0 and log == "".join(result.lines) == PROVED + REFUSED + RAN + OK
+            and [crate.name for crate in result.crates] == ["quick", "slow", "program"]
+            and stand_in.untimed(printed) == [*PROVED_LINES, *REFUSED_LINES, *RAN_LINES, "proofs, 5 passed, N s"])
 
 
 def line_comes_at_the_end():
-    """A crate's line comes when it ends, not when all have ended that run beside it."""
-    with stand_in.repository({"crates/slow/src/lib.rt": WAITS}, jobs=2) as root:
-        is_proved, printed = stand_in.printed_by(run.run, root, stream=Watched("quick", root / "seen"))
-        return is_proved and "proved 2 of 3: slow" in printed
+    """A crate's line comes when `rt` tells of it, not when all have ended that run beside it."""
+    with stand_in.repository(WAITS) as root:
+        result, printed = stand_in.printed_by(stand_in.proofs_of, root, stream=Watched("quick", root / "seen"))
+        return result.failed == 0 and "proved 2 of 3: slow" in printed
 
 
-def earlier_runs_do_not_count():
-    """What an earlier run left isn't shown; what it proved, two programs among it, is done again only if changed."""
-    second = {"crates.txt": "quick:\nslow:\nprogram: quick\n", "crates/slow/src/main.rt": "exit 0\n", "crates/slow/stdout": "done\n"}
-    with stand_in.repository(second) as root:
-        stand_in.printed_by(run.run, root)
-        with mock.patch("sys.stdout", io.StringIO()) as printed, progress.on_standard_output() as shows:
-            rt_progress.Watch(root, shows, has_edits=False).poll()
-        again = stand_in.untimed(stand_in.printed_by(run.run, root)[1])
-        stand_in.write(root, {"crates/program/src/main.rt": "true\n"})
-        changed = stand_in.untimed(stand_in.printed_by(run.run, root)[1])
-    unchanged = [START, "proved 1 of 3: quick, unchanged", "proved 2 of 3: slow, unchanged"]
-    closing = "rt: ok, 3 crates proved, N s"
-    return (not printed.getvalue() and not shows.running and again == [*unchanged, "proved 3 of 3: program, unchanged", closing]
-            and changed == [*unchanged, "proved 3 of 3: program, N s", "ran 1 of 1: program, N s", closing])
+def kept_crates_count():
+    """What an earlier run proved is told and counted too."""
+    kept = ["rt: quick is kept: an earlier run on this machine proved the same files over the same libraries\n",
+            "rt: quick: 1 of its 1 must-fail edits were tried by an earlier run on this machine, and nothing has changed\n"]
+    with stand_in.repository(printing("".join(kept) + PROVED[PROVED.index("== slow"):] + REFUSED + RAN + OK)) as root:
+        result, printed = stand_in.printed_by(stand_in.proofs_of, root)
+    return result.failed == 0 and stand_in.untimed(printed) == [
+        "kept 1 of 3: quick, at N s", *PROVED_LINES[1:], *REFUSED_LINES, *RAN_LINES, "proofs, 5 passed, N s"]
 
 
 def failing_crate_is_named():
     """What isn't proved, what depends on it, and the errors; the log is named and has all."""
     error = "src/lib.rt:1:1: error: the goal does not follow"
-    with stand_in.repository({"crates/slow/src/lib.rt": f"echo '{error}'\nexit 1\n"}) as root:
-        is_proved, printed = stand_in.printed_by(run.run, root)
-        log = (root / "target" / "logs" / "rt-check.log").read_text()
-    dependency = "its dependency slow is not proved"
-    return (not is_proved and "fn quick::f: proved\n" in log and "rt: FAILED: slow program\n" in log and stand_in.untimed(printed) == [
-        START, "proved 1 of 3: quick, N s", "NOT PROVED: slow, N s; target/log/slow.out",
-        f"NOT PROVED: program, {dependency}; target/log/program.out", "rt check FAILED: exit status 1, N s",
-        f"    | {error}", "    | rt: slow NOT PROVED (exit 1, N s)", f"    | rt: program NOT PROVED: {dependency}",
-        "    | rt: FAILED: slow program", "    the whole log: target/logs/rt-check.log"])
+    lines = ["rt: quick proved", "== slow", error, "rt: slow NOT PROVED", "rt: program NOT PROVED: its library slow failed",
+             "rt: FAILED: slow program", "1 passed, 2 failed"]
+    with stand_in.repository(printing("\n".join(lines) + "\n", 1)) as root:
+        result, printed = stand_in.printed_by(stand_in.proofs_of, root)
+    return (result.passed, result.failed) == (1, 2) and stand_in.untimed(printed) == [
+        PROVED_LINES[0], "NOT PROVED: slow, at N s", "NOT PROVED: program, its library slow failed, at N s",
+        "proofs, 1 passed, 2 FAILED, N s", f"    | {error}", "    | rt: slow NOT PROVED",
+        "    | rt: program NOT PROVED: its library slow failed", "    | rt: FAILED: slow program",
+        "    the whole log: out/logs/proofs.log"]
 
 
-def crate_without_verdict_is_named():
-    """A crate that depends on one that there isn't: `rt` fails it, says nothing of it and doesn't try its edits."""
-    with stand_in.repository({"crates.txt": "quick:\nslow: missing\nprogram: quick\n"}) as root:
-        with mock.patch("sys.stdout", io.StringIO()) as printed, progress.on_standard_output() as shows:
-            _, status, _ = rt_progress.run_rt(*gate.PROOFS, root, shows, has_edits=True)
-    return status == 1 and not shows.running and stand_in.untimed(printed.getvalue()) == [
-        "proved 1 of 3: quick, N s", "proved 2 of 3: program, N s", "refused 1 of 2: quick/turned, N s", "ran 1 of 1: program, N s",
-        "NO VERDICT: slow; target/log/slow.*"]
+def refusal_of_the_whole_is_shown():
+    """Where `rt` refuses the repository before it proves anything, what it says is there."""
+    says = "rt: crates.txt: missing is no line of this file and no library of the kit"
+    with stand_in.repository(printing(f"{says}\n0 passed, 1 failed\n", 2)) as root:
+        result, printed = stand_in.printed_by(stand_in.proofs_of, root)
+    return result.failed == 1 and stand_in.untimed(printed) == [
+        "proofs, 0 passed, 1 FAILED, N s", f"    | {says}", "    the whole log: out/logs/proofs.log"]
 
 
 def failing_edits_and_runs_are_named():
-    """An edit that isn't refused, one that can't be made, and a program that writes something else."""
-    with stand_in.repository({
-            "crates/quick/must-fail/turned.edit": "file: src/lib.rt\nold: quick::f\nnew: quick::g\n",
-            "crates/slow/must-fail/lost.edit": "file: src/lib.rt\nold: exit 1\nnew: exit 0\n",
-            "crates/program/stdout": "something else\n"}) as root:
+    """An edit that isn't refused, one that can't be made, tests that fail, and a program that writes something else."""
+    differs = "what the program wrote, out/stdout, is not what its file stdout has: they differ first at byte 1, line 1"
+    lines = ["rt: must-fail quick/turned.edit: NOT REFUSED: the crate is still proved with this edit",
+             "rt: must-fail slow/lost.edit: BAD EDIT: an 'old:' text is in src/lib.rt 0 times, and not once",
+             "rt: slow: its tests FAILED", f"rt: program: {differs}", "rt: note: bad must-fail edits, as told above: 1.",
+             "rt: FAILED: quick/turned.edit slow (tests) program (run)", "3 passed, 3 failed"]
+    with stand_in.repository(printing(PROVED + "\n".join(lines) + "\n", 1)) as root:
         result, printed = stand_in.printed_by(stand_in.proofs_of, root)
-    lines = stand_in.untimed(printed)
-    bad = "BAD EDIT: slow/lost, an 'old:' text is not in src/lib.rt; target/must-fail/slow/lost.out"
-    return (result.failed == 3 and lines[3:6] == [
-        "NOT REFUSED: quick/turned, N s; target/must-fail/quick/turned.out", bad, "RUN FAILED: program, N s"]
-        and lines[6] == "proofs, 2 passed, 3 FAILED, N s" and lines[-1] == "    the whole log: target/logs/proofs.log"
-        and lines[7] == "    | rt: must-fail quick/turned: NOT REFUSED: the crate is still proved with this edit (N s)"
-        and "    | rt: program proved, and its run FAILED (N s)" in lines[8:])
+    return result.failed == 3 and stand_in.untimed(printed) == [
+        *PROVED_LINES, "NOT REFUSED: quick/turned, the crate is still proved with this edit",
+        "BAD EDIT: slow/lost, an 'old:' text is in src/lib.rt 0 times, and not once", "FAILED: the tests of slow",
+        "RUN FAILED: program, wrote, out/stdout, is not what its file stdout has: they differ first at byte 1, line 1",
+        "proofs, 3 passed, 3 FAILED, N s", *(f"    | {line}" for line in lines[:-1]), "    the whole log: out/logs/proofs.log"]
+
+
+def bad_edits_fail():
+    """`rt ci` passes an edit that can't be applied or read; the gate doesn't, and names it."""
+    bad = "rt: must-fail slow/lost.edit: BAD EDIT: an 'old:' text is in src/lib.rt 0 times, and not once"
+    ok = OK.replace("2 refused", "1 refused, 1 bad").replace("5 passed", "4 passed")
+    with stand_in.repository(printing(f"{PROVED}{REFUSED.splitlines()[0]}\n{bad}\n{ok}")) as root:
+        result, printed = stand_in.printed_by(stand_in.proofs_of, root)
+    return ((result.passed, result.failed) == (4, 1) and f"    | {bad}\n    | {ok.splitlines()[0]}" in printed
+            and "proofs, 4 passed, 1 FAILED (must-fail edits: 1 bad), N s" in stand_in.untimed(printed))
 
 
 def verdict_is_that_of_rt():
-    """`make run` goes on only if `rt` ends with status 0 and says ok at last, whatever its files say."""
+    """`make run` goes on only if `rt` ends with status 0 and says at last that all crates are ok."""
+    some = ALL_OK.replace("program: ok\n3 of", "program: failed (1)\n2 of")
     verdicts = []
-    start = "#!/bin/sh\nmkdir -p target/log\necho 'rt: slow proved (1 s)' >target/log/slow.out\n"
-    for end in ("echo rt: ok, 3 crates proved", "echo rt: ok, 3 crates proved; exit 1", "true", "echo rt: ok, no; echo rt: FAILED: x"):
-        with stand_in.repository({"path/rt": f"{start}{end}\n"}) as root:
-            (root / "path" / "rt").chmod(0o755)
-            with mock.patch.dict(os.environ, PATH=f"{root / 'path'}:{os.environ['PATH']}"):
-                is_proved, printed = stand_in.printed_by(run.run, root)
-            verdicts.append(is_proved and "proved 1 of 3: slow, 1 s" in printed)
-    return verdicts == [True, False, False, False]
+    for text, status in ((ALL_OK, 0), (ALL_OK, 1), ("", 0), (some, 0), (some, 1), ("0 of 0 crates ok\n", 0)):
+        with stand_in.repository(printing(text, status)) as root:
+            is_proved, printed = stand_in.printed_by(run.run, root)
+        verdicts.append(is_proved)
+        shows = stand_in.untimed(printed)
+        ended = [f"ended {number} of 3: {name}, at N s" for number, name in enumerate(("quick", "slow", "program"), 1)]
+        if (text, status) == (ALL_OK, 0) and shows != [START, *ended, "3 of 3 crates ok, N s"]:
+            return False
+        if text == some and (shows[4] != "FAILED: program, failed (1)" or f"rt all test FAILED: exit status {status}, N s" not in shows):
+            return False
+    return verdicts == [True, False, False, False, False, False]
 
 
 def tests_are_numbered_as_they_end():
@@ -128,11 +140,11 @@ def tests_are_numbered_as_they_end():
     with tempfile.TemporaryDirectory() as folder:
         root = pathlib.Path(folder)
         _, printed = stand_in.printed_by(stand_in.results_of, (first, second), root, 2)
-        log = (root / "target" / "logs" / "second.log").read_text()
-        has_log = (root / "target" / "logs" / "firsts.log").read_text() == "3 passed, 0 failed\n"
+        log = (root / "out" / "logs" / "second.log").read_text()
+        has_log = (root / "out" / "logs" / "firsts.log").read_text() == "3 passed, 0 failed\n"
     return has_log and log.splitlines() == [*map(str, range(1, 41)), "0 passed, 2 failed"] and stand_in.untimed(printed) == [
         "tested 1 of 2: second, 0 passed, 2 FAILED, N s", *(f"    | {number}" for number in range(12, 41)), "    | 0 passed, 2 failed",
-        "    the whole log: target/logs/second.log", "tested 2 of 2: first's, 3 passed, N s"]
+        "    the whole log: out/logs/second.log", "tested 2 of 2: first's, 3 passed, N s"]
 
 
 def silent_step_has_an_empty_log():
@@ -166,15 +178,15 @@ def no_terminal_no_redrawing():
 
 def terminal_shows_what_runs_now():
     """What runs now comes with its time, is redrawn, and is gone in the end: the lines of what has ended stay."""
-    with stand_in.repository({"crates/slow/src/lib.rt": "sleep 2\n", "crates/program/src/main.rt": "sleep 0.8\n"}) as root:
-        printed = stand_in.printed_on_terminal(run.run, root)
+    script = f"{printing(PROVED).replace('exit 0', 'sleep 2')}{printing(REFUSED + RAN + OK)}"
+    with stand_in.repository(script) as root:
+        printed = stand_in.printed_on_terminal(stand_in.proofs_of, root)
         tested = stand_in.printed_on_terminal(stand_in.results_of, (SLEEPS,), root)
-    while_slow, after = printed.split("proved 2 of 3: slow")
-    return (all(f"\r\x1b[K  now proving slow ({seconds} s); " in while_slow for seconds in (0, 1))
-            and "\r\x1b[K  now proving program (0 s); " in after and "\r\x1b[K  now testing a step (0 s); 0 s so far\r\x1b[K" in tested
+    while_trying, after = printed.split("refused 1 of 2")
+    return (all(f"\r\x1b[K  now trying the edits of quick ({seconds} s), slow ({seconds} s); " in while_trying for seconds in (0, 1))
+            and "now" not in after and "\r\x1b[K  now testing a step (0 s); 0 s so far\r\x1b[K" in tested
             and stand_in.untimed("\n".join(stand_in.visible(printed))) == [
-                START, "proved 1 of 3: quick, N s", "proved 2 of 3: slow, N s", "proved 3 of 3: program, N s", "ran 1 of 1: program, N s",
-                "rt: ok, 3 crates proved, N s"]
+                *PROVED_LINES, *REFUSED_LINES, *RAN_LINES, "proofs, 5 passed, N s"]
             and stand_in.untimed("\n".join(stand_in.visible(tested))) == ["tested 1 of 1: a step, 3 passed, N s"])
 
 
@@ -194,10 +206,11 @@ def logs_are_apart():
 CASES = (
     ("a line for each crate, edit and program", each_has_a_line),
     ("the line of a crate while another runs", line_comes_at_the_end),
-    ("files of an earlier run", earlier_runs_do_not_count),
+    ("crates of an earlier run", kept_crates_count),
     ("a crate that isn't proved", failing_crate_is_named),
-    ("a crate of which rt says nothing", crate_without_verdict_is_named),
+    ("a repository that rt refuses", refusal_of_the_whole_is_shown),
     ("edits and runs that fail", failing_edits_and_runs_are_named),
+    ("bad edits that rt passes", bad_edits_fail),
     ("the verdict of rt", verdict_is_that_of_rt),
     ("the numbers and the logs of tests", tests_are_numbered_as_they_end),
     ("the log of a step that says nothing", silent_step_has_an_empty_log),

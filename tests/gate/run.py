@@ -2,10 +2,11 @@
 
 Usage: python3 -B -m tests.gate.run
 
-`rt check` proves what has changed since it was last proved, and runs the programs among it. The exit status is 0 only
-if that of `rt` is 0 and its last line says ok.
+`rt all test` proves what has changed since it was last proved, builds the programs and runs them. The exit status is 0
+only if that of `rt` is 0 and its last line says that every crate is ok.
 """
 
+import re
 import sys
 
 from tests import ROOT
@@ -13,17 +14,22 @@ from tests.gate import rt_progress
 from tests.gate.progress import duration, on_standard_output
 from tests.gate.steps import excerpt, failures_of, last_of
 
-FIRST_RUN_MINUTES = 10  # on the machine of docs/TESTS.md
-NAME = "rt check"
+NAME = "rt all test"
+ALL_OK = re.compile(r"(\d+) of (\d+) crates ok")
+
+
+def are_all_ok(line):
+    found = ALL_OK.fullmatch(line)
+    return found is not None and found.group(1) == found.group(2) != "0"
 
 
 def run(folder):
     """Proves the crates of a folder; whether all are proved."""
     with on_standard_output() as progress:
         crates = len(rt_progress.crates_in(folder))
-        progress.print(f"Proving {crates} crates; a first run takes about {FIRST_RUN_MINUTES} minutes, see README.md.")
-        lines, status, seconds = rt_progress.run_rt(NAME, NAME.split(), folder, progress)
-        is_proved = status == 0 and last_of(lines).startswith("rt: ok, ")
+        progress.print(f"Proving {crates} crates; see README.md for how long a first run takes.")
+        (lines, status, seconds), _ = rt_progress.run_rt(NAME, NAME.split(), folder, progress, rt_progress.AllWatch)
+        is_proved = status == 0 and are_all_ok(last_of(lines))
         if is_proved:
             progress.print(f"{last_of(lines)}, {duration(seconds)}")
         else:

@@ -1,8 +1,7 @@
-"""What the gate's own tests run the gate on: a small repository with a checker of moments, and a terminal.
+"""What the gate's own tests run the gate on: a small repository with an `rt` of its own, and a terminal.
 
-`rt` itself runs, and writes its files, over a kit whose checker, linker and loader are the stand-ins below. A crate's
-text is a shell script that stands for its check: the crate is proved if it ends with status 0. An edit is refused if
-its script says so, as the checker does.
+That `rt` is a script, which prints what a test gives it, lines as the true one prints them among it. What the true one
+makes of a repository that it must fail is tested in `tests/gate/gate_test.py`.
 """
 
 import contextlib
@@ -17,23 +16,60 @@ from unittest import mock
 
 from tests.gate import gate, progress
 
-TOOLS = {
-    "bin/rattle": 'exec sh "$4"',                           # rattle VERB --crate-name NAME FILE
-    "bin/rattle-link": 'echo "echo done" >"$6"',            # rattle-link --target KIND --toolchain FOLDER -o PROGRAM
-    "toolchain/lib/ld-linux-x86-64.so.2": 'exec sh "$3"',   # the loader: --library-path FOLDER PROGRAM
-}
-REFUSED = "file: src/lib.rt\nold: exit 0\nnew: echo logic=not-proved; exit 1\n"
+EDIT = "file: src/lib.rt\nold: x\nnew: 0\n"
 # Two libraries, a program over them, and an edit of each library
 FILES = {
-    "crates.txt": "# Lowest first: a line for each\nquick:\nslow: # alone\nprogram: quick slow\n",
-    "crates/quick/src/lib.rt": "echo fn quick::f: proved\nexit 0\n",
-    "crates/quick/must-fail/turned.edit": REFUSED,
-    "crates/slow/src/lib.rt": "exit 0\n",
-    "crates/slow/must-fail/lost.edit": REFUSED,
-    "crates/program/src/main.rt": "exit 0\n",
-    "crates/program/stdout": "done\n",
-    ".git/HEAD": "",
+    "crates.txt": "# Lowest first: a line for each\nquick:\nslow staticlib: # alone\nprogram: quick slow\n",
+    "crates/quick/src/lib.rt": "",
+    "crates/quick/must-fail/turned.edit": EDIT,
+    "crates/slow/src/lib.rt": "",
+    "crates/slow/must-fail/lost.edit": EDIT,
+    "crates/program/src/main.rt": "",
 }
+# What `rt ci` prints over them where all is right, from the proofs on, and what `rt all test` does
+PROVED = """\
+== quick
+fn quick::f: proved
+logic=proved functions=1
+rt: quick proved
+rt: quick: trying its must-fail edits (1)
+== slow
+logic=proved functions=1
+rt: slow proved
+rt: slow: trying its must-fail edits (1)
+== program
+rt: program proved
+"""
+REFUSED = """\
+rt: must-fail quick/turned.edit: refused, as it must be: ./proofs/f/Answers.antt:8:13: error: `returns`: expected type
+rt: must-fail slow/lost.edit: refused, as it must be
+"""
+RAN = """\
+rt: program ran, and wrote what its file stdout has
+rt: program ran (built by Rattle's own compiler), and wrote what its file stdout has
+"""
+OK = """\
+rt: ok; handles allowed: none; must-fail edits: 2 refused; every proof and must-fail edit was done in this run
+5 passed, 0 failed
+"""
+ALL_OK = """\
+rt: chose 2 at a time
+== quick
+fn quick::f: proved
+== slow
+== program
+rt: the program wrote what the file `stdout` has, and ended with status 0
+== summary
+quick: ok
+slow: ok
+program: ok
+3 of 3 crates ok
+"""
+
+
+def printing(text, status=0):
+    """A script that prints this text and ends so."""
+    return f"cat <<'END'\n{text}END\nexit {status}\n"
 
 
 def write(root, files):
@@ -44,16 +80,13 @@ def write(root, files):
 
 
 @contextlib.contextmanager
-def repository(changes=(), jobs=1):
-    """A folder with the files above, some changed, where `rt` uses the stand-ins and checks so many things at once."""
-    with tempfile.TemporaryDirectory() as folder, tempfile.TemporaryDirectory() as kit:
-        own = pathlib.Path(kit, "on", os.uname().machine)
-        write(own, {name: f"#!/bin/sh\n{script}\n" for name, script in TOOLS.items()})
-        for name in TOOLS:
-            (own / name).chmod(0o755)
-        pathlib.Path(kit).chmod(0o755)  # where rt runs as root it runs programs as nobody, who must reach the loader
+def repository(script, changes=()):
+    """A folder with the files above, some changed, where `rt` is this script."""
+    with tempfile.TemporaryDirectory() as folder, tempfile.TemporaryDirectory() as programs:
         write(pathlib.Path(folder), FILES | dict(changes))
-        with mock.patch.dict(os.environ, RATTLE_HOME=kit, RT_JOBS=str(jobs)):
+        write(pathlib.Path(programs), {"rt": f"#!/bin/sh\n{script}"})
+        pathlib.Path(programs, "rt").chmod(0o755)
+        with mock.patch.dict(os.environ, PATH=f"{programs}:{os.environ['PATH']}"):
             yield pathlib.Path(folder)
 
 

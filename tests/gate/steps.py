@@ -1,4 +1,4 @@
-"""Runs a step: what it says goes to a log of its own below target/logs, and a failure shows an excerpt of it."""
+"""Runs a step: what it says goes to a log of its own below out/logs, and a failure shows an excerpt of it."""
 
 import re
 import subprocess
@@ -6,31 +6,16 @@ import time
 
 MOST_LINES, MOST_COLUMNS = 30, 200  # of an excerpt
 # What `rt` says where all is right; any other line that it begins with its name tells of a failure
-RIGHT = re.compile(r"rt: (?:\w+ proved \(|must-fail \S+: refused|\w+ ran\b|ok,)")
-ERROR = re.compile(r": error|: no proof: ")
-
-
-class Log:
-    """A step's log. It is begun at the step's first line, since `rt ci` removes target/ before it says anything."""
-
-    def __init__(self, path):
-        self.path, self.file = path, None
-
-    def write(self, line):
-        if self.file is None:
-            self.path.parent.mkdir(parents=True, exist_ok=True)
-            self.file = open(self.path, "w", encoding="utf-8", buffering=1)
-        self.file.write(line)
-
-    def close(self):
-        self.write("")  # so that the log of a step that says nothing is empty, and not an older one
-        self.file.close()
+RIGHT = re.compile(r"rt: (?:\w+ proved$|\w+ is kept: |\w+: its tests (?:are proved|passed)$|\w+: trying its must-fail edits|"
+                   r"\w+: \d+ of its \d+ must-fail edits were tried|must-fail \S+: refused|\w+ ran\b|ok; (?!.*, \d+ bad)|"
+                   r"note: (?!bad must-fail edits)|chose \d)")
+ERROR = re.compile(r": error\b")
 
 
 def log_name(name):
     """Where the log of a step of this name is, from the repository's root."""
     words = re.findall(r"[a-z0-9]+", name.lower().replace("'", ""))
-    return f"target/logs/{'-'.join(words)}.log"
+    return f"out/logs/{'-'.join(words)}.log"
 
 
 def run_command(command, folder, log, heard):
@@ -51,11 +36,10 @@ def run_command(command, folder, log, heard):
 
 def run_step(name, command, folder, heard=lambda line: None):
     """Runs a step's command: its lines, which are its log too, its exit status and its seconds."""
-    log = Log(folder / log_name(name))
-    try:
+    path = folder / log_name(name)
+    path.parent.mkdir(parents=True, exist_ok=True)
+    with open(path, "w", encoding="utf-8", buffering=1) as log:
         return run_command(command, folder, log, heard)
-    finally:
-        log.close()
 
 
 def last_of(lines):
@@ -65,7 +49,7 @@ def last_of(lines):
 
 def is_failure(line):
     """Whether this line of `rt` tells of a failure."""
-    return ERROR.search(line) or line.startswith("rt: ") and not RIGHT.match(line)
+    return not RIGHT.match(line) if line.startswith("rt: ") else bool(ERROR.search(line))
 
 
 def failures_of(lines):
