@@ -4,11 +4,11 @@ Usage: python3 -B -m tests.gate.gate
 
 The steps are `rt ci` (every listed crate proved, must-fail edits refused, programs built by two compilers and run; a
 crate that is not listed fails it, and so does a file that `rt fmt` would lay out otherwise) and the tests. `rt ci` runs
-as it is, with no names, at the top, with nothing copied, deleted or left out before. It passes must-fail edits that can't
-be applied or read, and counts them on its line `rt: ok`; here each of them is a failure. A line is printed for each
-crate, edit, program and test as `rt` or the test tells of it; all that they say is in logs below out/logs. After the
-steps comes where the time went. The last line printed is 'N passed, M failed' over all steps; the exit status is 0 only
-if M is 0.
+as it is, with no names, at the top, with nothing copied, deleted or left out before. It passes must-fail edits that
+can't be applied or read, and counts them on its line `rt: ok`; here each of them is a failure. A line is printed for
+each crate, edit, program and test as `rt` or the test tells of it; all that they say is in logs below out/logs. After
+the steps comes where the time went. The last line printed is 'N passed, M failed' over all steps; the exit status is 0
+only if M is 0.
 """
 
 import concurrent.futures

@@ -47,8 +47,8 @@ def two_at_once(first, second):
 
 
 def rt_fails_what_it_must():
-    """`rt ci` itself over a repository with a crate that crates.txt does not list, over the same with it listed, over one
-    with a must-fail edit that has no place, and over one with a file that isn't laid out.
+    """`rt ci` itself over a repository with a crate that crates.txt does not list, over the same with it listed, over
+    one with a must-fail edit that has no place, and over one with a file that isn't laid out.
     """
     with tempfile.TemporaryDirectory() as folder:
         root = pathlib.Path(folder)
@@ -62,12 +62,13 @@ def rt_fails_what_it_must():
             write(root, changes)
             result, printed = printed_by(proofs_of, root)
             found.append((result.passed, result.failed, untimed(printed)))
-    unlisted, listed, bad, laid_out = found
-    return (unlisted[:2] == (0, 1) and listed[:2] == (3, 0) and bad[:2] == (3, 1) and laid_out[:2] == (2, 1)
-            and {line.split(": ")[0].replace("kept", "proved") for line in listed[2][:3]} == {"proved 1 of 2", "proved 2 of 2", "refused 1 of 1"}
-            and {line.split(": ")[1] for line in listed[2][:3]} == {"listed, at N s", "unlisted, at N s", "listed/wrong"}
+    unlisted, listed, bad, unformatted = found
+    lines = [line.replace("kept", "proved") for line in listed[2][:3]]
+    return (unlisted[:2] == (0, 1) and listed[:2] == (3, 0) and bad[:2] == (3, 1) and unformatted[:2] == (2, 1)
+            and sorted(line.split(": ")[0] for line in lines) == ["proved 1 of 2", "proved 2 of 2", "refused 1 of 1"]
+            and {line.split(": ")[1] for line in lines} == {"listed, at N s", "unlisted, at N s", "listed/wrong"}
             and any(line.startswith("BAD EDIT: listed/lost, ") for line in bad[2])
-            and any(line.startswith("NOT PROVED: unlisted") for line in laid_out[2]))
+            and any(line.startswith("NOT PROVED: unlisted") for line in unformatted[2]))
 
 
 def closes_with_the_tally():
@@ -93,7 +94,7 @@ def edits_of_form():
         "value": "refused, as it must be: ./proofs/f/Answers.antt:46:5: error: `returns`: the goal does not follow",
         "limit": "refused, as it must be (only by a limit of the prover, which gave no verdict): antt ran out of steps",
         "alone": "refused, as it must be",
-        "renamed": "refused, as it must be (only because a proof file names what the edit took away): P.antt:1:2: error: no field `y`",
+        "renamed": "refused, as it must be (only because a proof file names what the edit took away): P.antt:1:2: error: no `y`",
         "lost": "BAD EDIT: an 'old:' text is in src/lib.rt 0 times, and not once",
         "passes": "NOT REFUSED: the crate is still proved with this edit",
         "killed": "NOT TRIED: its check was killed, most likely for memory",
@@ -103,7 +104,8 @@ def edits_of_form():
         untried = {name for name, fault in edits.faults_in(root).items() if fault}
         write(root, {f"crates/terms/must-fail/{name}.edit": EDIT for name in [*verdicts, "untried"]})
         without = {name for name, fault in edits.faults_in(root).items() if fault}
-        write(root, {steps.log_name(edits.STEP): "".join(f"rt: must-fail terms/{name}.edit: {words}\n" for name, words in verdicts.items())})
+        lines = (f"rt: must-fail terms/{name}.edit: {words}\n" for name, words in verdicts.items())
+        write(root, {steps.log_name(edits.STEP): "".join(lines)})
         found = {name for name, fault in edits.faults_in(root).items() if fault}
     names = {f"terms/{name}" for name in [*verdicts, "untried"]}
     return not untried and without == names and found == names - {"terms/value", "terms/limit", "terms/alone"}

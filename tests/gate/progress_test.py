@@ -82,13 +82,13 @@ def failing_crate_is_named():
         "    the whole log: out/logs/proofs.log"]
 
 
-def refusal_of_the_whole_is_shown():
-    """Where `rt` refuses the repository before it proves anything, what it says is there."""
-    says = "rt: crates.txt: missing is no line of this file and no library of the kit"
-    with stand_in.repository(printing(f"{says}\n0 passed, 1 failed\n", 2)) as root:
+def refusal_of_the_whole_is_told():
+    """Where `rt` refuses the repository before it proves anything, what it prints is there."""
+    cause = "rt: crates.txt: missing is no line of this file and no library of the kit"
+    with stand_in.repository(printing(f"{cause}\n0 passed, 1 failed\n", 2)) as root:
         result, printed = stand_in.printed_by(stand_in.proofs_of, root)
     return result.failed == 1 and stand_in.untimed(printed) == [
-        "proofs, 0 passed, 1 FAILED, N s", f"    | {says}", "    the whole log: out/logs/proofs.log"]
+        "proofs, 0 passed, 1 FAILED, N s", f"    | {cause}", "    the whole log: out/logs/proofs.log"]
 
 
 def failing_edits_and_runs_are_named():
@@ -208,7 +208,7 @@ CASES = (
     ("the line of a crate while another runs", line_comes_at_the_end),
     ("crates of an earlier run", kept_crates_count),
     ("a crate that isn't proved", failing_crate_is_named),
-    ("a repository that rt refuses", refusal_of_the_whole_is_shown),
+    ("a repository that rt refuses", refusal_of_the_whole_is_told),
     ("edits and runs that fail", failing_edits_and_runs_are_named),
     ("bad edits that rt passes", bad_edits_fail),
     ("the verdict of rt", verdict_is_that_of_rt),

@@ -1,5 +1,5 @@
-"""How far `rt` is, by the lines that it prints: one for each crate once it is proved, one for each must-fail edit and for
-each program's run at the end.
+"""How far `rt` is, by the lines that it prints: one for each crate once it is proved, one for each must-fail edit and
+for each program's run at the end.
 
 They are for a person to see how far it is. The verdict is `rt`'s own, its exit status and its last line.
 """
@@ -118,13 +118,14 @@ class AllWatch(Watch):
     def hear(self, line):
         section, summed = SECTION.match(line), SUMMARY.match(line)
         if section and section.group(1) != "summary":
-            self.progress.print(f"ended {self.number('crates')}: {section.group(1)}, at {duration(time.monotonic() - self.began)}")
+            at = f"at {duration(time.monotonic() - self.began)}"
+            self.progress.print(f"ended {self.number('crates')}: {section.group(1)}, {at}")
         elif summed and summed.group(2) != "ok":
             self.progress.print(f"FAILED: {summed.group(1)}, {summed.group(2)}{summed.group(3)}")
 
 
 def run_rt(name, command, folder, progress, kind=Watch):
-    """Runs `rt` as a step; each crate, edit and program is shown as `rt` tells of it. Also gives the crates as they ended."""
+    """Runs `rt` as a step; each crate, edit and program is shown as `rt` tells of it. It also gives the crates that ended."""
     watch = kind(folder, progress)
     try:
         ended = run_step(name, command, folder, watch.hear)

@@ -12,5 +12,6 @@ def longest_first(title, rows):
 
 def table(steps, crates):
     """The lines of the tables; steps and crates are given by name and seconds."""
+    proved = "crates, seconds from the beginning until proved, the last first"
     return [*longest_first("steps, seconds, the longest first", [(seconds, name) for name, seconds in steps]),
-            *longest_first("crates, seconds from the beginning until proved, the last first", [(seconds, name) for name, seconds in crates])]
+            *longest_first(proved, [(seconds, name) for name, seconds in crates])]

@@ -26,6 +26,7 @@ PATH = re.compile(r"(?<![\w/.-])(?:[\w.-]+/)+[\w-]+\.(?:py|antt|rt|txt|md|edit)\
 LINK = re.compile(r"\]\(([^)#:]+)\)")
 TOOLS = {"rt", "make", "git", "omega"}  # programs and tactics of the kit and the machine
 PLACEHOLDERS = {"N", "F"}
+MADE = "out"  # the folder of what `rt` makes of a crate
 FIRST_USE = "crates/first_use/src/main.rt"
 LISTED = (FIRST_USE, "crates/scan_loop/proofs/dry/Proof.antt")
 COMMAND = "make"  # what a listing of commands begins with
@@ -33,14 +34,14 @@ FRAME = {"mod print;", "fn main() {", "}"}  # lines of a program that README doe
 CLAIM = ("guarantee", "promises", "terminal_guarantee", "sheet_guarantee", "lots")
 SHARED = re.compile(r"\*\*What does the claim share with the rules\?\*\*(.*?)\n\*\*", re.DOTALL)
 # What the claim imports from a crate's definitions, but the types that the code declares
-IMPORTED = re.compile(r"^use Rattle·(\w+)\.specs\.(?!declared)[\w.]+\.\{([^}]*)\}", re.MULTILINE)
+IMPORTED = re.compile(r"^use Rattle\.(\w+)\.specs\.(?!declared)[\w.]+\.\{([^}]*)\}", re.MULTILINE)
 
 
 def known_names():
     """Every name in the repository's texts, and every folder's and file's name."""
     names = set(TOOLS | PLACEHOLDERS)
     for pattern in TEXTS:
-        for path in ROOT.glob(pattern):
+        for path in (each for each in ROOT.glob(pattern) if MADE not in each.relative_to(ROOT).parts):
             names.update(part for place in path.relative_to(ROOT).parts for part in NAME.findall(place))
             if path.is_file():
                 names.update(NAME.findall(path.read_text(encoding="utf-8", errors="replace")))

@@ -4,14 +4,15 @@ import re
 
 IMPORT = re.compile(r"^(?:ghost )?use ([^{;]*)\.\{([^}]*)\};?\s*$")
 WHOLE = re.compile(r"^use (\S+) as (\S+)\s*$")
+HOLE = "◌"  # where an operator's argument stands
 COMMENT = re.compile(r"(?:--|//).*")
 
 
 def is_used(name, body):
     """Whether a name stands in what isn't an import; of an operator, whether all its parts do."""
-    if "_" in name and re.search(r"[^\w·#-]|^_|_$", name):
-        return all(part in body for part in name.split("_") if part)
-    return re.search(rf"(?<![\w·-]){re.escape(name)}(?![\w-])", body) is not None
+    if HOLE in name:
+        return name in body or all(part in body for part in name.split(HOLE) if part)
+    return re.search(rf"(?<![\w'-]){re.escape(name)}(?![\w'-])", body) is not None
 
 
 def imported(lines):

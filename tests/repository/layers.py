@@ -10,7 +10,7 @@ LAYERS = ("arithmetic", "the rules", "the calls", "the claims", "the programs") 
 CLAIMS, PROGRAMS = LAYERS.index("the claims"), LAYERS.index("the programs")
 KIT = {"io", "libc", "os", "check", "bytes"}
 LAYER = re.compile(rf"#\s*({'|'.join(LAYERS)}):", re.IGNORECASE)
-CRATE = re.compile(r"\s*(\w+)\s*:((?:\s+\w+)*)\s*")  # as `rt` reads a line, once its comment is gone
+CRATE = re.compile(r"\s*(\w+)(?:\s+staticlib)?\s*:((?:\s+\w+)*)\s*")  # as `rt` reads a line, once its comment is gone
 HOSTS = ("crates/first_use/src/main.rt", "crates/scan_loop/src/*.rt")
 # From the repository's root a path of a host's text; a part of a longer path is no crate
 NAMED = re.compile(r"(?<![\w:])([a-z]\w*)::")

@@ -2,7 +2,8 @@
 
 Usage: python3 -B -m tests.repository.layout
 
-- every file of Rattle, antt and Python has fewer than 300 lines, and `rt fmt` leaves Rattle and antt files as they are;
+- every file of Rattle, antt and Python has fewer than 300 lines (that `rt fmt` leaves Rattle and antt files as they are
+  is looked at by `rt ci`);
 - every function of Rattle has fewer than 40 lines, branches at most three deep and at most one loop;
 - of both the table of roots, which is written by a program, may have more lines;
 - a line of code has at most 140 columns, a line of prose at most 120 (`tests/repository/line_lengths.py`);
@@ -18,7 +19,6 @@ the changes.
 """
 
 import re
-import subprocess
 import sys
 
 from tests import ROOT
@@ -96,10 +96,7 @@ def faults(name):
 
 
 def main():
-    found, looked = [], 1
-    formatted = subprocess.run(["rt", "fmt", "--check"], cwd=ROOT, capture_output=True, text=True)
-    if formatted.returncode != 0:
-        found.append("rt fmt --check: " + (formatted.stdout + formatted.stderr).strip())
+    found, looked = [], 0
     for more, count in (*map(faults, tracked()), layers.faults(ROOT), changes.change_faults(text_of(changes.NAME))):
         found, looked = found + more, looked + count
     return tally.report(found, looked, "nothing out of order")

@@ -21,10 +21,10 @@ marks mend mended mending mends reckon reckoned reckoner reckoning reckons said 
 unsaid""".split())
 PART = re.compile(r"[A-Z]+(?![a-z])|[A-Z]?[a-z]+")
 TEXT = r'"(?:[^"\\\n]|\\.)*"'
-KIT = r"^use (?!Rattle·).*"  # the kit's own names, which a file may have to take
+KIT = r"^use (?!Rattle\.(?!std\.)).*"  # the kit's own names, which a file may have to take
 COMMENTS_AND_TEXTS = {"rt": re.compile(r"//.*|b?" + TEXT), "antt": re.compile(rf"--.*|{KIT}|{TEXT}", re.MULTILINE),
                       "show": re.compile(r"#.*|'[^'\n]*'|" + TEXT)}
-IDENTIFIER = re.compile(r"[^\W\d](?:[\w'·]|-(?=\w))*")
+IDENTIFIER = re.compile(r"[^\W\d](?:[\w']|-(?=\w))*")
 
 
 def retired_in(name):

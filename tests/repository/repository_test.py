@@ -17,7 +17,8 @@ from tests.repository.line_lengths import too_long_lines
 from tests.repository.names import identifiers, retired_in
 
 RATTLE = 'pub fn reckon_it(x: u8) -> u8 { print(b"carried"); x } // said'
-SPECIFICATION = '-- marks\nuse denote.Walked.{says}\nuse Rattle·said\nleft-unsaid : Lent·Buffer\nleft-unsaid = "shown"'
+SPECIFICATION = ('-- marks\nuse denote.Walked.{says}\nuse Rattle.std.specs.said\nuse Rattle.said\nleft-unsaid : Lent.Buffer\n'
+                 'left-unsaid = "shown"')
 PYTHON = '"""Said."""\nshown_by = layout.display  # lent\nlay = "marks"\n'
 # A name, and the retired words in it
 NAMES = (("sameMarks", ["marks"]), ("with_marks_shown", ["marks", "shown"]), ("MENDED", ["mended"]), ("re-reckoned", ["reckoned"]),
@@ -33,10 +34,11 @@ TEXTS = (("a.py", "# " + "word " * 24, [1]), ("a.py", "x = [" + "1, " * 46 + "]"
          ("a.md", "- " + "a" * 140, []),
          ("a.md", "- item\n    " + "word " * 25, [2]), ("a.md", "```\n" + "code " * 40 + "\n```\n" + "word " * 25, [4]))
 # A text, and the names that it imports in vain
-IMPORTS = (("use a.{b, c, _+_, _*_}\nb : d + e", ["c", "_*_"]), ("use a.{b}\nuse a.{b}\nb : b", ["b"]), ("use a.{b}\n-- b", ["b"]),
+IMPORTS = (("use a.{b, c, ◌+◌, ◌*◌}\nb : d + e", ["c", "◌*◌"]), ("use a.{b}\nuse a.{b}\nb : b", ["b"]), ("use a.{b}\n-- b", ["b"]),
            ("use a.{b}\nuse c.{b}\nb : b", []), ("use a.{b as c}\nb", ["c"]), ("use a.{b as c}\nc", []), ("use a as m\nm.b", []),
-           ("use a as m\nb", ["m"]), ("use a.{b-c, if_then_else_}\nb\nif x then y else z", ["b-c"]), ("use a.{b}\nb-c", ["b"]),
-           ("ghost use a.{b, c};\nfn f() // c\nb", ["c"]))
+           ("use a as m\nb", ["m"]), ("use a.{b-c, if◌then◌else◌}\nb\nif x then y else z", ["b-c"]), ("use a.{b}\nb-c", ["b"]),
+           ("ghost use a.{b, c};\nfn f() // c\nb", ["c"]), ("use a.{◌+◌ as ◌plus◌}\nx plus y", []), ("use a.{◌+◌}\nf ◌+◌", []),
+           ("use a.{b}\nb'", ["b"]))
 # A document's text, a program's lines, and how many faults there are: listings that no program has, lines not listed
 LISTINGS = (("Text\n\n    let a = 1;\n\n    f(a);\n\nmore\n", ["let a = 1;", "f(a);"], 0), ("    make run\n", [], 0),
             ("    let a = 1;\n", ["fn main() {", "let a = 1;", "}"], 0), ("    let a = 2;\n", ["let a = 1;"], 2),
@@ -71,7 +73,7 @@ LAYERS = (
     ("controller: integers", "controller: guarantee", "controller, of the calls, depends on guarantee, of the higher layer the claims"),
     ("promises: guarantee", "promises: text", "promises, of the claims, depends on text, of the higher layer the programs"),
     ("console: controller", "console: guarantee", "console, a program's, depends on the claim guarantee"),
-    ("text: integers", "text: integers console", ""),
+    ("text: integers", "text: integers console", ""), ("text: integers", "text staticlib: integers", ""),
     ("# Arithmetic: numbers\nintegers:", "integers:\n# Arithmetic: numbers", "in no layer"),
     ("# The calls: a host's\n", "", "its layers are arithmetic, the rules, the claims, the programs"),
     ("# The claims: of the calls", "# The programs: more", "its layers are arithmetic, the rules, the calls, the programs, the programs"),
@@ -136,7 +138,7 @@ def results():
     yield from layer_results()
     for name, words in NAMES:
         yield retired_in(name) == words, f"{name}: {retired_in(name)}"
-    for name, text, expected in (("a.rt", RATTLE, {"reckon_it"}), ("a.antt", SPECIFICATION, {"Rattle·said", "left-unsaid", "Lent·Buffer"}),
+    for name, text, expected in (("a.rt", RATTLE, {"reckon_it"}), ("a.antt", SPECIFICATION, {"said", "left-unsaid", "Lent"}),
                                  ("a.py", PYTHON, {"shown_by", "lay"})):
         found = {each for each in identifiers(name, text) if retired_in(each)}
         yield found == expected, f"{name}: {found}"

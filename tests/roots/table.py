@@ -19,14 +19,14 @@ HEAD = f"""\
 // The square roots that IC 1 takes, one entry for each sample. Written by a program, tests/roots/table.py, and never by
 // hand. A match, since it is compiled to one constant table: a `const` of {LAST + 1:,} entries is refused, there is no
 // `static`, and arrays that are taken are copied at each look-up.
-ghost use Prim.Native.Nat.{{_*_, _≤_}};
-ghost use Rattle·scaling·specs.specs.Root.{{Greatest}};
+ghost use Rattle.std.specs.Prelude.{{◌*◌, ◌≤◌}};
+ghost use Rattle.scaling.specs.Root.{{Greatest}};
 
 // Document 02, request 3: "Every entry is the greatest whole number whose square isn't above 10000 times its place."
 // The contract rules out one more and one less, at every place.
 pub fn entry(sample: u16) -> u16
-    requires {{ ⌜ sample ≤ {LAST} ⌝ }}
-    ensures {{ λ r. ⌜ Greatest (10000 * sample) r ⌝ }}
+    requires {{ sample ≤ {LAST} }}
+    ensures {{ Greatest (10000 * sample) result }}
 {{
     match sample {{
 """

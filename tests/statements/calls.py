@@ -155,7 +155,7 @@ def statements():
 def main():
     texts = [f"-- {words}\n    {'∷ ' if place else ''}{text}" for place, (words, text) in enumerate(statements())]
     body = "\n    ".join([*texts, "∷ []"])
-    wanted = f"{HEAD}\nunfoldable pub modelCalls : List (Type 0)\nmodelCalls =\n    {body}\n"
+    wanted = f"{HEAD}\nunfoldable pub model_calls : List (Type 0)\nmodel_calls =\n    {body}\n"
     if "--write" in sys.argv:
         FILE.write_text(wanted, encoding="utf-8")
     same = "".join(FILE.read_text(encoding="utf-8").split()) == "".join(wanted.split())  # the kit lays lines out anew

@@ -9,30 +9,25 @@ MODES = {"Hold": "Hold", "Track": "Track", "Forced Manual": "Forced", "Manual": 
          "Ratio": "Ratio", "Fall-back": "Fallback"}
 HEAD = '''-- Calls of a reference model that was made apart from the rules, stated of the rules; proofs/ModelCalls.antt proves
 -- them. Made by tests/statements/calls.py, which the gate compares with this file.
-use mathlib.Core.Bool.{Bool, true, false}
-use mathlib.Core.List.{List, [], _∷_}
-use mathlib.Core.Path.{_≡_}
-use Prim.Native.Nat.{ℕ}
-use lib.IntN.{ℤ, pos, negℤ}
-use lib.ListN.{replicate}
-use Rattle·signals.specs.Refusals.{refusedBy}
-use Rattle·signals.specs.declared.Input.{Input}
-use Rattle·signals.specs.declared.clock.ClockReading.{ClockReading}
-use Rattle·signals.specs.declared.clock.ClockReading.the-variants.{None, At}
-use Rattle·fields.specs.Fields.{saveTests, savedIn}
-use Rattle·modes.specs.declared.Mode.the-variants.{Hold, Track, Forced, Remote, Ratio, Fallback}
-use Rattle·modes.specs.declared.Request.{Request}
-use Rattle·modes.specs.declared.Request.the-variants as request
-use Rattle·rights.specs.declared.Writer.the-variants.{Engineer}
-use Rattle·setpoints.specs.declared.Readings.{Readings}
-use Rattle·outputs.specs.declared.History.{History}
-use Rattle·outputs.specs.declared.History.the-variants.{Nothing, One, Two}
-use Rattle·controller.specs.Answers.{Reply, words, acceptance, replyBy}
-use Rattle·controller.specs.Restart.{restart}
-use Rattle·controller.specs.Save.{savedImage}
-use Rattle·controller.specs.Scan.{scan}
-use Rattle·controller.specs.Write.{write}
-use Rattle·controller.specs.declared.Controller.{Controller}
+use Rattle.std.specs.Prelude.{Bool, true, false, List, [], ◌∷◌, ◌≡◌, ℕ, ℤ, pos, neg_ℤ, replicate}
+use Rattle.signals.specs.Refusals.{refused_by}
+use Rattle.signals.specs.declared.Input.{Input}
+use Rattle.signals.specs.declared.clock.ClockReading.{ClockReading}
+use Rattle.signals.specs.declared.clock.ClockReading.TheVariants.{None, At}
+use Rattle.fields.specs.Fields.{save_tests, saved_in}
+use Rattle.modes.specs.declared.Mode.TheVariants.{Hold, Track, Forced, Remote, Ratio, Fallback}
+use Rattle.modes.specs.declared.Request.{Request}
+use Rattle.modes.specs.declared.Request.TheVariants as request
+use Rattle.rights.specs.declared.Writer.TheVariants.{Engineer}
+use Rattle.setpoints.specs.declared.Readings.{Readings}
+use Rattle.outputs.specs.declared.History.{History}
+use Rattle.outputs.specs.declared.History.TheVariants.{Nothing, One, Two}
+use Rattle.controller.specs.Answers.{Reply, words, acceptance, reply_by}
+use Rattle.controller.specs.Restart.{restart}
+use Rattle.controller.specs.Save.{saved_image}
+use Rattle.controller.specs.Scan.{scan}
+use Rattle.controller.specs.Write.{write}
+use Rattle.controller.specs.declared.Controller.{Controller}
 
 abbrev pub readings : ℤ → ℤ → ℤ → ℤ → Readings
 readings pv sp er mp = record { pv = pv; sp = sp; er = er; mp = mp }
@@ -82,12 +77,12 @@ Restarts before image after answer = restart before image ≡ record { next = af
 abbrev pub Saves : Controller → ℕ → Reply → List ℕ → Type 0
 Saves before size answer bytes =
     let buffer = replicate {A = ℕ} size 165 in
-    (replyBy (refusedBy (saveTests buffer)) ≡ answer) × (savedIn (savedImage before) buffer ≡ bytes)
+    (reply_by (refused_by (save_tests buffer)) ≡ answer) × (saved_in (saved_image before) buffer ≡ bytes)
 '''
 
 
 def number_text(value):
-    return f"pos {value}" if value >= 0 else f"negℤ (pos {-value})"
+    return f"pos {value}" if value >= 0 else f"neg_ℤ (pos {-value})"
 
 
 def argument(value):
