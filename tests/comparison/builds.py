@@ -2,9 +2,9 @@
 
 Usage: python3 -B -m tests.comparison.builds BEFORE AFTER
 
-BEFORE and AFTER are folders with the programs of a build, target/bin each. The console gets the lists that the gate
-compares, by two seeds, a million scans with IC 1, and a million arithmetic lines, every root fifty times among them.
-The last line printed is 'N passed, M failed', one count for each line.
+BEFORE and AFTER are folders with the program of a build, crates/console/out each. The console gets the lists that the
+gate compares, by two seeds, a million scans with IC 1, and a million arithmetic lines, every root fifty times among
+them. The last line printed is 'N passed, M failed', one count for each line.
 """
 
 import pathlib

@@ -125,7 +125,9 @@ class AllWatch(Watch):
 
 
 def run_rt(name, command, folder, progress, kind=Watch):
-    """Runs `rt` as a step; each crate, edit and program is shown as `rt` tells of it. It also gives the crates that ended."""
+    """Runs `rt` as a step; each crate, edit and program is shown as `rt` tells of it. With what a step gives come the
+    crates as they ended.
+    """
     watch = kind(folder, progress)
     try:
         ended = run_step(name, command, folder, watch.hear)

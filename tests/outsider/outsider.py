@@ -2,10 +2,11 @@
 
 Usage: python3 -B -m tests.outsider.outsider
 
-A program over the library, in a temporary repository beside the crates and what `rt ci` proved of them, is accepted;
-with any one line of `LINES` in it the compiler refuses it, at that line and for the cause that stands beside it; the
-functions that such a line names are there. A second program, `TYPES`, is accepted only if each number that a call takes
-or gives has its type. The last line printed is 'N passed, M failed', one count for each program and for each line.
+A program over the library is accepted; with any one line of `LINES` in it the compiler refuses it, at that line and for
+the cause that stands beside it; the functions that such a line names are there. A second program, `TYPES`, is accepted
+only if each number that a call takes or gives has its type. All of them are crates of one temporary repository, beside
+copies of the crates that they use, and `rt ci` judges it: what it has kept of the same crates isn't proved again. The
+last line printed is 'N passed, M failed', one count for each program and for each line.
 """
 
 import pathlib
@@ -17,16 +18,23 @@ import tempfile
 
 from tests import ROOT
 from tests.gate import tally
+from tests.repository.layers import listed
 
 # A controller and a sheet are made; whatever else the program is given, it can put nothing of it into them
-PROGRAM = """use controller::Controller;
-use controller::Core;
+PROGRAM = """#![tactic(auto)]
+
+use controller::{Controller, Core};
 use parameters::Parameters;
-use sheet::Sheet;
-use sheet::SheetValues;
+use sheet::{Sheet, SheetValues};
 use signals::clock::ClockReading;
 
-pub fn forged(mut core: Core, mut parameters: Parameters, output: i64, values: SheetValues, reading: ClockReading) -> Controller {
+pub fn forged(
+    mut core: Core,
+    mut parameters: Parameters,
+    output: i64,
+    values: SheetValues,
+    reading: ClockReading,
+) -> Controller {
     let mut controller = Controller::fresh(0);
     let mut sheet = Sheet::empty();
     LINE
@@ -34,26 +42,40 @@ pub fn forged(mut core: Core, mut parameters: Parameters, output: i64, values: S
 }
 """
 # No number is turned into another type by itself, so each of these functions compiles with just these types
-TYPES = """use answers::ScanValues;
-use controller::CallResult;
-use controller::Controller;
-use controller::ReadAnswer;
+TYPES = """#![tactic(auto)]
+
+use answers::ScanValues;
+use controller::{CallResult, Controller, ReadAnswer};
 use modes::Mode;
 use rights::Writer;
-use signals::Input;
-use signals::Refusal;
 use signals::clock::ClockReading;
+use signals::{Input, Refusal};
 
 pub fn started(sw: u16) -> Controller {
     Controller::fresh(sw)
 }
 
 pub fn input(pins: u8, samples: [u16; 3], buttons: u8, sensors: u8, milliseconds: u64) -> Input {
-    Input { pins, sample1: samples[0], sample2: samples[1], sample3: samples[2], buttons, sensors, milliseconds }
+    Input {
+        pins,
+        sample1: samples[0],
+        sample2: samples[1],
+        sample3: samples[2],
+        buttons,
+        sensors,
+        milliseconds,
+    }
 }
 
 pub fn values(words: [u16; 4], mode: Mode, pv: i32) -> ScanValues {
-    ScanValues { md: words[0], ds: words[1], op: words[2], electrical: words[3], mode, pv }
+    ScanValues {
+        md: words[0],
+        ds: words[1],
+        op: words[2],
+        electrical: words[3],
+        mode,
+        pv,
+    }
 }
 
 pub fn written(writer: Writer, number: u64, value: i32) -> CallResult {
@@ -76,7 +98,7 @@ pub fn number(refusal: Refusal) -> u8 {
     refusal.number()
 }
 """
-# The line, and the compiler's word for its cause
+# The line, one of them over several, and the compiler's word for its cause
 LINES = (
     ("controller.output = output;", "private-field"),
     ("controller.core = core;", "private-field"),
@@ -85,7 +107,7 @@ LINES = (
     ("core.parameters = parameters;", "private-field"),
     ("core.clock = reading;", "private-field"),
     ("parameters.values[1] = output;", "private-field"),
-    ("parameters = Parameters { values: [output; 24] };", "private-field"),
+    ("parameters = Parameters {\n        values: [output; 24],\n    };", "private-field"),  # as `rt fmt` lays it out
     ("sheet.values = values;", "private-field"),
     ("sheet = Sheet { values };", "private-field"),
     ("controller = controller.written(1, output);", "unknown-method"),
@@ -95,19 +117,40 @@ LINES = (
 UNKNOWN = ("unknown-method", "unknown-name")  # so the compiler calls what isn't public, and what isn't there too
 CALLED = re.compile(r"(\w+)\(")
 ERROR = re.compile(r"lib\.rt:(\d+):\d+: error\[([\w-]+)\]")
-NUMBER = PROGRAM.split("\n").index("    LINE") + 1
+NUMBER = PROGRAM.split("\n").index("    LINE") + 1  # of the line's beginning
+USED = ("signals", "modes", "answers", "parameters", "rights", "controller", "sheet")
+ACCEPTED = {"outsider": PROGRAM.replace("    LINE\n", ""), "outsider_types": TYPES}
+REFUSED = {f"outsider_{place}": (line, cause) for place, (line, cause) in enumerate(LINES)}
+NOT_COPIED = shutil.ignore_patterns("out", "must-fail")
+# What `rt ci` says of a crate, and what stands above that
+VERDICT = re.compile(r"^rt: (\w+) (proved|is kept|NOT PROVED)\b", re.MULTILINE)
+SECTION = r"^== {}\n(.*?)^rt: {} NOT PROVED"
+
+
+def crates_below(names, uses):
+    """These crates and all that they use."""
+    found = set(names)
+    for name in names:
+        found |= crates_below(uses[name], uses)
+    return found
 
 
 def repository(folder):
-    """The crates with one more, the outsider, and what is proved of them, so that only the outsider is checked."""
-    for part in ("crates", "target/rlib"):
-        (folder / part).mkdir(parents=True)
-        for path in (ROOT / part).iterdir():
-            (folder / part / path.name).symlink_to(path)
-    shutil.copytree(ROOT / "target" / "stamp", folder / "target" / "stamp")
-    listed = (ROOT / "crates.txt").read_text(encoding="utf-8")
-    (folder / "crates.txt").write_text(f"{listed}outsider: signals modes answers parameters rights controller sheet\n", encoding="utf-8")
-    (folder / "crates" / "outsider" / "src").mkdir(parents=True)
+    """A folder with the outsiders and the crates that they use, as the repository has them."""
+    _, crates = listed((ROOT / "crates.txt").read_text(encoding="utf-8"))
+    needed = crates_below(USED, {name: [each for each in depends if each in crates] for name, (_, depends) in crates.items()})
+    for name in needed:
+        shutil.copytree(ROOT / "crates" / name, folder / "crates" / name, ignore=NOT_COPIED)
+    programs = ACCEPTED | {name: PROGRAM.replace("LINE", line) for name, (line, _) in REFUSED.items()}
+    for name, program in programs.items():
+        source = folder / "crates" / name / "src" / "lib.rt"
+        source.parent.mkdir(parents=True)
+        source.write_text(program, encoding="utf-8")
+    lines = [f"{name}: {' '.join(depends)}" for name, (_, depends) in crates.items() if name in needed]
+    lines += [f"{name}: {' '.join(USED)}" for name in programs]
+    (folder / "crates.txt").write_text("\n".join(lines) + "\n", encoding="utf-8")
+    if (ROOT / "HANDLES").is_file():
+        shutil.copy(ROOT / "HANDLES", folder)
 
 
 def is_there(line):
@@ -116,32 +159,35 @@ def is_there(line):
     return all(any(f"fn {name}(" in text for text in texts) for name in CALLED.findall(line))
 
 
-def errors_of(folder, program):
-    """The exit status of the check of the program, line and cause of each error, and all it prints."""
-    source = folder / "crates" / "outsider" / "src" / "lib.rt"
-    source.write_text(program, encoding="utf-8")
-    run = subprocess.run(["rt", "check", "outsider"], cwd=folder, stdin=subprocess.DEVNULL, stdout=subprocess.PIPE,
-                         stderr=subprocess.STDOUT, text=True, errors="replace", check=False)
-    return run.returncode, ERROR.findall(run.stdout), run.stdout
+def errors_of(name, printed):
+    """Line and cause of each error of a crate that is refused, and all that is told of it."""
+    found = re.search(SECTION.format(name, name), printed, re.MULTILINE | re.DOTALL)
+    return (set(ERROR.findall(found.group(1))), found.group(1)) if found else (set(), "nothing is told of it\n")
 
 
 def main():
     faults = []
-    with tempfile.TemporaryDirectory() as name:
-        folder = pathlib.Path(name)
-        repository(folder)
-        for name, program in (("the program itself", PROGRAM.replace("LINE", "")), ("the program of types", TYPES)):
-            status, errors, printed = errors_of(folder, program)
-            if status != 0 or errors:
-                faults.append(f"{name} is refused:\n{printed}")
-        for line, cause in LINES:
-            status, errors, printed = errors_of(folder, PROGRAM.replace("LINE", line))
-            print(f"{line} {sorted(set(errors))}")
-            if status != 1 or set(errors) != {(str(NUMBER), cause)}:
-                faults.append(f"{line} isn't refused for {cause} alone:\n{printed}")
-            elif cause in UNKNOWN and not is_there(line):
-                faults.append(f"{line} calls a function that isn't there")
-    return tally.report(faults, 2 + len(LINES), "controllers and sheets come from the calls alone, and numbers have their types")
+    with tempfile.TemporaryDirectory() as folder:
+        repository(pathlib.Path(folder))
+        run = subprocess.run(["rt", "ci"], cwd=folder, stdin=subprocess.DEVNULL, stdout=subprocess.PIPE, stderr=subprocess.STDOUT,
+                             text=True, errors="replace", check=False)
+    verdicts = dict(VERDICT.findall(run.stdout))
+    for name in ACCEPTED:
+        if verdicts.get(name) not in ("proved", "is kept"):  # kept by an earlier run of this test
+            faults.append(f"{name} is refused:\n{errors_of(name, run.stdout)[1]}")
+    for name, (line, cause) in REFUSED.items():
+        errors, told = errors_of(name, run.stdout)
+        print(f"{line} {sorted(errors)}")
+        places = {str(NUMBER + place) for place in range(line.count("\n") + 1)}
+        is_refused = verdicts.get(name) == "NOT PROVED" and errors and errors <= {(place, cause) for place in places}
+        if not is_refused:
+            faults.append(f"{line} isn't refused for {cause} alone:\n{told}")
+        elif cause in UNKNOWN and not is_there(line):
+            faults.append(f"{line} calls a function that isn't there")
+    if len(faults) == len(ACCEPTED) + len(REFUSED):
+        print(run.stdout)  # what is wrong is wrong for all
+    fine = "controllers and sheets come from the calls alone, and numbers have their types"
+    return tally.report(faults, len(ACCEPTED) + len(REFUSED), fine)
 
 
 if __name__ == "__main__":
