@@ -16,14 +16,15 @@ import tempfile
 
 from tests import ROOT
 
-LIBRARY, PROGRAM_TEXT = ROOT / "target/staticlib/libbenchmark.a", ROOT / "tests/roots/benchmark.c"
+CRATE, PROGRAM_TEXT = ROOT / "crates/benchmark", ROOT / "tests/roots/benchmark.c"
+LIBRARY = CRATE / "out/libbenchmark.a"
 SAMPLES, LEAST_RATIO = 10001, 10
 COUNT = re.compile(r"^totals: (\d+)$", re.MULTILINE)
 
 
-def run(*command):
+def run(*command, folder=ROOT):
     """What the command writes; the benchmark ends where it fails."""
-    ended = subprocess.run(command, cwd=ROOT, stdin=subprocess.DEVNULL, stdout=subprocess.PIPE, stderr=subprocess.STDOUT, text=True,
+    ended = subprocess.run(command, cwd=folder, stdin=subprocess.DEVNULL, stdout=subprocess.PIPE, stderr=subprocess.STDOUT, text=True,
                            check=False)
     if ended.returncode != 0:
         sys.exit(f"{' '.join(map(str, command))} ended with status {ended.returncode}:\n{ended.stdout}")
@@ -38,7 +39,7 @@ def instructions(program, function, folder):
 
 
 def main():
-    run("rt", "staticlib", "benchmark")
+    run("rt", "lib", folder=CRATE)
     with tempfile.TemporaryDirectory() as name:
         folder = pathlib.Path(name)
         program = folder / "roots"
