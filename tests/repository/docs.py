@@ -34,7 +34,7 @@ FRAME = {"mod print;", "fn main() {", "}"}  # lines of a program that README doe
 CLAIM = ("guarantee", "promises", "terminal_guarantee", "sheet_guarantee", "lots")
 SHARED = re.compile(r"\*\*What does the claim share with the rules\?\*\*(.*?)\n\*\*", re.DOTALL)
 # What the claim imports from a crate's definitions, but the types that the code declares
-IMPORTED = re.compile(r"^use Rattle\.(\w+)\.specs\.(?!declared)[\w.]+\.\{([^}]*)\}", re.MULTILINE)
+IMPORTED = re.compile(r"^use Rattle\.(?!std\.)(\w+)\.specs\.(?!declared)[\w.]+\.\{([^}]*)\}", re.MULTILINE)
 
 
 def known_names():
@@ -113,7 +113,7 @@ def stale_listings(text, programs):
 def unlisted_words():
     """Words that the claim imports from the rules and the decisions don't list as shared; and how many it imports."""
     listed = {name for code in INLINE_CODE.findall(SHARED.search((ROOT / "docs/DECISIONS.md").read_text(encoding="utf-8")).group(1))
-              for name in re.findall(r"[\w-]+", code)}
+              for name in re.findall(r"[\w◌'-]+", code)}
     texts = [path.read_text(encoding="utf-8") for crate in CLAIM for path in (ROOT / "crates" / crate / "specs").glob("*.antt")]
     words = {name.split(" as ")[0].strip() for text in texts for crate, names in IMPORTED.findall(text) if crate not in CLAIM
              for name in names.split(",")}
