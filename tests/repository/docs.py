@@ -28,9 +28,9 @@ TOOLS = {"rt", "make", "git", "omega"}  # programs and tactics of the kit and th
 PLACEHOLDERS = {"N", "F"}
 MADE = "out"  # the folder of what `rt` makes of a crate
 FIRST_USE = "crates/first_use/src/main.rt"
-LISTED = (FIRST_USE, "crates/scan_loop/proofs/dry/Proof.antt")
+LISTED = (FIRST_USE, "crates/scan_loop/proofs/dry/Invariants.antt")
 COMMAND = "make"  # what a listing of commands begins with
-FRAME = {"mod print;", "fn main() {", "}"}  # lines of a program that README doesn't list
+FRAME = {"mod print;", "fn main(rt: HostRuntime) {", "}"}  # lines of a program that README doesn't list
 CLAIM = ("guarantee", "promises", "terminal_guarantee", "sheet_guarantee", "lots")
 SHARED = re.compile(r"\*\*What does the claim share with the rules\?\*\*(.*?)\n\*\*", re.DOTALL)
 # What the claim imports from a crate's definitions, but the types that the code declares
