@@ -2,12 +2,8 @@
 use mathlib.Core.Path.{refl}
 use Rattle.sheet.specs.EnteredLaws.{empty_valid}
 use Rattle.sheet.specs.Sheet.{empty_sheet}
-use Rattle.sheet.proofs.Sheet.empty.Statement.{statement}
-use Rattle.sheet.proofs.Sheet.empty.Tie as tie
+use Rattle.sheet.proofs.Sheet.empty.Goals as goal
 
-returns : tie.Need-returns
+pub returns : goal.returns
 unfolding empty_sheet
 returns c = (refl, empty_valid)
-
-pub empty_spec : {M : Type 1} → statement M
-empty_spec = tie.close (tie.spec returns)
