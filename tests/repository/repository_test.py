@@ -41,7 +41,7 @@ IMPORTS = (("use a.{b, c, ◌+◌, ◌*◌}\nb : d + e", ["c", "◌*◌"]), ("us
            ("use a.{b}\nb'", ["b"]))
 # A document's text, a program's lines, and how many faults there are: listings that no program has, lines not listed
 LISTINGS = (("Text\n\n    let a = 1;\n\n    f(a);\n\nmore\n", ["let a = 1;", "f(a);"], 0), ("    make run\n", [], 0),
-            ("    let a = 1;\n", ["fn main() {", "let a = 1;", "}"], 0), ("    let a = 2;\n", ["let a = 1;"], 2),
+            ("    let a = 1;\n", ["fn main(rt: HostRuntime) {", "let a = 1;", "}"], 0), ("    let a = 2;\n", ["let a = 1;"], 2),
             ("    let a = 1;\n", ["let a = 1;", "f(a);"], 1), ("    f(a);\n    f(b);\n", ["f(a);", "// why", "f(b);"], 3),
             ("    f(a);\n\ntext\n\n    f(b);\n", ["f(a);", "// why", "f(b);"], 0))
 
