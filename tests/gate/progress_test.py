@@ -156,6 +156,25 @@ def silent_step_has_an_empty_log():
         return (root / steps.log_name("step")).read_text() == ""
 
 
+def failures_are_told_apart():
+    """Which lines of `rt` tell of failures: those of errors, and those of its own that don't say that all is right."""
+    kept = "; done in this run: 0 of the 3 proofs; the others are kept"
+    right = [*PROVED.splitlines(), *REFUSED.splitlines(), *RAN.splitlines(), *OK.splitlines(), *ALL_OK.splitlines(),
+             "rt: slow is kept: an earlier run on this machine proved the same files over the same libraries",
+             "rt: slow: 2 of its 2 must-fail edits were tried by an earlier run on this machine", "rt: slow: its tests are proved",
+             "rt: slow: its tests passed", f"rt: ok; handles allowed: none; must-fail edits: 2 refused, 1 of them only by a limit{kept}",
+             "rt: note: slow is not kept", "rt: slow: another run on this machine is proving the same; waiting for it",
+             "rt: quick: begins with what a check kept in crates/quick", "rt: nothing has changed since the last proved build"]
+    wrong = ["src/lib.rt:8:5: error[private-field]: field `x` is private", "P.antt:46:5: error: `returns`: the goal does not follow",
+             "rt: slow NOT PROVED", "rt: slow: its tests are NOT PROVED", "rt: slow: its tests FAILED", "rt: FAILED: slow",
+             "rt: must-fail slow/lost.edit: NOT REFUSED: it is still proved", "rt: must-fail slow/lost.edit: BAD EDIT: it changes nothing",
+             "rt: must-fail slow/lost.edit: NOT TRIED: run this again", "rt: note: bad must-fail edits, as told above: 1.",
+             f"rt: ok; handles allowed: none; must-fail edits: 1 refused, 1 bad{kept}", "rt: run rt fmt in the crate's folder",
+             "rt: program: the program ended with status 1, and not 0", "rt: program was not run: setpriv failed here",
+             "rt: warning: 1 of the 1 must-fail edits of slow are bad", "rt: the disk is full", "rt: no check reads notes.rt"]
+    return steps.failures_of(right + wrong) == wrong
+
+
 def excerpts_are_short():
     """Many failures are counted and long lines are cut; where no line tells of a failure the last ones do."""
     many = steps.failures_of([f"rt: name{number} NOT PROVED (1 s)\n" for number in range(34)])
@@ -214,6 +233,7 @@ CASES = (
     ("the verdict of rt", verdict_is_that_of_rt),
     ("the numbers and the logs of tests", tests_are_numbered_as_they_end),
     ("the log of a step that says nothing", silent_step_has_an_empty_log),
+    ("lines that tell of failures", failures_are_told_apart),
     ("short excerpts", excerpts_are_short),
     ("no terminal", no_terminal_no_redrawing),
     ("a terminal", terminal_shows_what_runs_now),

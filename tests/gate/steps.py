@@ -8,7 +8,8 @@ MOST_LINES, MOST_COLUMNS = 30, 200  # of an excerpt
 # What `rt` says where all is right; any other line that it begins with its name tells of a failure
 RIGHT = re.compile(r"rt: (?:\w+ proved$|\w+ is kept: |\w+: its tests (?:are proved|passed)$|\w+: trying its must-fail edits|"
                    r"\w+: \d+ of its \d+ must-fail edits were tried|must-fail \S+: refused|\w+ ran\b|ok; (?!.*, \d+ bad)|"
-                   r"note: (?!bad must-fail edits)|chose \d)")
+                   r"note: (?!bad must-fail edits)|chose |waiting for |\w+: begins with what|nothing has changed|the program wrote|"
+                   r"\w+: (?:its tests: )?another run)")
 ERROR = re.compile(r": error\b")
 
 
