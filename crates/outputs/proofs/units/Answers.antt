@@ -6,18 +6,12 @@ use mir.Syntax.{w64}
 use mir.Val.{SFits}
 use Rattle.integers.specs.Operations.{number, nat_abs-product}
 use Rattle.terms.specs.Fraction.{stored_units}
-use Rattle.outputs.proofs.units.Statement.{statement}
-use Rattle.outputs.proofs.units.Tie as tie
+use Rattle.outputs.proofs.units.Goals.{Start}
+use Rattle.outputs.proofs.units.Goals as goal
 
-fits : (c : tie.Start) → SFits w64 (c.args.u *ℤ pos 65536)
+fits : (c : Start) → SFits w64 (c.args.u *ℤ pos 65536)
 fits c = omega (arith, number (c.args.u *ℤ pos 65536), nat_abs-product c.args.u (pos 65536), c.requires)
 
-mul_result : tie.Need-overflow-mul-result
-mul_result c = simp (to_z-of_z c.ranges.u) (fits c)
-
-returns : tie.Need-returns
+pub returns : goal.returns
 unfolding stored_units
 returns c = simp (to_z-of_z c.ranges.u) (to_z-of_z (fits c))
-
-pub units_spec : {M : Type 1} → statement M
-units_spec = tie.close (tie.spec mul_result returns)
