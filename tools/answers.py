@@ -50,7 +50,7 @@ class Function:
         self.asked = of["asked_at"]
         self.places = {}
         for k, pl in enumerate(of["places"]):
-            self.places[pl[0]] = dict(parent=pl[1], old=pl[2][0], new=pl[2][1], name=of["places_by_name"][k], arm=of["arms"][k], clauses=(of["clauses"][k] or {}).get("fields", []), of=pl[3])
+            self.places[pl[0]] = dict(parent=pl[1], old=pl[2][0], new=pl[2][1], name=of["places_by_name"][k], arm=of["arms"][k], clauses=(of["clauses"][k] or {}).get("fields", []), of=pl[3], typed=bool(of["typed"][k]))
         self.loops = of["loops"]
         self.params = of["params"]
         self.args = {o.rsplit(".", 1)[1]: n.rsplit(".", 1)[1] for o, n in of["args"] if "." in o}
@@ -85,6 +85,7 @@ class Function:
                     if tail and plain(old) == plain(rest[0]) and rest[1 : 1 + len(tail)] == tail:
                         return [step, new, *rest[1 + len(tail) :]]
             if here["old"] and plain(here["old"]) == plain(rest[0]):
+                rest = [rest[0], *({"ok": "type_inv", "post": "ensures", "taken": "true", "left": "false"}.get(r, r) for r in rest[1:2]), *rest[2:]]
                 return [here["new"], *parameter(clause(rest[1:], here["clauses"]), self.params.get(here["of"], []))]
             at = self.up(at)
         return ["UNKNOWN_" + rest[0], *rest[1:]]
@@ -130,25 +131,53 @@ def clause(rest, names):
 PATH = re.compile(r"(?<![\w.'·-])(" + WORD + r")((?:\." + WORD + r")*)(?![\w'·-])")
 
 
-def rewrite(body, fn, env, goal=None):
+def rewrite(body, fn, env, goal=None, outer=None):
     """Paths from a record of the older form, by the names of today's. A name that only stands for an earlier record goes."""
     asked = env.get("c")
+    body = re.sub(r"λ \((\w+) : ([^)]*)\)\. \1(?![\w'])", r"λ (\1' : \2). \1'", body)
+    for name, place in (outer or {}).items():
+        body, n = re.subn(r"\(" + re.escape(name) + " " + WORD + r"(?:\." + WORD + r")*\)", f"_{name}", body)
+        body, m = re.subn("= " + re.escape(name) + " " + WORD + r"(?:\." + WORD + r")* in\b", f"= _{name} in", body)
+        if n or m:
+            env["_" + name] = place
+    if outer:
+        body = re.sub(r"(?m)^( *unfolding)((?: \S+)+)$", lambda m: m.group(1) + "".join(" " + w for w in m.group(2).split() if w not in outer), body)
+        body = re.sub(r"(?m)^ *unfolding\n", "", body)
 
     def walk(place, rest):
         while rest and rest[0] == "before":
             place, rest = (fn.up(place) if place else None), rest[1:]
         return place, rest
 
+    def earlier(place):
+        """In a lemma, the record of an earlier place: a record with facts of types has one more `before`."""
+        own = next(v for v in env if v == first)
+        at, steps = env[own], 0
+        while at is not None and at != place:
+            at, steps = fn.up(at), steps + 1
+        if not steps:
+            return own
+        if fn.places[place]["typed"]:
+            return f"(HAND_{fn.record(place)} {own})"
+        return own + ".before" * (steps + fn.places[env[own]]["typed"])
+
+    first = next(iter(env), None)
+
     def path(found):
         var, rest = found.group(1), found.group(2).split(".")[1:]
-        if var not in env:
+        if var not in env or found.group() == "at" and found.string[found.end() : found.end() + 1] not in ",)":
             return found.group()
         place, rest = walk(env[var], rest)
-        base = "c" if "c" in env else var
+        base = "c" if "c" in env else first
         if not rest:
-            if place == asked or goal is None or place is None:
-                return base if place == asked else found.group()
+            if place is None:
+                return found.group()
+            if goal is None:
+                return earlier(place)
+            if place == asked:
+                return base
             return f"(goal.at.{goal} c).{fn.record(place)}"
+        rest = [{"pre": "requires", "fits": "ranges"}.get(rest[0], rest[0]), *rest[1:]]
         if rest[0].replace("-", "_") in ("args", "ranges", "requires", "utf8", "auto", "well_formed", "lifetimes"):
             new = [rest[0].replace("-", "_"), *(fn.args.get(r, r) for r in rest[1:])]
         else:
@@ -158,7 +187,7 @@ def rewrite(body, fn, env, goal=None):
 
     while True:
         for found in re.finditer(r"let (" + WORD + r") = (" + WORD + r")((?:\.before)*) in[ \n]*", body):
-            if found.group(2) in env and found.group(1) not in env:
+            if found.group(2) in env:
                 env[found.group(1)] = walk(env[found.group(2)], found.group(3).split(".")[1:])[0]
                 body = body[: found.start()] + body[found.end() :]
                 break
@@ -245,7 +274,7 @@ def convert(path, module, fn, left, crate):
         if found:
             k = fn.need(found.group(2))
             answers[found.group(1)] = fn.needs[k][1] if k is not None else "NO_GOAL_" + found.group(2)
-    out, imports = [], set()
+    out, imports, outer = [], set(), {}
     clauses = clauses_of(module, os.path.join(os.path.dirname(path).split("/proofs/")[0], "src"))
     for part in parts:
         found = re.search(r"^(?:pub )?(" + WORD + r") : tie\.Need-(" + WORD + ")[^\n]*", part, re.M)
@@ -261,7 +290,7 @@ def convert(path, module, fn, left, crate):
             body = part[end:]
             body = renamed(body, answers)
             body = re.sub(r"(?m)^" + re.escape(new) + r"((?: " + WORD + r")*) =", lambda m: new + m.group(1).replace(" κs", "") + " =", body)
-            body = rewrite(body, fn, env, new)
+            body = rewrite(body, fn, env, new, outer)
             if new.startswith("returns") and len(clauses) > 1:
                 body = by_clause(body, clauses)
             out.append(part[:start] + f"pub {new} : goal.{new}" + body)
@@ -271,13 +300,21 @@ def convert(path, module, fn, left, crate):
         if "tie.close" in part:
             continue
         env = {}
+        inner = {}
+        for found in list(re.finditer(r"(?m)^( +)(?:pub |abbrev )*(" + WORD + r") : tie\.(" + WORD + r")[^\n]*\n\1\2 = (\S+)\n*", part)):
+            inner[found.group(2)] = fn.old_place(found.group(3))
+            part = part.replace(found.group(), "")
         for var, name in re.findall(r"\((" + WORD + r") : tie\.(" + WORD + r")", part):
             place = fn.old_place(name)
             env[var] = place
             if place:
                 part = re.sub(r"tie\." + re.escape(name) + r"(?: (?:invariant|decreases)_\w+)*(?=\))", fn.record(place), part)
                 imports.add(fn.record(place))
-        out.append(rewrite(renamed(part, answers), fn, env))
+        env.update(inner)
+        outer.update(inner)
+        if re.match(r"(?:--[^\n]*\n)*module _ [^\n]*where\s*$", part):
+            continue
+        out.append(rewrite(renamed(part, answers), fn, env, None, outer))
     goals = f"Rattle.{crate}.proofs.{module}"
     kept = [u for u in uses if not re.search(r"\.(Statement\.|Tie as)", u)]
     folder = os.path.dirname(path)

@@ -1,0 +1,14 @@
+-- `sheet_lines::print::append_name` meets its contract.
+use native.Mathlib.Omega.{arith}
+use lib.ListN.{length}
+use Rattle.sheet_lines.specs.Appended.{text_of, text_then, text_most}
+use Rattle.sheet_lines.specs.SheetText.{named}
+use Rattle.sheet_lines.proofs.print.append_name.Goals.{After-slice_known-4-1}
+use Rattle.sheet_lines.proofs.print.append_name.Goals as goal
+
+pub returns : goal.returns
+unfolding named
+returns c =
+    let before = text_of 1 c.append_byte-blank.ensures (omega arith) in
+    let name_of = text_of (length c.args.name.now) c.append_bytes-end.ensures (omega arith) in
+    text_most (text_then (text_then before name_of) (text_of 1 c.append_byte.ensures (omega arith))) (omega arith)

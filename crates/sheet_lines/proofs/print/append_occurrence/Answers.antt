@@ -1,0 +1,23 @@
+-- `sheet_lines::print::append_occurrence` meets its contract.
+use mathlib.Core.Path.{ap, ◌∙◌}
+use native.Mathlib.Omega.{arith}
+use mir.Syntax.{w32, w64}
+use mir.Val.{SFits}
+use borrow.Author.Rules.{rules}
+use Rattle.integers.specs.Machine.{back}
+use Rattle.numerals.specs.Numerals.{decimal}
+use Rattle.formatting.specs.Buffer.{append_all}
+use Rattle.sheet_lines.specs.Appended.{number_length, pv_length, text_of, text_then}
+use Rattle.sheet_lines.specs.SheetText.{occurrence_text}
+use Rattle.sheet_lines.proofs.print.append_occurrence.Goals.{After-slice_known-4-1}
+use Rattle.sheet_lines.proofs.print.append_occurrence.Goals as goal
+
+pub returns : goal.returns
+unfolding occurrence_text
+returns c =
+    let first = c.args.first in
+    let fits : SFits w32 first.pv = search rules in
+    let e = back w64 c.wide.result c.wide.type_inv ∙ c.wide.ensures ∙ back w32 first.pv fits.sfits in
+    let pv_of = text_of 11 (c.append_signed-pv.ensures ∙ ap (append_all _) (ap decimal e)) (pv_length first.pv fits.sfits) in
+    let number_of_lem = text_of 10 c.append_decimal.ensures (number_length first.number (omega arith)) in
+    text_then (text_then pv_of (text_of 1 c.append_byte-at.ensures (omega arith))) number_of_lem
