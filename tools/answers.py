@@ -1,7 +1,8 @@
 #!/usr/bin/env python3
 """Turns proofs of the older form, proofs/F/Proof.antt with `tie.spec`, into Invariants.antt and Answers.antt.
 
-usage: python3 tools/answers.py NAMES.json OPEN CRATE
+usage: python3 tools/answers.py NAMES.json invariants CRATE, and then
+       python3 tools/answers.py NAMES.json OPEN CRATE
 
 NAMES.json is what `rt check --generated DIR --old-names` writes for the crate, with its proofs moved aside; OPEN is what `rt check` then says;
 CRATE is the crate's folder. Only goals that the check leaves open get an answer. The check decides; the rest is by hand.
@@ -49,7 +50,7 @@ class Function:
         self.asked = of["asked_at"]
         self.places = {}
         for k, pl in enumerate(of["places"]):
-            self.places[pl[0]] = dict(parent=pl[1], old=pl[2][0], new=pl[2][1], name=of["places_by_name"][k])
+            self.places[pl[0]] = dict(parent=pl[1], old=pl[2][0], new=pl[2][1], name=of["places_by_name"][k], arm=of["arms"][k])
         self.loops = of["loops"]
 
     def need(self, name):
@@ -71,65 +72,77 @@ class Function:
                 return p
         return None
 
-    def field(self, place, name):
+    def field(self, place, rest):
+        """Today's path for an older one that begins at a place: the step of an arm, or a step of its own name."""
         at = place
         while at is not None:
-            if self.places[at]["old"] and plain(self.places[at]["old"]) == plain(name):
-                return self.places[at]["new"]
+            here = self.places[at]
+            if here["arm"]:
+                step, _, fields = here["arm"]
+                for new, old, tail in sorted(fields, key=lambda f: -len(f[2])):
+                    if tail and plain(old) == plain(rest[0]) and rest[1 : 1 + len(tail)] == tail:
+                        return [step, new, *rest[1 + len(tail) :]]
+            if here["old"] and plain(here["old"]) == plain(rest[0]):
+                return [here["new"], *rest[1:]]
             at = self.up(at)
-        return None
+        return ["UNKNOWN_" + rest[0], *rest[1:]]
+
+    def record(self, place):
+        """The name of a place today: of an arm's places its last."""
+        arm = self.places[place]["arm"]
+        while arm:
+            later = [
+                p for p, of in self.places.items()
+                if of["parent"] == place and of["arm"] and of["arm"][0] == arm[0] and of["arm"][1] == arm[1] + 1
+            ]
+            if not later:
+                break
+            place, arm = later[0], self.places[later[0]]["arm"]
+        return self.places[place]["name"]
 
 
-def rewrite(body, fn, env):
-    """Paths from a record of the older form, by the names of today's."""
+PATH = re.compile(r"(?<![\w.'·-])(" + WORD + r")((?:\." + WORD + r")*)(?![\w'·-])")
+
+
+def rewrite(body, fn, env, goal=None):
+    """Paths from a record of the older form, by the names of today's. A name that only stands for an earlier record goes."""
+    asked = env.get("c")
+
+    def walk(place, rest):
+        while rest and rest[0] == "before":
+            place, rest = (fn.up(place) if place else None), rest[1:]
+        return place, rest
 
     def path(found):
         var, rest = found.group(1), found.group(2).split(".")[1:]
         if var not in env:
             return found.group()
-        place, k = env[var], 0
-        while k < len(rest) and rest[k] == "before":
-            if place is not None:
-                place = fn.up(place)
-            k += 1
-        if k == len(rest):
-            return found.group()
-        new = None
-        if rest[k] not in ("args", "ranges", "requires", "utf8"):
-            new = fn.field(place, rest[k]) if place else None
-            new = new if new else rest[k] if rest[k] in ("auto",) else "UNKNOWN_" + rest[k]
+        place, rest = walk(env[var], rest)
+        base = "c" if "c" in env else var
+        if not rest:
+            if place == asked or goal is None or place is None:
+                return base if place == asked else found.group()
+            return f"(goal.at.{goal} c).{fn.record(place)}"
+        if rest[0] in ("args", "ranges", "requires", "utf8", "auto"):
+            new = rest
         else:
-            new = rest[k]
-        tail = [r if re.match(r"^\d+$", r) else r.replace("type-inv", "type_inv") if "-" not in r or r == "type-inv" else r.replace("-", "_") for r in rest[k + 1 :]]
-        return ".".join([var, new, *tail])
+            new = fn.field(place, rest) if place else ["UNKNOWN_" + rest[0], *rest[1:]]
+        new = [new[0], *(r.replace("-", "_") if not new[0].startswith("in") else r for r in new[1:])]
+        return ".".join([base, *new])
 
-    out = []
-    for line in body.split("\n"):
-        pos = 0
-        found = re.match(r"^\s*(?:.*\s)?let (" + WORD + r")\s*=\s*(" + WORD + r")((?:\.before)*) in\b", line)
-        if found and found.group(2) in env:
-            place = env[found.group(2)]
-            for _ in range(found.group(3).count(".before")):
-                place = fn.up(place) if place else None
-            env[found.group(1)] = place
-        line = re.sub(r"(?<![\w.'·-])(" + WORD + r")((?:\." + WORD + r")+)", path, line)
-        out.append(line)
-    return "\n".join(out)
+    while True:
+        for found in re.finditer(r"let (" + WORD + r") = (" + WORD + r")((?:\.before)*) in[ \n]*", body):
+            if found.group(2) in env and found.group(1) not in env:
+                env[found.group(1)] = walk(env[found.group(2)], found.group(3).split(".")[1:])[0]
+                body = body[: found.start()] + body[found.end() :]
+                break
+        else:
+            break
+    return PATH.sub(path, body)
 
 
 def renamed(text, answers):
     return re.sub(r"(?<![^\s(\[{,])" + WORD, lambda m: answers.get(m.group(), m.group()), text)
-
-
-def shorter(body):
-    """Without a `let` that only names an earlier record: today's record has the fields of the earlier ones."""
-    for found in list(re.finditer(r"let (" + WORD + r") = c(?:\.before)+ in[ \n]*", body)):
-        name = r"(?<![\w.'-])" + re.escape(found.group(1))
-        rest = body.replace(found.group(), "", 1)
-        chain = found.group()[found.group().index("=") + 1 :].replace(" in", "").strip()
-        if not re.search(name + r"(?![\w.'-])", rest):
-            body = re.sub(name + r"(?=\.)", "c", re.sub(name + r"(?=\.before)", chain, rest))
-    return body
 
 
 def convert(path, module, fn, left, crate):
@@ -141,24 +154,25 @@ def convert(path, module, fn, left, crate):
         if found:
             k = fn.need(found.group(2))
             answers[found.group(1)] = fn.needs[k][1] if k is not None else "NO_GOAL_" + found.group(2)
-    invariants, out, imports = [], [], set()
+    out, imports = [], set()
     for part in parts:
         found = re.search(r"^(?:pub )?(" + WORD + r") : tie\.Need-(" + WORD + ")[^\n]*", part, re.M)
         if found:
             k = fn.need(found.group(2))
             new = answers[found.group(1)]
-            if k is not None and left is not None and new not in left and not any(re.search(r"(?<![\w.'-])" + re.escape(found.group(1)) + r"(?![\w.'-])", p) for p in parts if p is not part and "tie.close" not in p):
+            name = re.compile(r"(?<![\w.'-])" + re.escape(found.group(1)) + r"(?![\w.'-])")
+            used = any(name.search(p) for p in parts if p is not part and "tie.close" not in p)
+            if not used and (k is None or new not in left):
                 continue
             env = {"c": fn.asked[k][0] if k is not None else None}
             start, end = found.span()
             body = part[end:]
             body = renamed(body, answers)
             body = re.sub(r"(?m)^" + re.escape(new) + r"((?: " + WORD + r")*) =", lambda m: new + m.group(1).replace(" κs", "") + " =", body)
-            body = shorter(rewrite(body, fn, env))
+            body = rewrite(body, fn, env, new)
             out.append(part[:start] + f"pub {new} : goal.{new}" + body)
             continue
-        if re.search(r"^abbrev (" + WORD + r") : tie\.", part, re.M):
-            invariants.append(part)
+        if re.search(r"^abbrev (" + WORD + r") : tie\.(invariant|decreases)", part, re.M):
             continue
         if "tie.close" in part:
             continue
@@ -167,15 +181,12 @@ def convert(path, module, fn, left, crate):
             place = fn.old_place(name)
             env[var] = place
             if place:
-                part = part.replace("tie." + name, fn.places[place]["name"])
-                imports.add(fn.places[place]["name"])
+                part = re.sub(r"tie\." + re.escape(name) + r"(?: (?:invariant|decreases)_\w+)*(?=\))", fn.record(place), part)
+                imports.add(fn.record(place))
         out.append(rewrite(renamed(part, answers), fn, env))
     goals = f"Rattle.{crate}.proofs.{module}"
     kept = [u for u in uses if not re.search(r"\.(Statement\.|Tie as)", u)]
     folder = os.path.dirname(path)
-    if invariants:
-        with open(os.path.join(folder, "Invariants.antt"), "w", encoding="utf-8") as it:
-            it.write("\n".join([head, *kept, f"use {goals}.Given as goal", ""]) + "\n" + "\n\n".join(invariants) + "\n")
     if out:
         if imports:
             kept.append(f"use {goals}.Goals.{{{', '.join(sorted(imports))}}}")
@@ -183,6 +194,39 @@ def convert(path, module, fn, left, crate):
             it.write("\n".join([head, *kept, f"use {goals}.Goals as goal", ""]) + "\n" + "\n\n".join(out) + "\n")
     os.remove(path)
     return len(out)
+
+
+def invariants(path, module, fn, crate):
+    """The invariants and measures of a function's loops, over the record of today."""
+    with open(path, encoding="utf-8") as it:
+        head, uses, parts = items(it.read())
+    out = []
+    for part in parts:
+        found = re.search(r"^abbrev (" + WORD + r") : tie\.(invariant|decreases)_(" + WORD + ")", part, re.M)
+        if not found:
+            continue
+        kind, loop = found.group(2), found.group(3)
+        name = next((n for (o, n), _ in fn.loops if plain(o) == plain(loop)), loop)
+        comment = part[: found.start()]
+        body = part[found.end() :].lstrip("\n")
+        unfold = re.match(r"unfolding[^\n]*\n", body)
+        if unfold:
+            body = body[unfold.end() :]
+        head_of = re.match(re.escape(found.group(1)) + r"((?: " + WORD + r")*) =", body)
+        args = head_of.group(1).split()
+
+        def of_record(m):
+            word = m.group()
+            if word not in args:
+                return word
+            return f"l.initial.{word[:-1]}" if word.endswith("₀") else f"l.{word}"
+
+        text = re.sub(r"(?<![^\s(\[{,])" + WORD, of_record, body[head_of.end() :])
+        out.append(f"{comment}abbrev pub {kind}-{name} : goal.{kind}-{name}\n{unfold.group() if unfold else ''}{kind}-{name} l ={text}")
+    if out:
+        kept = [u for u in uses if not re.search(r"\.(Statement\.|Tie as)", u)]
+        with open(os.path.join(os.path.dirname(path), "Invariants.antt"), "w", encoding="utf-8") as it:
+            it.write("\n".join([head, *kept, f"use Rattle.{crate}.proofs.{module}.Given as goal", ""]) + "\n" + "\n\n".join(out) + "\n")
 
 
 def open_goals(said, crate):
@@ -202,14 +246,19 @@ def main(names, said, folder):
     crate = os.path.basename(os.path.realpath(folder))
     with open(names, encoding="utf-8") as it:
         table = json.load(it)
-    with open(said, encoding="utf-8") as it:
-        left, proved = open_goals(it.read(), crate)
+    left, proved = {}, set()
+    if said != "invariants":
+        with open(said, encoding="utf-8") as it:
+            left, proved = open_goals(it.read(), crate)
     for module, of in sorted(table.items()):
-        if not module.endswith(".Lts"):
+        if not module.endswith(".Lts") or "loops" not in of:
             continue
         name = module.split(".", 1)[1][: -len(".Lts")]
         path = os.path.join(folder, "proofs", *name.split("."), "Proof.antt")
         if not os.path.exists(path):
+            continue
+        if said == "invariants":
+            invariants(path, name, Function(of), crate)
             continue
         key = name.replace(".", "/")
         if key in proved:

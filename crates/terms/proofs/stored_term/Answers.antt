@@ -1,0 +1,36 @@
+-- `terms::stored_term` meets its contract.
+use mathlib.Core.Path.{ap, ◌∙◌}
+use Prim.Native.Nat.{◌*◌, ◌<◌}
+use native.Mathlib.Nat.{le-div_iff_mul-le, div-lt_iff_lt-mul}
+use native.Mathlib.Omega.{arith}
+use mir.Syntax.{w64}
+use Rattle.integers.specs.Machine.{back}
+use Rattle.integers.specs.RoundingLaws.{half_even-most}
+use Rattle.integers.specs.Sign.{from_sign}
+use Rattle.terms.specs.TermLaws.{term_limited, term_within}
+use Rattle.terms.proofs.stored_term.Goals.{Else-numerator-denominator-ge-TERM_MOST}
+use Rattle.terms.proofs.stored_term.Goals as goal
+
+pub returns-then-numerator-denominator-ge-TERM_MOST : goal.returns-then-numerator-denominator-ge-TERM_MOST
+returns-then-numerator-denominator-ge-TERM_MOST c =
+    back w64 _ c.signed.type_inv ∙ c.signed.ensures ∙
+    term_limited c.args.numerator c.args.denominator c.args.minus c.requires.some
+    ((le-div_iff_mul-le c.requires.some).0 c.if-numerator-denominator-ge-TERM_MOST.true)
+
+-- the fraction is within its limits, and so its numerator is small
+within : (c : Else-numerator-denominator-ge-TERM_MOST) → c.args.numerator < 10000 * c.args.denominator
+within c = (div-lt_iff_lt-mul c.requires.some).0 c.if-numerator-denominator-ge-TERM_MOST.false
+
+pub signed-requires-2 : goal.signed-requires-2
+signed-requires-2 c =
+    omega (
+      arith,
+      within c.before,
+      c.nearest_even-size.ensures,
+      half_even-most (c.args.numerator * 65536) c.args.denominator c.requires.some,
+    )
+
+pub returns : goal.returns
+returns c =
+    back w64 _ c.signed-2.type_inv ∙ c.signed-2.ensures ∙ ap (from_sign c.args.minus) c.nearest_even-size.ensures ∙
+    term_within c.args.numerator c.args.denominator c.args.minus c.requires.some (omega (arith, within c.before.before))
