@@ -1,9 +1,10 @@
 // Lines of a reader, and a writer behind a buffer: in the programs, standard input and standard output. The contracts
-// speak of the bytes received: a read hands over any bytes whatever, and nothing is known but how many; what comes of
-// them is stated byte by byte.
+// speak of the bytes received, and state what comes of them byte by byte. Where it is known which bytes a reader has
+// left, as of one over memory, they are those, in their order; of standard input nothing is known but how many.
 #![tactic(auto)]
 
-ghost use Rattle.std.specs.Prelude.{◌≡◌, ◌≤◌, cond, min, ltb, length};
+ghost use Rattle.std.specs.Prelude.{◌≡◌, ◌≤◌, cond, min, ltb, length, take};
+ghost use Rattle.std.specs.Io.KnownBytes.{Consumes};
 ghost use Rattle.lines.specs.Lines.{Appended, started, begun, ended, Advanced, Refilled, Continued, NextLine};
 
 use std::io::{Read, Write};
@@ -94,7 +95,8 @@ fn advance(input: &[u8], line: &mut [u8], place: ReaderState) -> ReaderState
 
 // How many bytes a read hands over; none where it fails.
 fn received<R: Read>(reader: &mut R, input: &mut [u8]) -> usize
-    ensures { result ≤ length input.new }
+    ensures fits { result ≤ length input.new }
+    ensures taken { Consumes (R.remaining reader.old) (R.remaining reader.new) (take result input.new) }
 {
     match reader.read(input) {
         Ok(count) => count,
@@ -104,7 +106,7 @@ fn received<R: Read>(reader: &mut R, input: &mut [u8]) -> usize
 
 // Reads more; at the end of the input, or where it cannot be read, there is no more.
 fn refill<R: Read>(reader: &mut R, input: &mut [u8], place: ReaderState) -> ReaderState
-    ensures { Refilled input.new place result }
+    ensures { Refilled (R.remaining reader.old) (R.remaining reader.new) input.new place result }
 {
     let count = received(reader, input);
     ReaderState {
@@ -151,7 +153,8 @@ fn read_on<R: Read>(
     line: &mut [u8],
     place: ReaderState,
 ) -> ReaderState
-    ensures { Continued input.new line.old line.new place result }
+    ensures { Continued (R.remaining reader.old) (R.remaining reader.new)
+        input.new line.old line.new place result }
 {
     let mut p = place;
     let mut turns = u64::MAX;
@@ -170,9 +173,9 @@ fn read_on<R: Read>(
     finish(p)
 }
 
-// The next line, in the line buffer. Where `complete` is false the input has ended. Of the bytes that
-// were pending and those received the contract rules out a line that is cut or joined with the next, and a byte that is
-// lost. Which bytes a read received no contract can tell.
+// The next line, in the line buffer. Where `complete` is false the input has ended. Of the bytes that were pending and
+// those received the contract rules out a line that is cut or joined with the next, and a byte that is lost. Which bytes
+// were received it tells of a reader whose bytes are known; of standard input no contract can.
 pub fn next_line<R: Read, W: Write>(
     reader: &mut R,
     writer: &mut W,
@@ -181,7 +184,8 @@ pub fn next_line<R: Read, W: Write>(
     out: &[u8],
     place: ReaderState,
 ) -> ReaderState
-    ensures { NextLine input.old input.new line.old line.new place result }
+    ensures { NextLine (R.remaining reader.old) (R.remaining reader.new)
+        input.old input.new line.old line.new place result }
 {
     let mut p = advance(input, line, begin(place));
     if p.complete {

@@ -5,14 +5,14 @@ use Rattle.lines.proofs.next_line.Goals as goal
 pub returns-then-p : goal.returns-then-p
 returns-then-p g c =
     let begins = rw c.begin.ensures at c.advance-p.ensures in
-    next_pending c.args.input.now c.args.line.now c.advance-p.new.line c.args.place c.advance-p.result begins c.if-p.true
+    next_pending _ c.args.input.now c.args.line.now c.advance-p.new.line c.args.place c.advance-p.result begins c.if-p.true
 
 pub returns-then-p-2 : goal.returns-then-p-2
 returns-then-p-2 g c =
     let begins = rw c.begin.ensures at c.advance-p.ensures in
     next_read
-    c.args.input.now c.args.line.now c.advance-p.new.line c.args.place c.advance-p.result begins c.if-p.false
-    c.flush.result c.read_on.new.input c.read_on.new.line c.read_on.result
+    _ c.args.input.now c.args.line.now c.advance-p.new.line c.args.place c.advance-p.result begins c.if-p.false
+    _ c.flush.result c.read_on.new.input c.read_on.new.line c.read_on.result
     c.flush.ensures c.if-p-2.true c.read_on.ensures
 
 pub returns : goal.returns
@@ -20,6 +20,6 @@ returns g c =
     let begins = rw c.begin.ensures at c.advance-p.ensures in
     rw c.finish.ensures
     (next_ended
-    c.args.input.now c.args.line.now c.advance-p.new.line c.args.place c.advance-p.result begins
+    _ c.args.input.now c.args.line.now c.advance-p.new.line c.args.place c.advance-p.result begins
     c.if-p.false
     c.if-p-2.false)
