@@ -50,8 +50,10 @@ class Function:
         self.asked = of["asked_at"]
         self.places = {}
         for k, pl in enumerate(of["places"]):
-            self.places[pl[0]] = dict(parent=pl[1], old=pl[2][0], new=pl[2][1], name=of["places_by_name"][k], arm=of["arms"][k])
+            self.places[pl[0]] = dict(parent=pl[1], old=pl[2][0], new=pl[2][1], name=of["places_by_name"][k], arm=of["arms"][k], clauses=(of["clauses"][k] or {}).get("fields", []), of=pl[3])
         self.loops = of["loops"]
+        self.params = of["params"]
+        self.args = {o.rsplit(".", 1)[1]: n.rsplit(".", 1)[1] for o, n in of["args"] if "." in o}
 
     def need(self, name):
         """The number of the need by its older name."""
@@ -83,7 +85,7 @@ class Function:
                     if tail and plain(old) == plain(rest[0]) and rest[1 : 1 + len(tail)] == tail:
                         return [step, new, *rest[1 + len(tail) :]]
             if here["old"] and plain(here["old"]) == plain(rest[0]):
-                return [here["new"], *rest[1:]]
+                return [here["new"], *parameter(clause(rest[1:], here["clauses"]), self.params.get(here["of"], []))]
             at = self.up(at)
         return ["UNKNOWN_" + rest[0], *rest[1:]]
 
@@ -99,6 +101,30 @@ class Function:
                 break
             place, arm = later[0], self.places[later[0]]["arm"]
         return self.places[place]["name"]
+
+
+def parameter(rest, names):
+    """What a call left in a parameter, by the parameter's name in place of its number."""
+    if rest[:1] not in (["new"], ["auto"]) or not names:
+        return rest
+    k = 1
+    while k < len(rest) and rest[k] == "1":
+        k += 1
+    if k < len(rest) and rest[k] == "0" and k - 1 < len(names):
+        return [rest[0], names[k - 1], *rest[k + 1 :]]
+    return rest
+
+
+def clause(rest, names):
+    """A clause of several by its name in place of its number."""
+    if rest[:1] != ["ensures"] or not names or len(names) == 1 and rest[1:2] != ["0"]:
+        return rest if rest[:1] != ["ensures"] or not names else ["ensures", names[0], *rest[1:]]
+    if len(rest) > 1 and rest[1].isdigit():
+        k = int(rest[1])
+        if k < len(names):
+            return ["ensures", names[k], *rest[2:]]
+        return ["ensures", names[-1], str(k - len(names) + 1), *rest[2:]]
+    return rest
 
 
 PATH = re.compile(r"(?<![\w.'·-])(" + WORD + r")((?:\." + WORD + r")*)(?![\w'·-])")
@@ -123,8 +149,8 @@ def rewrite(body, fn, env, goal=None):
             if place == asked or goal is None or place is None:
                 return base if place == asked else found.group()
             return f"(goal.at.{goal} c).{fn.record(place)}"
-        if rest[0] in ("args", "ranges", "requires", "utf8", "auto"):
-            new = rest
+        if rest[0].replace("-", "_") in ("args", "ranges", "requires", "utf8", "auto", "well_formed", "lifetimes"):
+            new = [rest[0].replace("-", "_"), *(fn.args.get(r, r) for r in rest[1:])]
         else:
             new = fn.field(place, rest) if place else ["UNKNOWN_" + rest[0], *rest[1:]]
         new = [new[0], *(r.replace("-", "_") if not new[0].startswith("in") else r for r in new[1:])]
@@ -138,11 +164,76 @@ def rewrite(body, fn, env, goal=None):
                 break
         else:
             break
-    return PATH.sub(path, body)
+    body = PATH.sub(path, steps(body, fn, env)).replace(".type-inv", ".type_inv")
+    return re.sub(r"(?:not-true|not-false)(?: _)* (c\.if-not-\S+\.(?:true|false))(?![\w.'-])", r"\1", body)
+
+
+def steps(body, fn, env):
+    """Without a `let` that only names a call's step: the call's clauses and parameters have names now."""
+    for found in list(re.finditer(r"let (" + WORD + r") = (" + WORD + r"(?:\." + WORD + r")+) in[ \n]*", body)):
+        words = found.group(2).split(".")
+        if words[0] not in env or words[-1] in ("args", "requires", "ranges", "result", "ensures"):
+            continue
+        name = r"(?<![\w.'-])" + re.escape(found.group(1))
+        rest = body.replace(found.group(), "", 1)
+        called = any(of["of"] and plain(of["old"] or "") == plain(words[-1]) for of in fn.places.values())
+        if called and not re.search(name + r"(?![\w.'-])", rest):
+            body = re.sub(name + r"(?=\.)", found.group(2), rest)
+    return body
 
 
 def renamed(text, answers):
     return re.sub(r"(?<![^\s(\[{,])" + WORD, lambda m: answers.get(m.group(), m.group()), text)
+
+
+def clauses_of(module, src):
+    """The names of a function's `ensures`, where it has several."""
+    *above, name = module.split(".")
+    own = [m + ".rt" for m in above if os.path.exists(os.path.join(src, *above[: above.index(m)], m + ".rt"))]
+    own = own[-1:] or ["lib.rt", "main.rt"] if not any(m[0].isupper() for m in above) else []
+    for folder, _, files in os.walk(src):
+        for f in files:
+            if own and f not in own:
+                continue
+            with open(os.path.join(folder, f), encoding="utf-8") as it:
+                for found in re.finditer(r"\bfn " + name + r"\b((?:.|\n)*?)\n *\{\n", it.read()):
+                    names = re.findall(r"ensures (\w+) \{", found.group(1))
+                    if len(names) > 1:
+                        return names
+    return []
+
+
+def by_clause(body, names):
+    """An answer that is a tuple, as a record of the clauses."""
+    end = body.rstrip()
+    head = re.match(r"(?s)(.*?\n\S+ c =)(.*)", end)
+    whole = body
+    if head and not re.search(r"record \{|^\s*(search|grind|rw|simp|\()|\bin\s*(\(|simp|rw)", head.group(2)):
+        lets = re.match(r"(?s)(.*\bin\s)?(.*)", head.group(2))
+        fields = "".join(f"\n      {n} = all.{k};" for k, n in enumerate(names))
+        lead = (lets.group(1) or "\n    ").rstrip()
+        whole = f"{head.group(1)}{lead}\n    let all = {lets.group(2).strip()} in\n    record {{{fields}\n    }}"
+    if not end.endswith(")"):
+        return whole
+    depth, k = 0, len(end)
+    while k:
+        k -= 1
+        depth += {")": 1, "}": 1, "]": 1, "(": -1, "{": -1, "[": -1}.get(end[k], 0)
+        if not depth:
+            break
+    inner, cuts, depth = end[k + 1 : -1], [], 0
+    for at, ch in enumerate(inner):
+        depth += {"(": 1, "{": 1, "[": 1, ")": -1, "}": -1, "]": -1}.get(ch, 0)
+        if ch == "," and not depth:
+            cuts.append(at)
+    pieces = [inner[a:b].strip() for a, b in zip([0, *(c + 1 for c in cuts)], [*cuts, len(inner)])]
+    pieces = [p for p in pieces if p]
+    if len(pieces) < len(names) or not re.search(r"(=|\bin)\s*$", end[:k]):
+        return whole
+    if len(pieces) > len(names):
+        pieces = [*pieces[: len(names) - 1], "(" + ", ".join(pieces[len(names) - 1 :]) + ")"]
+    fields = "".join(f"\n      {n} = {p};" for n, p in zip(names, pieces))
+    return end[:k] + "record {" + fields + "\n    }"
 
 
 def convert(path, module, fn, left, crate):
@@ -155,6 +246,7 @@ def convert(path, module, fn, left, crate):
             k = fn.need(found.group(2))
             answers[found.group(1)] = fn.needs[k][1] if k is not None else "NO_GOAL_" + found.group(2)
     out, imports = [], set()
+    clauses = clauses_of(module, os.path.join(os.path.dirname(path).split("/proofs/")[0], "src"))
     for part in parts:
         found = re.search(r"^(?:pub )?(" + WORD + r") : tie\.Need-(" + WORD + ")[^\n]*", part, re.M)
         if found:
@@ -162,7 +254,7 @@ def convert(path, module, fn, left, crate):
             new = answers[found.group(1)]
             name = re.compile(r"(?<![\w.'-])" + re.escape(found.group(1)) + r"(?![\w.'-])")
             used = any(name.search(p) for p in parts if p is not part and "tie.close" not in p)
-            if not used and (k is None or new not in left):
+            if not used and (k is None or not any(g == new or g.startswith(new + "-clause-") for g in left)):
                 continue
             env = {"c": fn.asked[k][0] if k is not None else None}
             start, end = found.span()
@@ -170,6 +262,8 @@ def convert(path, module, fn, left, crate):
             body = renamed(body, answers)
             body = re.sub(r"(?m)^" + re.escape(new) + r"((?: " + WORD + r")*) =", lambda m: new + m.group(1).replace(" κs", "") + " =", body)
             body = rewrite(body, fn, env, new)
+            if new.startswith("returns") and len(clauses) > 1:
+                body = by_clause(body, clauses)
             out.append(part[:start] + f"pub {new} : goal.{new}" + body)
             continue
         if re.search(r"^abbrev (" + WORD + r") : tie\.(invariant|decreases)", part, re.M):
@@ -265,7 +359,7 @@ def main(names, said, folder):
             os.remove(path)
             print(f"{name}: proved with no file")
             continue
-        n = convert(path, name, Function(of), left.get(key), crate)
+        n = convert(path, name, Function(of), left.get(key, set()), crate)
         print(f"{name}: {n} answers")
 
 

@@ -7,39 +7,36 @@ use mathlib.Core.List.{[], ◌∷◌, List}
 use Prim.Native.Nat.{ℕ, suc, ◌+◌, ◌*◌, ◌≤◌, ◌<◌, ◌^◌}
 use native.Mathlib.Omega.{arith}
 use seplogic.Ra.Ura.{Ura}
-use seplogic.Ra.TreeShare.{full_share}
+use base.Fraction.{full_share}
 use lib.Dec.{ltb, lt→ltb}
 use lib.ListN.{length}
-use mir.Syntax.{w16, ty_int, Arms}
+use mir.Syntax.{w16, ty_int, place, copy, switch, Arms}
 use mir.Val.{Val, Fits, vint}
 use base.Logic.{SProp, ent, emp, via, guard_i}
 use base.Fml.{ftrue, fat, froom, fdies}
 use prog.Memory.{Memory}
 use prog.Routine.{Routine}
-use prog.Wp.{Env, Calls, Loops, Wp, WpFn, Tables, after_seq, at_return}
+use prog.Wp.{Env, Calls, Loops, Wp, WpFn, after_seq, at_return}
 use types.Logic.{Logic}
 use contract.Monad.{Fun}
-use contract.Running.{tables, tables_of}
+use contract.Running.{tables}
 use types.Kit as Kit
 use types.Kit.{Go, Item, Sq, prop, runs, any_q, at_ret, ‵, ◌$◌, ◌∵◌, !, qed, by, move, drop, fjoin, suffices, frame, done}
 use types.Run.{Opd as Reading, Cases, look, init, forget, stop, from, load, lit, of_opd, assigns, assigns_last, first, switches}
 use types.Run.{exec, returns, enter, alloc1, alloc0, params1, pass1, pass0, free1, free0}
-use sound.WpLaws.{WpFn-mono}
 use denote.RattleType.{owns}
 use denote.Laws.{Is}
 use denote.Plain.{uint_vals, uint_Tells, uint_Makes}
 use denote.Builtin.{u16}
 use denote.Steps.{owned, nothing}
 use denote.Triple.Entry.{on_entry}
-use denote.Triple.Spec.{Meets, triple_of}
-use denote.Triple.Table.{entered}
-use denote.Triple.Walked.{says as ensured, needs, Stays, stay_none, walk_of, Goes-none, Walks, ends_at, walked, walk_Meets}
+use denote.Triple.Walked.{says as ensured, needs, Stays, stay_none, walk_of, Goes-none, ends_at}
 use denote.Exit.{yes}
 use Rattle.integers.specs.Choice.{both}
 use Rattle.scaling.specs.Root.{Greatest, fits_most}
 use Rattle.scaling.proofs.Entries.{is_root, are_roots, root_at}
 use Rattle.scaling.proofs.Arms.{entries_of, arms_in, literal, sets, arms_of}
-use Rattle.scaling.specs.contracts.roots.entry.Key.{name as #scaling·roots·entry}
+use Rattle.std.proofs.raw_atomic.Walks.{proved}
 use Rattle.scaling.specs.contracts.roots.entry as entry
 use Rattle.scaling.proofs.roots.entry.Statement as stated
 use Rattle.scaling.proofs.roots.entry.Code as code
@@ -135,12 +132,16 @@ module _ {M : Type 1} {𝓤 : Ura M} (𝓛 : Logic 𝓤) (mem : Memory → SProp
           all_arms (N × (sample ≡ at → ⊥)) (suc at) rs tests.1 (λ n. omega (arith, low n.0, n.1)) (omega arith),
         )
 
+    -- a match on the sample, whatever its arms are: so the code's own are never written out
+    switched : (arms : Arms) → Cases Go 𝓛 Before C Λ E Behind (Unit {0}) arms sample
+        → Sq 𝓛 Before (runs C Λ E (switch (copy (place 1 [])) arms) Behind)
+    switched arms cases = switches ! {arms = arms} (load ! (from ! (stop !)) (look ! 2 refl)) cases
+
     -- the match: all arms, those of the code
     matched : Sq 𝓛 Before (runs C Λ E parts.s-1 Behind)
     matched =
         let found = all_arms (Unit {0}) 0 entries tested (λ _. omega arith) (omega (arith, entries_counted)) in
-        switches ! {arms = arms_in parts.s-1} (load ! (from ! (stop !)) (look ! 2 refl))
-        (subst (λ (arms : Arms). Cases Go 𝓛 Before C Λ E Behind (Unit {0}) arms sample) same found)
+        switched (arms_in parts.s-1) (subst (λ (arms : Arms). Cases Go 𝓛 Before C Λ E Behind (Unit {0}) arms sample) same found)
 
   module _ (C : Calls 𝓤 H) (Λ : Loops 𝓤 H) where
     -- the function, from its argument to its return
@@ -152,23 +153,11 @@ module _ {M : Type 1} {𝓤 : Ura M} (𝓛 : Logic 𝓤) (mem : Memory → SProp
         alloc1 ! (λ result. alloc1 ! (λ argument. alloc1 ! (λ value. alloc0 ! $
         params1 ! $ pass1 ! (init ! 2 refl (tt, record { fits = fits })) $ pass0 ! $ first ! $ matched C Λ result argument value)))
 
-module _ {M : Type 1} {𝓤 : Ura M} (𝓛 : Logic 𝓤) (mem : Memory → SProp 𝓤) (run : Routine → Fun 𝓤) where
-  -- and so for every argument that the contract takes
-  open 𝓛 use {H}
-
-  walks : (C : Calls 𝓤 H) (Λ : Loops 𝓤 H) → Walks 𝓛 entry.ended stays (WpFn 𝓤 H C Λ code.function) (entry.clauses 𝓛 mem run)
-  walks C Λ = walked 𝓛 entry.ended stays (entry.clauses 𝓛 mem run) (WpFn 𝓤 H C Λ code.function)
-      (λ κs. (uint_vals w16, tt)) (λ κs. (uint_Tells w16, tt))
-      (λ κs qs bounds a g are. needs 𝓤 _ _ (λ within. body 𝓛 mem run a.0 within are.0.1 C Λ))
-
-  meets : (𝓣 : Tables 𝓤 H) → Meets 𝓛 entry.signature (WpFn 𝓤 H 𝓣.C 𝓣.Λ code.function) (entry.spec 𝓛 mem run)
-  meets 𝓣 = walk_Meets 𝓛 entry.ended stays (Goes-none 𝓛 0 (λ _. u16) yes (λ κs x f. refl), tt)
-      (entry.clauses 𝓛 mem run) (WpFn 𝓤 H 𝓣.C 𝓣.Λ code.function) (WpFn-mono 𝓤 H 𝓛.laws 𝓣 code.function)
-      (walks 𝓣.C 𝓣.Λ)
-
+-- and so for every argument that the contract takes
 pub entry_spec : {M : Type 1} → stated.statement M
-unfolding code.routine tables_of
-entry_spec 𝓤 𝓛 𝓜 𝓡 =
-    entered 𝓤 𝓛.H (triple_of 𝓛 entry.signature (entry.spec 𝓛 𝓜.mem 𝓡.run))
-    (tables 𝓤 𝓛.H 𝓜 𝓡 code.env).C (tables 𝓤 𝓛.H 𝓜 𝓡 code.env).Λ #scaling·roots·entry code.function (code.unfolded 𝓤 𝓛.H 𝓜 𝓡)
-    (meets 𝓛 𝓜.mem 𝓡.run (tables_of 𝓤 𝓛.H 𝓜 (tables 𝓤 𝓛.H 𝓜 𝓡 code.env)))
+entry_spec 𝓤 𝓛 𝓜 𝓡 wired =
+    let c = entry.clauses 𝓛 𝓜.mem 𝓡.returns in let 𝓣 = tables 𝓤 𝓛.H 𝓜 𝓡 𝓡.env in
+    proved 𝓛 entry.ended stays c 𝓜 𝓡 (Goes-none 𝓛 0 (λ _. u16) yes (λ κs x f. refl), tt)
+    entry.Key.name code.function (code.unfolded 𝓤 𝓛.H 𝓜 𝓡 wired)
+    (λ κs. (uint_vals w16, tt)) (λ κs. (uint_Tells w16, tt))
+    (λ κs qs bounds a g are. needs 𝓤 _ _ (λ within. body 𝓛 𝓜.mem 𝓡.returns a.0 within are.0.1 𝓣.C 𝓣.Λ))
