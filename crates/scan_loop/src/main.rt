@@ -1,6 +1,6 @@
 // A host's loop, in which every call that returns a controller or a sheet is made; both stand in a struct. What is done
 // in a turn stands in functions whose contracts say that both are Valid before and after it. They need no proof file;
-// the loop alone has one (proofs/dry/Proof.antt).
+// the loop alone has one (proofs/dry/Invariants.antt).
 #![tactic(auto)]
 
 ghost use Rattle.controller.specs.Valid.{Valid};
