@@ -18,7 +18,7 @@ returns g c =
     let reply = ap (λ (s : SessionStep). s.reply) result.0 in
     let sheet = ap (λ (s : SessionStep). s.session.sheet.sheet) result.0 in
     let short : length (line_saved session line len) ≤ 346 =
-        rw (← result.1) (omega (arith, c.perform-step.auto.buffer, c.parse-command.auto.bytes, c.buffer-buffer.ensures.1)) in
+    rw (← result.1) (omega (arith, c.perform-step.auto.buffer, c.parse-command.auto.bytes, c.buffer-buffer.ensures.1)) in
     let o = rw (c.room-free.ensures, reply, sheet, result.1) at c.append_reply.ensures.0 in (
       c.perform-step.ensures.2,
       record {
