@@ -1,8 +1,7 @@
 -- What answers a line of the arithmetic: the value of the definition that the line's first word names, at the line's
 -- arguments, each of which must lie in its range.
-use Rattle.std.specs.Prelude.{Bool, true, false, ◌&&◌, List, ℕ, eqb, ltb, ℤ, pos, nat_abs}
+use Rattle.std.specs.Prelude.{Bool, true, false, ◌&&◌, List, ℕ, eqb, ltb, ℤ, pos, nat_abs, if◌then◌else◌}
 use Rattle.std.specs.Int.Signed.{le_z, lt_z}
-use Rattle.integers.specs.Choice.{if◌then◌else◌}
 use Rattle.integers.specs.Limit.{limited}
 use Rattle.scaling.specs.Ratio.{ratio_quotient, inverse_quotient}
 use Rattle.scaling.specs.Root.{root_of}

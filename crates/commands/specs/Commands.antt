@@ -1,7 +1,6 @@
 -- The command that a line asks for, and the bytes of a restart or of a terminal's line in the buffer.
-use Rattle.std.specs.Prelude.{◌&&◌, List, ℕ, leb, ℤ, nat_abs, length, take}
+use Rattle.std.specs.Prelude.{◌&&◌, List, ℕ, leb, ℤ, nat_abs, length, take, if◌then◌else◌}
 use Rattle.std.proofs.Math.Option.{Option}
-use Rattle.integers.specs.Choice.{if◌then◌else◌}
 use Rattle.integers.specs.Sign.{is_negative}
 use Rattle.numerals.specs.Parsed.{natural_of}
 use Rattle.numerals.specs.declared.ParsedNatural.{ParsedNatural}

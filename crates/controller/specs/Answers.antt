@@ -1,7 +1,6 @@
 -- Document 01: what a call answers, in the paper's numbers and values.
-use Rattle.std.specs.Prelude.{◌≡◌, refl, ℕ, ◌/◌, ◌-◌, ℤ, nat_abs}
+use Rattle.std.specs.Prelude.{◌≡◌, refl, ℕ, ◌/◌, ◌-◌, ℤ, nat_abs, if◌then◌else◌}
 use Rattle.std.proofs.Math.Option.{Option, some, none}
-use Rattle.integers.specs.Choice.{if◌then◌else◌}
 use Rattle.signals.specs.Refusals.{number_of, number_in}
 use Rattle.signals.specs.Signals.{switches_of}
 use Rattle.signals.specs.declared.Verdict.{Verdict}

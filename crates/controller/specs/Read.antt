@@ -1,7 +1,6 @@
 -- Document 01, "Parameters" and "Words": "a read answers the value", and changes nothing.
 use Rattle.std.proofs.Math.Option.{Option, some, none}
-use Rattle.std.specs.Prelude.{ℕ, eqb, ℤ, pos}
-use Rattle.integers.specs.Choice.{if◌then◌else◌}
+use Rattle.std.specs.Prelude.{ℕ, eqb, ℤ, pos, if◌then◌else◌}
 use Rattle.parameters.specs.Legal.{unknown_refusal}
 use Rattle.parameters.specs.Table.{value, rule_of, is_from}
 use Rattle.controller.specs.Answers.{Reply, reading, number, op_of}

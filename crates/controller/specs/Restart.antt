@@ -1,7 +1,6 @@
 -- Document 01, "The image": a restart, whole. As for a scan and a write: the next state but for the
 -- output, the answer, and an instruction for the output, once for our controller and for the exact one.
-use Rattle.std.specs.Prelude.{Bool, true, not, ◌&&◌, ◌||◌, List, [], ◌∷◌, ℕ, eqb, length}
-use Rattle.integers.specs.Choice.{if◌then◌else◌}
+use Rattle.std.specs.Prelude.{Bool, true, not, ◌&&◌, ◌||◌, List, [], ◌∷◌, ℕ, eqb, length, if◌then◌else◌}
 use Rattle.signals.specs.Refusals.{refused_by}
 use Rattle.signals.specs.Signals.{switches_of}
 use Rattle.fields.specs.Decoding.{well_formed_from, values_from}

@@ -1,9 +1,9 @@
 -- A fresh controller is valid, and a scan returns a valid one.
-use Rattle.std.specs.Prelude.{◌≡◌, refl, Bool, true, false, ◌||◌, List, [], ◌∷◌, ℕ, ◌≤◌, ltb, ℤ, pos, nat_abs, ◌-ℤ◌}
+use Rattle.std.specs.Prelude.{◌≡◌, refl, Bool, true, false, ◌||◌, List, [], ◌∷◌, ℕ, ◌≤◌, ltb, ℤ, pos, nat_abs, ◌-ℤ◌, if◌then◌else◌}
 use Rattle.std.proofs.Math.Option.{Option, some, none}
 use Rattle.std.proofs.Common.{arith, to_z, of_z, ltb-false}
 use Rattle.std.specs.Int.{w64}
-use Rattle.integers.specs.Choice.{if◌then◌else◌, never}
+use Rattle.integers.specs.Choice.{never}
 use Rattle.integers.specs.Machine.{back}
 use Rattle.integers.specs.Operations.{number, difference}
 use Rattle.integers.specs.Parts.{integers}

@@ -1,8 +1,7 @@
 -- Document 01, "Parameters", "Words" and "By whose hand a call is declined", and document 02, request 6: a write,
 -- whole. As for a scan: the next state but for the output, the answer, and an instruction for the output, once for our
 -- controller and for the exact one.
-use Rattle.std.specs.Prelude.{Bool, not, List, [], ◌∷◌, ◌++◌, ℕ, ◌%◌, eqb, ℤ, nat_abs}
-use Rattle.integers.specs.Choice.{if◌then◌else◌}
+use Rattle.std.specs.Prelude.{Bool, not, List, [], ◌∷◌, ◌++◌, ℕ, ◌%◌, eqb, ℤ, nat_abs, if◌then◌else◌}
 use Rattle.signals.specs.Refusals.{refused_by}
 use Rattle.signals.specs.Signals.{switches_of}
 use Rattle.modes.specs.Modes.{sets_setpoint}

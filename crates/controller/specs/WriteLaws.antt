@@ -1,11 +1,11 @@
 -- What an accepted write has passed, whoever made it; what its answer says of its tests; a write returns a valid
 -- controller.
-use Rattle.std.specs.Prelude.{◌≡◌, Bool, true, false, not, ◌&&◌, ◌||◌, List, ◌++◌, ℕ, ◌≤◌, eqb, ℤ, pos, nat_abs}
+use Rattle.std.specs.Prelude.{◌≡◌, Bool, true, false, not, ◌&&◌, ◌||◌, List, ◌++◌, ℕ, ◌≤◌, eqb, ℤ, pos, nat_abs, if◌then◌else◌}
 use Rattle.std.proofs.Math.Path.{refl}
 use Rattle.std.proofs.Common.{sym, ◌∙◌, subst, arith}
 use Rattle.std.proofs.Math.Option.{Option, some, none}
 use borrow.Author.Tests.{eqb-true, eqb-false, ne_eqb, not-false}
-use Rattle.integers.specs.Choice.{if◌then◌else◌, by_cases, never}
+use Rattle.integers.specs.Choice.{by_cases, never}
 use Rattle.integers.specs.Operations.{number}
 use Rattle.integers.specs.Parts.{integers, apart}
 use Rattle.signals.specs.Bits.{bit}

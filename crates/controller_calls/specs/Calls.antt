@@ -1,8 +1,7 @@
 -- What the console does with each call of the controller, by the controller's own definitions: the next controller, the
 -- reply, and the buffer.
-use Rattle.std.specs.Prelude.{Bool, true, ◌&&◌, List, [], ◌∷◌, ◌++◌, ℕ, eqb, leb, length, take, drop, replicate}
+use Rattle.std.specs.Prelude.{Bool, true, ◌&&◌, List, [], ◌∷◌, ◌++◌, ℕ, eqb, leb, length, take, drop, replicate, if◌then◌else◌}
 use Rattle.std.proofs.Math.Option.{Option, some, none}
-use Rattle.integers.specs.Choice.{if◌then◌else◌}
 use Rattle.signals.specs.Refusals.{number_of, refused_by}
 use Rattle.signals.specs.declared.Verdict.{Verdict}
 use Rattle.signals.specs.declared.Verdict.TheVariants as verdict

@@ -1,6 +1,5 @@
 // What comes of a restart with an image, and of saving one.
-ghost use Rattle.std.specs.Prelude.{◌≡◌, leb, length, take};
-ghost use Rattle.integers.specs.Choice.{if◌then◌else◌};
+ghost use Rattle.std.specs.Prelude.{◌≡◌, leb, length, take, if◌then◌else◌};
 ghost use Rattle.controller.specs.Restart.{restart};
 ghost use Rattle.controller.specs.Valid.{Valid};
 ghost use Rattle.controller_calls.specs.Calls.{step_of, unchanged_with, checked_reply, reply_to_save, saved_buffer};

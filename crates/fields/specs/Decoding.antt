@@ -1,6 +1,5 @@
 -- Document 01, "The image", decoded: "every tag and length right", and the values that the fields hold.
-use Rattle.std.specs.Prelude.{ℕ, zero, suc, ◌+◌, ◌*◌, Bool, true, ◌&&◌, List, [], ◌∷◌, drop, ◌==◌, slice_index}
-use Rattle.integers.specs.Choice.{if◌then◌else◌}
+use Rattle.std.specs.Prelude.{ℕ, zero, suc, ◌+◌, ◌*◌, Bool, true, ◌&&◌, List, [], ◌∷◌, drop, ◌==◌, slice_index, if◌then◌else◌}
 use Rattle.fields.specs.Fields.{tag_of, length_of}
 
 -- these bytes begin with a field of this tag whose value has so many bytes

@@ -1,6 +1,5 @@
 -- Document 01, "The image": "137 bytes of fields: tag byte, two-byte length, value, high byte first."
-use Rattle.std.specs.Prelude.{ℕ, suc, ◌+◌, ◌-◌, ◌/◌, ◌%◌, Bool, List, [], ◌∷◌, ◌++◌, length, drop, ◌==◌, nat_le, nat_lt}
-use Rattle.integers.specs.Choice.{if◌then◌else◌}
+use Rattle.std.specs.Prelude.{ℕ, suc, ◌+◌, ◌-◌, ◌/◌, ◌%◌, Bool, List, [], ◌∷◌, ◌++◌, length, drop, ◌==◌, nat_le, nat_lt, if◌then◌else◌}
 
 -- ---- the 28 fields, by their places from 0 on
 

@@ -13,7 +13,7 @@ use terminal::LineAnswer;
 
 mod print;
 
-fn main() {
+fn main(rt: HostRuntime) {
     let first = Controller::fresh(0); // any 16-bit switch word
     let r = first.scan(Input {
         pins: 0x91,
@@ -27,44 +27,44 @@ fn main() {
     let second = r.controller; // the controller for the next call
     let answer = r.answer;
     match answer {
-        Answer::Accepted(values) => keep_sheet(values), // md 1002h, ds 913Fh, op 0, electrical 0, mode Auto, pv 500
-        Answer::Refused(refusal) => print::refusal(refusal),
+        Answer::Accepted(values) => keep_sheet(&rt, values), // md 1002h, ds 913Fh, op 0, electrical 0, mode Auto, pv 500
+        Answer::Refused(refusal) => print::refusal(&rt, refusal),
     }
     let last = second.last_reading(); // ClockReading::At(1000); ClockReading::None before the first scan
-    print::reading(last);
+    print::reading(&rt, last);
     let may = second.write_access(Writer::Operator, parameters::XP); // refused with 20: offer no field for editing
-    print::verdict(may);
+    print::verdict(&rt, may);
     let w = second.write(Writer::Operator, parameters::SL, 650);
     let third = w.controller;
     let written = w.verdict; // Verdict::Accepted, or Verdict::Refused(refusal)
-    print::verdict(written);
-    let fourth = type_line(third);
-    print::answer(b"SL", fourth.read(parameters::SL)); // 650
+    print::verdict(&rt, written);
+    let fourth = type_line(&rt, third);
+    print::answer(&rt, b"SL", fourth.read(parameters::SL)); // 650
     let mut image = [0u8; fields::IMAGE_LENGTH];
     let saved = fourth.save(&mut image); // keep the bytes where a power cut leaves them
-    print::verdict(saved);
+    print::verdict(&rt, saved);
     let back = Controller::fresh(0).restart(&image);
     let taken = back.verdict; // where it is refused the controller is as it was
-    print::verdict(taken);
+    print::verdict(&rt, taken);
     let restarted = back.controller; // MD bit 8 tells whether the image brought the memory fault
-    print::answer(b"XP", restarted.read(parameters::XP)); // 500
+    print::answer(&rt, b"XP", restarted.read(parameters::XP)); // 500
 }
 
-fn keep_sheet(values: ScanValues) {
-    print::word(b"MD", values.md);
-    print::word(b"DS", values.ds);
+fn keep_sheet(rt: &impl Print, values: ScanValues) {
+    print::word(rt, b"MD", values.md);
+    print::word(rt, b"DS", values.ds);
     let empty = Sheet::empty();
     let e = empty.enter(values); // the next sheet, and Entry::Taken or Entry::Full
     let lot = e.sheet;
     let mean = lot.mean_pv(); // mean.sum over mean.count
-    print::decimal(b"sum of PV", mean.sum);
+    print::decimal(rt, b"sum of PV", mean.sum);
     let kept = lot.values(); // plain numbers, to be kept over a power cut
     let k = Sheet::kept(kept); // k.validity tells whether the numbers can be a sheet's
     let again = k.sheet;
-    print::decimal(b"scans", again.scans() as i64);
+    print::decimal(rt, b"scans", again.scans() as i64);
 }
 
-fn type_line(controller: Controller) -> Controller
+fn type_line(rt: &impl Print, controller: Controller) -> Controller
     requires { Valid controller }
     ensures { Valid result }
 {
@@ -72,8 +72,8 @@ fn type_line(controller: Controller) -> Controller
     let t = terminal::answer(controller, Writer::Engineer, b"XP>500", &mut reply);
     let answer = t.answer;
     match answer {
-        LineAnswer::Reply(length) => print::front(&reply, length), // XP>500; the bytes behind it stay
-        LineAnswer::Refused(refusal) => print::refusal(refusal), // nothing has changed, in the controller or the buffer
+        LineAnswer::Reply(length) => print::front(rt, &reply, length), // XP>500; the bytes behind it stay
+        LineAnswer::Refused(refusal) => print::refusal(rt, refusal), // nothing has changed, in the controller or the buffer
     }
     t.controller // the write is made
 }

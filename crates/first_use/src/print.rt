@@ -1,63 +1,55 @@
-// What the program shows, a line each on standard output: a label, and what stands for it.
+// What the program shows, a line each on standard output: a label, and what stands for it. A failed write is not told
+// apart.
 use controller::ReadAnswer;
 use signals::clock::ClockReading;
 use signals::{Refusal, Verdict};
 
-pub fn decimal(label: &[u8], number: i64) {
-    io::write_all(1, label);
-    io::write_all(1, b" ");
-    if integers::negative(number) {
-        io::write_all(1, b"-");
-    }
-    io::print_decimal(1, integers::magnitude(number));
-    io::write_all(1, b"\n");
+pub fn decimal(rt: &impl Print, label: &[u8], number: i64) {
+    let _ = rt.write_all(label);
+    let _ = println!(rt; " {number}");
 }
 
 // Four hexadecimal digits.
-pub fn word(label: &[u8], word: u16) {
-    io::write_all(1, label);
-    io::write_all(1, b" ");
-    io::print_hex(1, word as u64, 4);
-    io::write_all(1, b"\n");
+pub fn word(rt: &impl Print, label: &[u8], word: u16) {
+    let _ = rt.write_all(label);
+    let _ = println!(rt; " {word:04x}");
 }
 
-pub fn bytes(text: &[u8]) {
-    io::write_all(1, text);
-    io::write_all(1, b"\n");
+pub fn bytes(rt: &impl Print, text: &[u8]) {
+    let _ = rt.write_all(text);
+    let _ = rt.write_all(b"\n");
 }
 
 // The first bytes of a buffer, so many; none if it has fewer.
-pub fn front(buffer: &[u8], count: usize) {
+pub fn front(rt: &impl Print, buffer: &[u8], count: usize) {
     if count <= buffer.len() {
-        bytes(&buffer[0..count]);
+        bytes(rt, &buffer[0..count]);
     }
 }
 
-pub fn refusal(refusal: Refusal) {
-    decimal(b"refused with", refusal.number() as i64);
+pub fn refusal(rt: &impl Print, refusal: Refusal) {
+    decimal(rt, b"refused with", refusal.number() as i64);
 }
 
-pub fn verdict(verdict: Verdict) {
+pub fn verdict(rt: &impl Print, verdict: Verdict) {
     match verdict {
-        Verdict::Accepted => bytes(b"accepted"),
-        Verdict::Refused(why) => refusal(why),
+        Verdict::Accepted => bytes(rt, b"accepted"),
+        Verdict::Refused(why) => refusal(rt, why),
     }
 }
 
-pub fn answer(label: &[u8], answer: ReadAnswer) {
+pub fn answer(rt: &impl Print, label: &[u8], answer: ReadAnswer) {
     match answer {
-        ReadAnswer::Value(value) => decimal(label, integers::wide(value)),
-        ReadAnswer::Refused(why) => refusal(why),
+        ReadAnswer::Value(value) => decimal(rt, label, integers::wide(value)),
+        ReadAnswer::Refused(why) => refusal(rt, why),
     }
 }
 
-pub fn reading(reading: ClockReading) {
+pub fn reading(rt: &impl Print, reading: ClockReading) {
     match reading {
         ClockReading::At(milliseconds) => {
-            io::write_all(1, b"scanned at ");
-            io::print_decimal(1, milliseconds);
-            io::write_all(1, b" ms\n");
+            let _ = println!(rt; "scanned at {milliseconds} ms");
         }
-        ClockReading::None => bytes(b"no scan yet"),
+        ClockReading::None => bytes(rt, b"no scan yet"),
     }
 }

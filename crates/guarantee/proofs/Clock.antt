@@ -1,5 +1,6 @@
 -- The two texts of what a reading is beside the last accepted one; the reading that is remembered is the one that the
 -- accepted calls of the list tell; accepted scans come 30 ms apart or more.
+use Rattle.std.specs.Prelude.{if◌then◌else◌}
 use mathlib.Core.Path.{◌≡◌, refl, sym, ap, ◌∙◌}
 use mathlib.Core.Bool.{Bool, true, false, ◌||◌, false≢true}
 use mathlib.Core.List.{List}
@@ -9,7 +10,6 @@ use Prim.Native.Nat.{ℕ, suc, ◌+◌, ◌-◌, ◌≤◌, ◌<◌}
 use native.Mathlib.Omega.{arith}
 use lib.Dec.{ltb}
 use borrow.Author.Tests.{ltb-true, ltb-false, lt-ltb, le-ltb}
-use Rattle.integers.specs.Choice.{if◌then◌else◌}
 use Rattle.signals.specs.Clock.{is_too_early, is_after_gap}
 use Rattle.signals.specs.Refusals.{refused_by, scan_tests}
 use Rattle.signals.specs.declared.Input.{Input}

@@ -1,7 +1,7 @@
 -- What the exact controller remembers of earlier scans is what the accepted calls of the list tell.
+use Rattle.std.specs.Prelude.{if◌then◌else◌}
 use mathlib.Core.Path.{◌≡◌, refl, ap, ◌∙◌}
 use Prim.Native.Nat.{ℕ}
-use Rattle.integers.specs.Choice.{if◌then◌else◌}
 use Rattle.signals.specs.Refusals.{refused_by, scan_tests}
 use Rattle.signals.specs.Signals.{is_open}
 use Rattle.signals.specs.declared.clock.ClockReading.{ClockReading}

@@ -1,5 +1,6 @@
 -- The two texts of who may write; the stored pins are those that the list tells; a write by someone without the right
 -- changes nothing, so lists lead to the same controllers without such writes.
+use Rattle.std.specs.Prelude.{if◌then◌else◌}
 use mathlib.Core.Path.{◌≡◌, refl, sym, ap, subst, ◌∙◌}
 use mathlib.Core.Bool.{Bool, true, false, not, ◌&&◌, ◌||◌}
 use mathlib.Core.List.{List, [], ◌∷◌, ◌++◌}
@@ -10,7 +11,7 @@ use native.Mathlib.Omega.{arith}
 use lib.Dec.{eqb, leb, ltb}
 use lib.IntN.{ℤ}
 use borrow.Author.Tests.{ne_eqb, lt-leb, ltb-true, ltb-false, le-ltb, not-true}
-use Rattle.integers.specs.Choice.{if◌then◌else◌, both, never}
+use Rattle.integers.specs.Choice.{both, never}
 use Rattle.integers.specs.Listed.{listed, listed_same}
 use Rattle.signals.specs.RefusalLaws.{refused_append, refused_from}
 use Rattle.signals.specs.Refusals.{first_of, refused_by, scan_tests}

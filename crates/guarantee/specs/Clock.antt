@@ -1,7 +1,6 @@
 -- Document 02, request 2, over again: what a reading is beside the last accepted one. Sums here have any size, so
 -- nothing turns over at the end of 64 bits.
-use Rattle.std.specs.Prelude.{Bool, false, ℕ, ◌+◌, ltb}
-use Rattle.integers.specs.Choice.{if◌then◌else◌}
+use Rattle.std.specs.Prelude.{Bool, false, ℕ, ◌+◌, ltb, if◌then◌else◌}
 use Rattle.signals.specs.declared.Input.{Input}
 use Rattle.signals.specs.declared.clock.ClockReading.{ClockReading}
 use Rattle.signals.specs.declared.clock.ClockReading.TheVariants.{None, At}

@@ -2,8 +2,7 @@
 -- clock, the stored pin byte, what is remembered of earlier scans, and demand 3's n, the automatic scans since the
 -- output was last set outright. "In demand 3 the conditions of step 3, the accepted automatic scans and the outright
 -- settings are read from the exact controller."
-use Rattle.std.specs.Prelude.{◌≡◌, Bool, true, false, not, ◌&&◌, ◌||◌, ℕ, ◌+◌, ℤ}
-use Rattle.integers.specs.Choice.{if◌then◌else◌}
+use Rattle.std.specs.Prelude.{◌≡◌, Bool, true, false, not, ◌&&◌, ◌||◌, ℕ, ◌+◌, ℤ, if◌then◌else◌}
 use Rattle.signals.specs.Bits.{bit}
 use Rattle.signals.specs.declared.Input.{Input}
 use Rattle.signals.specs.declared.clock.ClockReading.{ClockReading}

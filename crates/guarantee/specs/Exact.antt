@@ -1,7 +1,6 @@
 -- Document 01, "The exact controller": the same steps and rules, its own copy of every state item, the output a
 -- fraction by its own text, the terms unrounded. It is fed the switch word and the calls, and nothing of ours.
-use Rattle.std.specs.Prelude.{Bool, true, false, List, ℕ, ◌+◌, ℤ, pos}
-use Rattle.integers.specs.Choice.{if◌then◌else◌}
+use Rattle.std.specs.Prelude.{Bool, true, false, List, ℕ, ◌+◌, ℤ, pos, if◌then◌else◌}
 use Rattle.signals.specs.declared.Input.{Input}
 use Rattle.rights.specs.declared.Writer.{Writer}
 use Rattle.terms.specs.Fraction.{Fraction, whole}

@@ -2,9 +2,8 @@
 -- again from step 6, Terms, and the sentences on writes of HO and LO and on restarts, with the clock of document 02:
 -- "The exact controller gets the same clock". Shared with the rules are the types of the state, the bits of a word, the
 -- value of a parameter, and the arithmetic of fractions: a sum, so many whole units, a limiting.
-use Rattle.std.specs.Prelude.{Bool, false, not, ◌&&◌, ◌||◌, List, ℕ, ◌*◌, min, eqb, ℤ, pos, neg_ℤ, nat_abs, ◌+ℤ◌, ◌-ℤ◌, ◌*ℤ◌}
+use Rattle.std.specs.Prelude.{Bool, false, not, ◌&&◌, ◌||◌, List, ℕ, ◌*◌, min, eqb, ℤ, pos, neg_ℤ, nat_abs, ◌+ℤ◌, ◌-ℤ◌, ◌*ℤ◌, if◌then◌else◌}
 use Rattle.std.proofs.Math.Option.{Option, some}
-use Rattle.integers.specs.Choice.{if◌then◌else◌}
 use Rattle.signals.specs.Bits.{bit}
 use Rattle.signals.specs.declared.Input.{Input}
 use Rattle.terms.specs.Fraction.{Fraction, whole, plus, limited}

@@ -1,7 +1,6 @@
 -- Document 01, "The exact controller": "The memory fault stands exactly when the last accepted restart
 -- brought it and no accepted write of MD with bit 8 zero came after that restart."
-use Rattle.std.specs.Prelude.{◌≡◌, Bool, false, not, ◌&&◌, ◌||◌, List, [], ◌∷◌, ℕ, eqb, nat_abs, get_or}
-use Rattle.integers.specs.Choice.{if◌then◌else◌}
+use Rattle.std.specs.Prelude.{◌≡◌, Bool, false, not, ◌&&◌, ◌||◌, List, [], ◌∷◌, ℕ, eqb, nat_abs, get_or, if◌then◌else◌}
 use Rattle.signals.specs.Bits.{bit}
 use Rattle.modes.specs.Modes.{counted}
 use Rattle.controller.specs.declared.Core.{Core}

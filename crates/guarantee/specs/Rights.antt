@@ -1,8 +1,7 @@
 -- Document 02, request 6, over again: who has the right to write a parameter, told by the parameter's number and by the
 -- pin byte that the list tells (`lastPins`, Count.antt). Shared with the rules are the writers and the bits of a byte.
-use Rattle.std.specs.Prelude.{◌≡◌, Bool, true, false, not, ◌&&◌, ◌||◌, List, ℕ, eqb, ltb}
+use Rattle.std.specs.Prelude.{◌≡◌, Bool, true, false, not, ◌&&◌, ◌||◌, List, ℕ, eqb, ltb, if◌then◌else◌}
 use Rattle.std.proofs.Math.Option.{Option, some}
-use Rattle.integers.specs.Choice.{if◌then◌else◌}
 use Rattle.signals.specs.Bits.{bit}
 use Rattle.rights.specs.declared.Writer.{Writer}
 use Rattle.rights.specs.declared.Writer.TheVariants.{Operator, Engineer, Computer}

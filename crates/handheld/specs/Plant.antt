@@ -1,6 +1,5 @@
 -- What comes of a line that is the terminal's, or brings the plant's pins, `pins N`.
-use Rattle.std.specs.Prelude.{List, ◌++◌, ℕ, ◌+◌, ◌-◌, ◌^◌, leb, ltb, length, take, drop}
-use Rattle.integers.specs.Choice.{if◌then◌else◌}
+use Rattle.std.specs.Prelude.{List, ◌++◌, ℕ, ◌+◌, ◌-◌, ◌^◌, leb, ltb, length, take, drop, if◌then◌else◌}
 use Rattle.numerals.specs.Parsed.{number_of}
 use Rattle.numerals.specs.declared.ParsedNumber.{ParsedNumber}
 use Rattle.numerals.specs.declared.ParsedNumber.TheVariants.{Number, Malformed}

@@ -1,6 +1,5 @@
 -- What a run holds from line to line, the controller and who types; and what comes of a line that is typed.
-use Rattle.std.specs.Prelude.{◌≡◌, refl, List, ℕ, ltb, length, take, drop}
-use Rattle.integers.specs.Choice.{if◌then◌else◌}
+use Rattle.std.specs.Prelude.{◌≡◌, refl, List, ℕ, ltb, length, take, drop, if◌then◌else◌}
 use Rattle.rights.specs.declared.Writer.{Writer}
 use Rattle.rights.specs.declared.Writer.TheVariants.{Operator}
 use Rattle.text.specs.Words.{same_bytes}

@@ -11,6 +11,7 @@ ghost use Rattle.controller.specs.Valid.{Valid};
 ghost use Rattle.handheld.specs.Answers.{Answers};
 
 use session::Session;
+use std::io::{Read, Write};
 
 mod ok;
 mod plant;
@@ -42,12 +43,19 @@ fn reply_buffer() -> [u8; 9]
 // Answers a line and appends what is written for it. The contract rules out a controller or a writer other than the
 // line leaves, any bytes but the reply or the refusal's number and name, and an answer that is cut in an output of
 // 65,536 bytes.
-fn line_answer(session: Session, line: &[u8], len: usize, out: &mut [u8], used: usize) -> Answered
+fn line_answer<W: Write>(
+    writer: &mut W,
+    session: Session,
+    line: &[u8],
+    len: usize,
+    out: &mut [u8],
+    used: usize,
+) -> Answered
     requires { Valid session.controller }
     ensures { Valid result.session.controller
         × Answers session result.session (take len line.now) out.old out.new used result.used }
 {
-    let free = lines::room(out, used);
+    let free = lines::room(writer, out, used);
     let end = kept(line, len);
     let mut reply = reply_buffer();
     let result = session::answer(session, &line[0..end], &mut reply);
@@ -61,16 +69,22 @@ fn line_answer(session: Session, line: &[u8], len: usize, out: &mut [u8], used: 
 
 // Answers one line after another to the end of the input. A proved loop must end, so the lines are counted down from a
 // number that no run uses up.
-fn run(input: &mut [u8], line: &mut [u8], out: &mut [u8]) -> usize {
+fn run<R: Read, W: Write>(
+    reader: &mut R,
+    writer: &mut W,
+    input: &mut [u8],
+    line: &mut [u8],
+    out: &mut [u8],
+) -> usize {
     let mut session = session::first();
     let mut place = lines::start();
     let mut turns = u64::MAX;
     while turns > 0 {
-        place = lines::next_line(input, line, out, place);
+        place = lines::next_line(reader, writer, input, line, out, place);
         if !place.complete {
             return place.used;
         }
-        let answered = line_answer(session, line, place.len, out, place.used);
+        let answered = line_answer(writer, session, line, place.len, out, place.used);
         session = answered.session;
         place.used = answered.used;
         turns -= 1;
@@ -85,10 +99,12 @@ fn line_buffer() -> [u8; 301]
     [0; 301]
 }
 
-fn main() {
-    let mut input = io::large_buffer();
+fn main(rt: HostRuntime) {
+    let mut reader = rt.stdin();
+    let mut writer = rt.stdout();
+    let mut input = [0u8; 65536];
     let mut line = line_buffer();
-    let mut out = io::large_buffer();
-    let used = run(&mut input, &mut line, &mut out);
-    lines::flush(&out, used);
+    let mut out = [0u8; 65536];
+    let used = run(&mut reader, &mut writer, &mut input, &mut line, &mut out);
+    lines::flush(&mut writer, &out, used);
 }

@@ -1,7 +1,7 @@
 -- A signed number in a word of 16 bits, "two's complement", and back.
-use Rattle.std.specs.Prelude.{◌≡◌, refl, true, ℕ, ◌-◌, ◌≤◌, ◌<◌, ltb, ℤ, pos, negsuc, nat_abs, ◌-ℤ◌}
+use Rattle.std.specs.Prelude.{◌≡◌, refl, true, ℕ, ◌-◌, ◌≤◌, ◌<◌, ltb, ℤ, pos, negsuc, nat_abs, ◌-ℤ◌, if◌then◌else◌}
 use Rattle.std.proofs.Common.{arith, lt-ltb, le-ltb}
-use Rattle.integers.specs.Choice.{if◌then◌else◌, by_cases}
+use Rattle.integers.specs.Choice.{by_cases}
 use Rattle.integers.specs.Operations.{number, difference}
 use Rattle.integers.specs.Parts.{integers, apart}
 use Rattle.integers.specs.Sign.{is_negative}

@@ -2,9 +2,8 @@
 // nearest whole number. The laws that let `omega` read integers, for the proofs of every crate above, are in specs/.
 #![tactic(auto)]
 
-ghost use Rattle.std.specs.Prelude.{◌≡◌, ◌*◌, ◌<◌, ◌≤◌, pos, nat_abs, ◌+ℤ◌, ◌-ℤ◌, ◌*ℤ◌};
+ghost use Rattle.std.specs.Prelude.{◌≡◌, ◌*◌, ◌<◌, ◌≤◌, pos, nat_abs, ◌+ℤ◌, ◌-ℤ◌, ◌*ℤ◌, if◌then◌else◌};
 ghost use Rattle.std.specs.Int.Signed.{le_z, lt_z, mag};
-ghost use Rattle.integers.specs.Choice.{if◌then◌else◌};
 ghost use Rattle.integers.specs.Machine.{Small};
 ghost use Rattle.integers.specs.Sign.{from_sign, is_negative};
 ghost use Rattle.integers.specs.Limit.{at_least, at_most, limited};

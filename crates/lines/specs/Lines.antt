@@ -1,5 +1,7 @@
 -- Lines of a stream of bytes: a line feed ends each of them.
 use Rattle.std.specs.Prelude.{◌≡◌, Bool, true, false, not, ◌&&◌, ◌||◌, cond, List, [], ◌∷◌, ◌++◌, ℕ, suc, ◌≤◌, eqb, ltb, length, take, drop}
+use Rattle.std.specs.Io.KnownBytes.{Consumes}
+use Rattle.std.specs.Prelude.{Option}
 use Rattle.formatting.specs.Buffer.{buffer, append_all}
 use Rattle.lines.specs.declared.AppendResult.{AppendResult}
 use Rattle.lines.specs.declared.ReaderState.{ReaderState}
@@ -62,15 +64,17 @@ pub record Advanced (input before after : List ℕ) (place r : ReaderState) : Ty
   pub more : r.more ≡ place.more
   pub used : r.used ≡ place.used
 
--- A read hands over some bytes, and nothing is known but how many.
-pub record Refilled (input : List ℕ) (place r : ReaderState) : Type 0 where
+-- A read hands over some bytes: the first of those that the reader had, where they are known.
+pub record Refilled (had left : Option (List ℕ)) (input : List ℕ) (place r : ReaderState) : Type 0 where
   pub count : ℕ
   pub fits : count ≤ length input
+  pub taken : Consumes had left (take count input)
   pub same : r ≡ refilled count place
 
 -- The line goes on with bytes received, up to the first line feed, or to the end of the input.
-pub record Continued (input before after : List ℕ) (place r : ReaderState) : Type 0 where
+pub record Continued (had left : Option (List ℕ)) (input before after : List ℕ) (place r : ReaderState) : Type 0 where
   pub received : List ℕ
+  pub taken : Consumes had left received
   pub filled : buffer after r.len ≡ append_all (buffer before place.len) (line_of received)
   pub complete : r.complete ≡ (has_end received || ltb 0 r.len)
   pub pending : unread input r ≡ rest_of received
@@ -84,9 +88,11 @@ reads input place = not (has_end (unread input place)) && place.more
 -- The next line is made of the bytes that were pending and of those received since: it stands at the front of the line
 -- buffer, cut where the buffer ends, no other byte of which changes, and what follows its line feed is pending. A last
 -- line may lack its line feed. Nothing is read while a line is pending, and before anything is read the output is
--- flushed, so none of it is used.
-pub record NextLine (input₀ input before after : List ℕ) (place r : ReaderState) : Type 0 where
+-- flushed, so none of it is used. Where the bytes that the reader had are known, what was received was the first of
+-- them, and the others are left.
+pub record NextLine (had left : Option (List ℕ)) (input₀ input before after : List ℕ) (place r : ReaderState) : Type 0 where
   pub received : List ℕ
+  pub taken : Consumes had left received
   pub filled : buffer after r.len ≡ append_all (buffer before 0) (line_of (unread input₀ place ++ received))
   pub complete : r.complete ≡ (has_end (unread input₀ place ++ received) || ltb 0 r.len)
   pub pending : unread input r ≡ rest_of (unread input₀ place ++ received)

@@ -1,11 +1,13 @@
-// Lines of standard input, and standard output. The contracts speak of the bytes received: a read hands over any bytes
-// whatever, and nothing is known but how many; what comes of them is stated byte by byte.
+// Lines of a reader, and a writer behind a buffer: in the programs, standard input and standard output. The contracts
+// speak of the bytes received, and state what comes of them byte by byte. Where it is known which bytes a reader has
+// left, as of one over memory, they are those, in their order; of standard input nothing is known but how many.
 #![tactic(auto)]
 
-ghost use Rattle.std.specs.Prelude.{◌≡◌, cond, min, ltb};
+ghost use Rattle.std.specs.Prelude.{◌≡◌, ◌≤◌, cond, min, ltb, length, take};
+ghost use Rattle.std.specs.Io.KnownBytes.{Consumes};
 ghost use Rattle.lines.specs.Lines.{Appended, started, begun, ended, Advanced, Refilled, Continued, NextLine};
 
-use libc::{STDIN_FILENO, STDOUT_FILENO};
+use std::io::{Read, Write};
 
 // Where reading and writing stand: bytes `at` to `end` of the last read are unread, `len` bytes of the line buffer are
 // filled, `complete` says whether they are a line, `more` whether the input goes on, and `used` bytes of the output are
@@ -91,12 +93,22 @@ fn advance(input: &[u8], line: &mut [u8], place: ReaderState) -> ReaderState
     }
 }
 
-// Reads more; at the end of the input, or where it cannot be read, there is no more.
-fn refill(input: &mut [u8], place: ReaderState) -> ReaderState
-    ensures { Refilled input.new place result }
+// How many bytes a read hands over; none where it fails.
+fn received<R: Read>(reader: &mut R, input: &mut [u8]) -> usize
+    ensures fits { result ≤ length input.new }
+    ensures taken { Consumes (R.remaining reader.old) (R.remaining reader.new) (take result input.new) }
 {
-    let got = libc::read(STDIN_FILENO, input);
-    let count = io::count(got, input);
+    match reader.read(input) {
+        Ok(count) => count,
+        Err(_) => 0,
+    }
+}
+
+// Reads more; at the end of the input, or where it cannot be read, there is no more.
+fn refill<R: Read>(reader: &mut R, input: &mut [u8], place: ReaderState) -> ReaderState
+    ensures { Refilled (R.remaining reader.old) (R.remaining reader.new) input.new place result }
+{
+    let count = received(reader, input);
     ReaderState {
         at: 0,
         end: count,
@@ -135,13 +147,19 @@ fn finish(p: ReaderState) -> ReaderState
 
 // Reads on until the line is complete or the input ends. A proved loop must end, so the turns are counted down from a
 // number that no run uses up.
-fn read_on(input: &mut [u8], line: &mut [u8], place: ReaderState) -> ReaderState
-    ensures { Continued input.new line.old line.new place result }
+fn read_on<R: Read>(
+    reader: &mut R,
+    input: &mut [u8],
+    line: &mut [u8],
+    place: ReaderState,
+) -> ReaderState
+    ensures { Continued (R.remaining reader.old) (R.remaining reader.new)
+        input.new line.old line.new place result }
 {
     let mut p = place;
     let mut turns = u64::MAX;
     while turns > 0 {
-        let q = refill(input, p);
+        let q = refill(reader, input, p);
         p = advance(input, line, q);
         if p.complete {
             return p;
@@ -155,43 +173,51 @@ fn read_on(input: &mut [u8], line: &mut [u8], place: ReaderState) -> ReaderState
     finish(p)
 }
 
-// The next line, in the line buffer. Where `complete` is false the input has ended. Of the bytes that
-// were pending and those received the contract rules out a line that is cut or joined with the next, and a byte that is
-// lost. Which bytes a read received no contract can tell.
-pub fn next_line(input: &mut [u8], line: &mut [u8], out: &[u8], place: ReaderState) -> ReaderState
-    ensures { NextLine input.old input.new line.old line.new place result }
+// The next line, in the line buffer. Where `complete` is false the input has ended. Of the bytes that were pending and
+// those received the contract rules out a line that is cut or joined with the next, and a byte that is lost. Which bytes
+// were received it tells of a reader whose bytes are known; of standard input no contract can.
+pub fn next_line<R: Read, W: Write>(
+    reader: &mut R,
+    writer: &mut W,
+    input: &mut [u8],
+    line: &mut [u8],
+    out: &[u8],
+    place: ReaderState,
+) -> ReaderState
+    ensures { NextLine (R.remaining reader.old) (R.remaining reader.new)
+        input.old input.new line.old line.new place result }
 {
     let mut p = advance(input, line, begin(place));
     if p.complete {
         return p;
     }
     if p.more {
-        p.used = flush(out, p.used);
-        return read_on(input, line, p);
+        p.used = flush(writer, out, p.used);
+        return read_on(reader, input, line, p);
     }
     finish(p)
 }
 
-// ---- standard output
+// ---- the output
 
 // Writes what is used of the output; none of it is used afterwards. What was written no contract can tell, and a failed
 // write is not told apart.
-pub fn flush(out: &[u8], used: usize) -> usize
+pub fn flush<W: Write>(writer: &mut W, out: &[u8], used: usize) -> usize
     ensures { result ≡ 0 }
 {
     if used <= out.len() {
-        io::write_all(STDOUT_FILENO, &out[0..used]);
+        let _ = writer.write_all(&out[0..used]);
     }
     0
 }
 
 // Room for one more answer, which is far below 1,000 bytes: flushes where 64,000 are used. The contract rules out a
 // count that goes on where the output was written.
-pub fn room(out: &[u8], used: usize) -> usize
+pub fn room<W: Write>(writer: &mut W, out: &[u8], used: usize) -> usize
     ensures { result ≡ cond (ltb 64000 used) 0 used }
 {
     if 64000 < used {
-        return flush(out, used);
+        return flush(writer, out, used);
     }
     used
 }

@@ -1,7 +1,6 @@
 -- Document 01, One scan: the local setpoint SL and the ratio setpoint RS. Step 4: moved by hand; SL that tracks PV.
 -- Step 5: SL that follows SP.
-use Rattle.std.specs.Prelude.{Bool, not, ◌&&◌, ℤ, pos, ◌+ℤ◌, ◌-ℤ◌}
-use Rattle.integers.specs.Choice.{if◌then◌else◌}
+use Rattle.std.specs.Prelude.{Bool, not, ◌&&◌, ℤ, pos, ◌+ℤ◌, ◌-ℤ◌, if◌then◌else◌}
 use Rattle.integers.specs.Limit.{limited}
 use Rattle.signals.specs.Signals.{buttons_of, adjustment_of, is_open}
 use Rattle.signals.specs.declared.Input.{Input}

@@ -1,8 +1,8 @@
 -- Parameters are small enough to be moved; SL and RS stay within their limits.
-use Rattle.std.specs.Prelude.{Bool, ◌&&◌, ℕ, ◌≤◌, ℤ, pos, ◌+ℤ◌, ◌-ℤ◌, ◌≤ℤ◌}
+use Rattle.std.specs.Prelude.{Bool, ◌&&◌, ℕ, ◌≤◌, ℤ, pos, ◌+ℤ◌, ◌-ℤ◌, ◌≤ℤ◌, if◌then◌else◌}
 use Rattle.std.proofs.Math.Bool.{not}
 use Rattle.std.proofs.Common.{arith}
-use Rattle.integers.specs.Choice.{if◌then◌else◌, by_cases}
+use Rattle.integers.specs.Choice.{by_cases}
 use Rattle.integers.specs.Limit.{limited, limited_low, limited_high}
 use Rattle.integers.specs.Machine.{Small}
 use Rattle.signals.specs.Signals.{buttons_of, adjustment_of, is_open}

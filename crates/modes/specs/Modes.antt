@@ -1,7 +1,6 @@
 -- Document 01, One scan, steps 2 and 3: causes, the request and the mode. Mode and cause "always follow the present
 -- state".
-use Rattle.std.specs.Prelude.{Bool, false, not, ◌&&◌, ◌||◌, List, [], ◌∷◌, ℕ, ◌+◌, min, eqb, leb}
-use Rattle.integers.specs.Choice.{if◌then◌else◌}
+use Rattle.std.specs.Prelude.{Bool, false, not, ◌&&◌, ◌||◌, List, [], ◌∷◌, ℕ, ◌+◌, min, eqb, leb, if◌then◌else◌}
 use Rattle.signals.specs.Signals.{pins_of, buttons_of, is_open}
 use Rattle.signals.specs.declared.Buttons.{Buttons}
 use Rattle.signals.specs.declared.Input.{Input}

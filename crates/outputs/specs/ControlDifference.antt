@@ -1,6 +1,5 @@
 -- Document 01, Terms: c, c1, W and D, of which the terms are made.
-use Rattle.std.specs.Prelude.{Bool, not, ◌&&◌, ℤ, pos, nat_abs, ◌+ℤ◌, ◌-ℤ◌, ◌*ℤ◌}
-use Rattle.integers.specs.Choice.{if◌then◌else◌}
+use Rattle.std.specs.Prelude.{Bool, not, ◌&&◌, ℤ, pos, nat_abs, ◌+ℤ◌, ◌-ℤ◌, ◌*ℤ◌, if◌then◌else◌}
 use Rattle.terms.specs.declared.Tuning.{Tuning}
 use Rattle.signals.specs.declared.Switches.{Switches}
 use Rattle.modes.specs.Modes.{is_auto_or_fallback}

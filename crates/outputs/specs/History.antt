@@ -1,7 +1,6 @@
 -- Document 01, One scan, step 7, and Terms, and document 02, request 2: what is remembered of earlier scans, and what a
 -- forgotten value counts as.
-use Rattle.std.specs.Prelude.{Bool}
-use Rattle.integers.specs.Choice.{if◌then◌else◌}
+use Rattle.std.specs.Prelude.{Bool, if◌then◌else◌}
 use Rattle.setpoints.specs.declared.Readings.{Readings}
 use Rattle.outputs.specs.declared.History.{History}
 use Rattle.outputs.specs.declared.History.TheVariants.{Nothing, One, Two}

@@ -1,6 +1,5 @@
 -- Document 01: what a call does to the output. One scan, step 6, in each mode; a write; a restart.
-use Rattle.std.specs.Prelude.{Bool, ℕ, min, ℤ, pos, neg_ℤ}
-use Rattle.integers.specs.Choice.{if◌then◌else◌}
+use Rattle.std.specs.Prelude.{Bool, ℕ, min, ℤ, pos, neg_ℤ, if◌then◌else◌}
 use Rattle.signals.specs.Signals.{buttons_of, adjustment_of, is_open}
 use Rattle.signals.specs.declared.Adjustment.{Adjustment}
 use Rattle.signals.specs.declared.Adjustment.TheVariants.{Raise, Lower, Neither}

@@ -1,13 +1,13 @@
 -- The defaults are legal, a setpoint and a ratio within their limits keep parameters legal, and what
 -- legal parameters satisfy.
-use Rattle.std.specs.Prelude.{◌≡◌, Bool, true, false, ◌&&◌, ℕ, ◌≤◌, ◌<◌, ltb, ℤ, pos, neg_ℤ, nat_abs, length, get_or, set, ◌≤ℤ◌, ◌<ℤ◌}
+use Rattle.std.specs.Prelude.{◌≡◌, Bool, true, false, ◌&&◌, ℕ, ◌≤◌, ◌<◌, ltb, ℤ, pos, neg_ℤ, nat_abs, length, get_or, set, ◌≤ℤ◌, ◌<ℤ◌, if◌then◌else◌}
 use Rattle.std.proofs.Math.Path.{refl, ap}
 use Rattle.std.proofs.Common.{sym, ◌∙◌, subst, arith, get_or-set_same, get_or-set_other}
 use Rattle.std.proofs.Math.Dec.{eqb}
 use Rattle.std.proofs.Math.ListN.{length-set}
 use Rattle.std.specs.Int.Signed.{le_z, lt_z}
 use borrow.Author.Tests.{eqb-true, eqb-false, eq-eqb, ne_eqb, ltb-true, ltb-false}
-use Rattle.integers.specs.Choice.{if◌then◌else◌, by_cases, never, both}
+use Rattle.integers.specs.Choice.{by_cases, never, both}
 use Rattle.integers.specs.Limit.{limited, limited_low, limited_high}
 use Rattle.integers.specs.Listed.{listed, listed_same}
 use Rattle.integers.specs.Operations.{number}

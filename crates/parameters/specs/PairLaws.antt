@@ -1,9 +1,9 @@
 -- The rows of the table but those of SL and RS: the two that the row of a pair names, and what a row's answer
 -- depends on.
-use Rattle.std.specs.Prelude.{◌≡◌, refl, Bool, true, false, not, ◌&&◌, ◌||◌, ℕ, ◌+◌, ◌≤◌, ◌<◌, eqb, leb, ℤ}
+use Rattle.std.specs.Prelude.{◌≡◌, refl, Bool, true, false, not, ◌&&◌, ◌||◌, ℕ, ◌+◌, ◌≤◌, ◌<◌, eqb, leb, ℤ, if◌then◌else◌}
 use Rattle.std.proofs.Common.{ap, arith, eqb-true, leb-true, leb-false}
 use Rattle.std.proofs.lemmas.Bool.{eqb-false, not-true}
-use Rattle.integers.specs.Choice.{if◌then◌else◌, never, both}
+use Rattle.integers.specs.Choice.{never, both}
 use Rattle.integers.specs.Listed.{listed, listed_same}
 use Rattle.parameters.specs.Legal.{keeps, in_order, pair_in_order}
 use Rattle.parameters.specs.Table.{rule_of}

@@ -1,6 +1,5 @@
 -- Document 01, "The image": what an accepted restart makes of parameters 1 to 23 under a wrong sumcheck.
-use Rattle.std.specs.Prelude.{◌||◌, ℕ, eqb, ℤ, pos}
-use Rattle.integers.specs.Choice.{if◌then◌else◌}
+use Rattle.std.specs.Prelude.{◌||◌, ℕ, eqb, ℤ, pos, if◌then◌else◌}
 use Rattle.integers.specs.Listed.{listed}
 use Rattle.parameters.specs.Legal.{in_range, pair_in_order}
 use Rattle.parameters.specs.Table.{value, with_value, rule_of, defaults}

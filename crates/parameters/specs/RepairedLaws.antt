@@ -1,9 +1,9 @@
 -- Parameters that passed every row's test are legal, and repaired parameters are legal whatever the image holds.
-use Rattle.std.specs.Prelude.{◌≡◌, Bool, true, false, ◌&&◌, ℕ, ◌≤◌, ◌<◌, ℤ, pos, neg_ℤ, length}
+use Rattle.std.specs.Prelude.{◌≡◌, Bool, true, false, ◌&&◌, ℕ, ◌≤◌, ◌<◌, ℤ, pos, neg_ℤ, length, if◌then◌else◌}
 use Rattle.std.proofs.Math.Path.{refl}
 use Rattle.std.proofs.Common.{ap, subst, ◌∙◌, zero-add, arith, length-set}
 use borrow.Author.Tests.{ne_eqb}
-use Rattle.integers.specs.Choice.{if◌then◌else◌, by_cases, never, both}
+use Rattle.integers.specs.Choice.{by_cases, never, both}
 use Rattle.integers.specs.Listed.{listed, listed_length, listed_at}
 use Rattle.parameters.specs.Legal.{is_within, in_order, in_range, pair_in_order, keeps, are_legal, Legal}
 use Rattle.parameters.specs.LegalLaws.{defaults_legal, value_with, and_true, legal_by, anew_size, anew_other, anew_value, limited_row}

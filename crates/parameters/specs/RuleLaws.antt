@@ -1,9 +1,9 @@
 -- The rows of the table: numbers of one row have one rule, beyond 32 there is none, and which numbers can be written.
-use Rattle.std.specs.Prelude.{◌≡◌, refl, Bool, true, false, ◌||◌, ℕ, ◌+◌, ◌≤◌, ◌<◌, eqb, leb, ltb}
+use Rattle.std.specs.Prelude.{◌≡◌, refl, Bool, true, false, ◌||◌, ℕ, ◌+◌, ◌≤◌, ◌<◌, eqb, leb, ltb, if◌then◌else◌}
 use Rattle.std.proofs.Common.{sym, ap, ◌∙◌, subst, arith, le-leb, leb-true, eqb-true, ltb-true, ltb-false}
 use Rattle.std.proofs.Math.Option.{some, none}
 use Rattle.std.proofs.lemmas.Bool.{lt-leb, eqb-false}
-use Rattle.integers.specs.Choice.{if◌then◌else◌, never}
+use Rattle.integers.specs.Choice.{never}
 use Rattle.integers.specs.Listed.{listed, listed_same}
 use Rattle.signals.specs.Refusals.{number_of}
 use Rattle.signals.specs.declared.Refusal.TheVariants as refusal

@@ -1,6 +1,5 @@
 -- Document 01, "Parameters": the table of numbers, ranges and defaults.
-use Rattle.std.specs.Prelude.{Bool, true, false, ◌&&◌, List, [], ◌∷◌, ℕ, leb, ℤ, pos, neg_ℤ, get_or, set}
-use Rattle.integers.specs.Choice.{if◌then◌else◌}
+use Rattle.std.specs.Prelude.{Bool, true, false, ◌&&◌, List, [], ◌∷◌, ℕ, leb, ℤ, pos, neg_ℤ, get_or, set, if◌then◌else◌}
 use Rattle.signals.specs.declared.Refusal.TheVariants as refusal
 use Rattle.parameters.specs.declared.Parameters.{Parameters}
 use Rattle.parameters.specs.declared.Rule.{Rule}

@@ -1,6 +1,5 @@
 -- Document 01, "Parameters": what an accepted write does to parameters 1 to 23.
-use Rattle.std.specs.Prelude.{ℕ, ℤ}
-use Rattle.integers.specs.Choice.{if◌then◌else◌}
+use Rattle.std.specs.Prelude.{ℕ, ℤ, if◌then◌else◌}
 use Rattle.integers.specs.Limit.{limited}
 use Rattle.parameters.specs.Table.{value, with_value, is_from}
 use Rattle.parameters.specs.declared.Parameters.{Parameters}

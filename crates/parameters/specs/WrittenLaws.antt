@@ -1,5 +1,5 @@
 -- A write whose value is in range and in order leaves the parameters legal.
-use Rattle.std.specs.Prelude.{◌≡◌, Bool, ◌&&◌, ℕ, ◌≤◌, ℤ, length}
+use Rattle.std.specs.Prelude.{◌≡◌, Bool, ◌&&◌, ℕ, ◌≤◌, ℤ, length, if◌then◌else◌}
 use Rattle.std.proofs.Math.Path.{refl, subst}
 use Rattle.std.proofs.Common.{sym, ap, ◌∙◌, arith}
 use Rattle.std.proofs.Math.Bool.{true, false}
@@ -7,7 +7,7 @@ use Rattle.std.proofs.Math.Dec.{eqb}
 use Rattle.std.proofs.Math.ListN.{length-set}
 use Rattle.std.specs.Int.Signed.{le_z}
 use borrow.Author.Tests.{eqb-true, eqb-false, eq-eqb, ne_eqb}
-use Rattle.integers.specs.Choice.{if◌then◌else◌, by_cases, never, both}
+use Rattle.integers.specs.Choice.{by_cases, never, both}
 use Rattle.integers.specs.Limit.{limited}
 use Rattle.parameters.specs.Legal.{Legal, keeps, in_order, in_range, pair_in_order, is_within}
 use Rattle.parameters.specs.LegalLaws.{changed, value_with, and_true, legal_by, anew_size, anew_other, anew_value, limited_row}

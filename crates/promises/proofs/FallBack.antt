@@ -1,4 +1,5 @@
 -- A scan in Fall-back straight after one in Remote has its SP.
+use Rattle.std.specs.Prelude.{if◌then◌else◌}
 use mathlib.Core.Path.{◌≡◌, refl, sym, ap, subst, ◌∙◌}
 use mathlib.Core.Bool.{Bool, true, false, not, ◌&&◌}
 use mathlib.Core.List.{List, [], ◌∷◌}
@@ -7,7 +8,7 @@ use Prim.Native.Nat.{ℕ}
 use native.Mathlib.Omega.{arith}
 use lib.IntN.{ℤ, pos, ◌+ℤ◌, ◌-ℤ◌}
 use lib.Signed.{◌≤ℤ◌}
-use Rattle.integers.specs.Choice.{if◌then◌else◌, never}
+use Rattle.integers.specs.Choice.{never}
 use Rattle.integers.specs.Limit.{limited}
 use Rattle.integers.specs.Operations.{sum, difference}
 use Rattle.integers.specs.Parts.{integers}

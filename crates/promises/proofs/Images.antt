@@ -1,4 +1,5 @@
 -- The promises of images.
+use Rattle.std.specs.Prelude.{if◌then◌else◌}
 use mathlib.Core.Path.{◌≡◌, refl, sym, ap, subst, ◌∙◌}
 use mathlib.Core.Bool.{Bool, true, false, not, ◌||◌}
 use mathlib.Core.List.{List, ◌++◌}
@@ -11,7 +12,7 @@ use lib.ListN.{length, get_or, take, drop}
 use lib.Seq.{drop_at, take_at}
 use lib.Signed.{◌≤ℤ◌}
 use borrow.Author.Tests.{le-leb, le-ltb, ltb-false}
-use Rattle.integers.specs.Choice.{if◌then◌else◌, by_cases, never}
+use Rattle.integers.specs.Choice.{by_cases, never}
 use Rattle.integers.specs.Listed.{listed}
 use Rattle.integers.specs.Operations.{difference}
 use Rattle.integers.specs.Parts.{integers}

@@ -1,4 +1,5 @@
 -- An image by the places of its bytes: what the rules decode of it is what stands there.
+use Rattle.std.specs.Prelude.{if◌then◌else◌}
 use mathlib.Core.Path.{◌≡◌, refl, sym, ap, subst, ◌∙◌}
 use mathlib.Core.Bool.{Bool, true, false, ◌&&◌}
 use mathlib.Core.List.{List}
@@ -10,7 +11,6 @@ use lib.IntN.{ℤ, pos}
 use lib.ListN.{get_or, drop}
 use lib.Seq.{get_or-drop, ext_get_or}
 use borrow.Author.Tests.{lt-ltb, eqb-false}
-use Rattle.integers.specs.Choice.{if◌then◌else◌}
 use Rattle.integers.specs.Listed.{listed, listed_at, listed_length, listed_same}
 use Rattle.integers.specs.TwosComplement.{from_word}
 use Rattle.fields.specs.Decoding.{has_header, well_formed_from, value_in, values_from}

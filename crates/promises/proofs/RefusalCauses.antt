@@ -1,4 +1,5 @@
 -- A call is refused for its listed causes, and for no other.
+use Rattle.std.specs.Prelude.{if◌then◌else◌}
 use mathlib.Core.Path.{◌≡◌, refl, sym, ap, subst, ◌∙◌}
 use mathlib.Core.Bool.{Bool, true, false, not, ◌&&◌, ◌||◌}
 use mathlib.Core.List.{List, [], ◌∷◌}
@@ -9,7 +10,7 @@ use lib.Dec.{eqb, ltb}
 use lib.IntN.{ℤ, pos, nat_abs}
 use lib.Signed.{le_z}
 use borrow.Author.Tests.{eqb-true, ne_eqb, le-ltb}
-use Rattle.integers.specs.Choice.{if◌then◌else◌, both, never}
+use Rattle.integers.specs.Choice.{both, never}
 use Rattle.integers.specs.Operations as operations
 use Rattle.integers.specs.Parts.{integers, apart}
 use Rattle.integers.specs.Listed.{listed, listed_same}

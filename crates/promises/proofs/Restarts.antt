@@ -1,4 +1,5 @@
 -- What a fresh start leaves, what a restart answers and leaves, and what a right and a wrong sumcheck bring.
+use Rattle.std.specs.Prelude.{if◌then◌else◌}
 use mathlib.Core.Path.{◌≡◌, refl, sym, ap, subst, ◌∙◌}
 use mathlib.Core.Bool.{Bool, true, false, not, ◌&&◌, ◌||◌}
 use mathlib.Core.List.{List}
@@ -8,7 +9,7 @@ use native.Mathlib.Omega.{arith}
 use lib.Dec.{leb, eqb}
 use lib.IntN.{ℤ, pos, ◌*ℤ◌}
 use lib.ListN.{length, get_or}
-use Rattle.integers.specs.Choice.{if◌then◌else◌, both, never}
+use Rattle.integers.specs.Choice.{both, never}
 use Rattle.integers.specs.Listed.{listed, listed_same}
 use Rattle.signals.specs.Bits.{bit}
 use Rattle.signals.specs.Refusals.{refused_by}

@@ -1,4 +1,5 @@
 -- Quotients by how near they are, and the setpoints that steps 4 and 5 choose, mode by mode.
+use Rattle.std.specs.Prelude.{if◌then◌else◌}
 use mathlib.Core.Path.{◌≡◌, refl, sym, ap, ◌∙◌}
 use mathlib.Core.Bool.{Bool, true, false, not, ◌&&◌}
 use mathlib.Core.Option.{Option, some, none}
@@ -6,7 +7,7 @@ use Prim.Native.Nat.{ℕ, suc, ◌+◌, ◌*◌, ◌<◌, ◌≤◌}
 use native.Mathlib.Nat.{le_antisymm, mul-le-mul_right}
 use native.Mathlib.Omega.{arith, by_contra}
 use lib.IntN.{ℤ, pos, nat_abs, ◌+ℤ◌, ◌-ℤ◌, ◌*ℤ◌}
-use Rattle.integers.specs.Choice.{if◌then◌else◌, never}
+use Rattle.integers.specs.Choice.{never}
 use Rattle.integers.specs.Limit.{limited}
 use Rattle.integers.specs.Operations.{number}
 use Rattle.integers.specs.Parts.{above, below, to_≡}

@@ -1,9 +1,9 @@
 -- Our own stored output after an accepted scan is what step 6 says.
+use Rattle.std.specs.Prelude.{if◌then◌else◌}
 use mathlib.Core.Path.{◌≡◌, refl, sym, subst, ◌∙◌}
 use mathlib.Core.Bool.{Bool, true, false, not, ◌&&◌}
 use mathlib.Core.Option.{some, none}
 use lib.IntN.{ℤ, pos, neg_ℤ, ◌+ℤ◌, ◌*ℤ◌}
-use Rattle.integers.specs.Choice.{if◌then◌else◌}
 use Rattle.signals.specs.Bits.{bit}
 use Rattle.signals.specs.Refusals.{refused_by, scan_tests}
 use Rattle.signals.specs.Signals.{switches_of, buttons_of, adjustment_of}

@@ -1,4 +1,5 @@
 -- What an accepted write leaves is what the sentences say.
+use Rattle.std.specs.Prelude.{if◌then◌else◌}
 use mathlib.Core.Path.{◌≡◌, refl, sym, subst, ◌∙◌}
 use mathlib.Core.Bool.{Bool, true, false, ◌&&◌, ◌||◌}
 use mathlib.Core.Option.{none}
@@ -8,7 +9,6 @@ use lib.Dec.{eqb, leb}
 use lib.IntN.{ℤ, pos, nat_abs, ◌*ℤ◌}
 use lib.Signed.{le_z}
 use borrow.Author.Tests.{eqb-true, eqb-false, ne_eqb, le-leb}
-use Rattle.integers.specs.Choice.{if◌then◌else◌}
 use Rattle.integers.specs.Limit.{limited}
 use Rattle.modes.specs.declared.Conditions.{Conditions}
 use Rattle.words.specs.Written.{conditions_written, power_written, user_bits_written}

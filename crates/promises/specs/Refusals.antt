@@ -2,9 +2,8 @@
 -- calls; of a write the order in which document 02 puts 19 and 20 among the others. The tests of each call are the
 -- rules' own lists: what is stated here is which of the tests that hold gives the number. A read has one test, that of
 -- number 4, so nothing has to be said of it.
-use Rattle.std.specs.Prelude.{Bool, List, [], ◌∷◌, ℕ, suc, ◌≤◌, eqb, ℤ}
+use Rattle.std.specs.Prelude.{Bool, List, [], ◌∷◌, ℕ, suc, ◌≤◌, eqb, ℤ, if◌then◌else◌}
 use Rattle.std.proofs.Math.Option.{Option, some, none}
-use Rattle.integers.specs.Choice.{if◌then◌else◌}
 use Rattle.signals.specs.RefusalLaws.{Holds, by_number}
 use Rattle.signals.specs.Refusals.{scan_tests}
 use Rattle.signals.specs.declared.Input.{Input}

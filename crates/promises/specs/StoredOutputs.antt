@@ -1,9 +1,8 @@
 -- Document 01, One scan, step 6, and Terms: our own stored output after one accepted scan, told from the stored
 -- output before it. The three exact terms and what goes to minimum are the claim's own text (ExactOutput.antt).
 -- Shared with the rules are the types of the state, the value of a parameter, and the words of Shared.antt (guarantee).
-use Rattle.std.specs.Prelude.{◌≡◌, Bool, true, false, not, ◌&&◌, min, eqb, ℤ, pos, neg_ℤ, ◌+ℤ◌, ◌*ℤ◌}
+use Rattle.std.specs.Prelude.{◌≡◌, Bool, true, false, not, ◌&&◌, min, eqb, ℤ, pos, neg_ℤ, ◌+ℤ◌, ◌*ℤ◌, if◌then◌else◌}
 use Rattle.std.proofs.Math.Option.{Option, some, none}
-use Rattle.integers.specs.Choice.{if◌then◌else◌}
 use Rattle.integers.specs.Limit.{limited}
 use Rattle.signals.specs.Bits.{bit}
 use Rattle.signals.specs.declared.Input.{Input}

@@ -1,8 +1,7 @@
 -- Document 01, "Parameters" and "Words": what an accepted write leaves, told item by item. Shared with the rules are
 -- the types of the state, the bits of a word, the value of a parameter, and `limited`.
-use Rattle.std.specs.Prelude.{◌≡◌, not, ◌&&◌, ◌||◌, ℕ, eqb, leb, ℤ, pos, nat_abs, ◌*ℤ◌}
+use Rattle.std.specs.Prelude.{◌≡◌, not, ◌&&◌, ◌||◌, ℕ, eqb, leb, ℤ, pos, nat_abs, ◌*ℤ◌, if◌then◌else◌}
 use Rattle.std.proofs.Math.Option.{none}
-use Rattle.integers.specs.Choice.{if◌then◌else◌}
 use Rattle.integers.specs.Limit.{limited}
 use Rattle.signals.specs.Bits.{bit}
 use Rattle.modes.specs.declared.Request.TheVariants.{Manual, Auto, Remote}

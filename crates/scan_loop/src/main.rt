@@ -1,6 +1,6 @@
 // A host's loop, in which every call that returns a controller or a sheet is made; both stand in a struct. What is done
 // in a turn stands in functions whose contracts say that both are Valid before and after it. They need no proof file;
-// the loop alone has one (proofs/dry/Proof.antt).
+// the loop alone has one (proofs/dry/Invariants.antt).
 #![tactic(auto)]
 
 ghost use Rattle.controller.specs.Valid.{Valid};
@@ -120,19 +120,19 @@ fn dry(turns: u64) -> Dryer
     dryer
 }
 
-fn print(number: u64) {
-    io::print_decimal(1, number);
-    io::write_all(1, b"\n");
+// A failed write is not told apart.
+fn print(rt: &impl Print, number: u64) {
+    let _ = println!(rt; "{number}");
 }
 
 // OP and the scans of the sheet after a hundred turns.
-fn main() {
+fn main(rt: HostRuntime) {
     let dryer = dry(100);
     let controller = dryer.controller;
     match controller.read(parameters::OP) {
-        ReadAnswer::Value(op) => print(integers::magnitude(integers::wide(op))),
-        ReadAnswer::Refused(refusal) => print(refusal.number() as u64),
+        ReadAnswer::Value(op) => print(&rt, integers::magnitude(integers::wide(op))),
+        ReadAnswer::Refused(refusal) => print(&rt, refusal.number() as u64),
     }
     let sheet = dryer.sheet;
-    print(sheet.scans() as u64);
+    print(&rt, sheet.scans() as u64);
 }

@@ -1,10 +1,10 @@
 -- How large the readings are, that SP comes within its limits, and that the parameters stay legal.
-use Rattle.std.specs.Prelude.{◌≡◌, Bool, true, ◌||◌, ℕ, ◌≤◌, eqb, ℤ, pos, neg_ℤ, nat_abs, ◌-ℤ◌, ◌≤ℤ◌, ◌<ℤ◌}
+use Rattle.std.specs.Prelude.{◌≡◌, Bool, true, ◌||◌, ℕ, ◌≤◌, eqb, ℤ, pos, neg_ℤ, nat_abs, ◌-ℤ◌, ◌≤ℤ◌, ◌<ℤ◌, if◌then◌else◌}
 use native.Mathlib.Omega.{arith}
 use Rattle.std.specs.Int.Signed.{le_z}
 use Rattle.std.specs.Int.{w64}
 use Rattle.std.proofs.Common.{to_z, of_z}
-use Rattle.integers.specs.Choice.{if◌then◌else◌, by_cases}
+use Rattle.integers.specs.Choice.{by_cases}
 use Rattle.integers.specs.Limit.{limited}
 use Rattle.integers.specs.Machine.{Small, back}
 use Rattle.integers.specs.Operations.{number, sum, difference, negation}

@@ -1,6 +1,5 @@
 -- Document 01, One scan, steps 1 and 5: PV, trim and SP.
-use Rattle.std.specs.Prelude.{Bool, ◌||◌, ℕ, eqb, ℤ, pos, nat_abs, ◌+ℤ◌}
-use Rattle.integers.specs.Choice.{if◌then◌else◌}
+use Rattle.std.specs.Prelude.{Bool, ◌||◌, ℕ, eqb, ℤ, pos, nat_abs, ◌+ℤ◌, if◌then◌else◌}
 use Rattle.integers.specs.Limit.{limited}
 use Rattle.scaling.specs.Ratio.{ratio_quotient, inverse_quotient}
 use Rattle.scaling.specs.Root.{root_of}

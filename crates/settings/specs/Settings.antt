@@ -1,6 +1,5 @@
 -- Document 01, "The image": what each field holds, and what is legal.
-use Rattle.std.specs.Prelude.{Bool, ◌&&◌, ◌||◌, List, ℕ, ◌+◌, ◌-◌, ltb, leb, eqb, ℤ, pos, get_or, take}
-use Rattle.integers.specs.Choice.{if◌then◌else◌}
+use Rattle.std.specs.Prelude.{Bool, ◌&&◌, ◌||◌, List, ℕ, ◌+◌, ◌-◌, ltb, leb, eqb, ℤ, pos, get_or, take, if◌then◌else◌}
 use Rattle.integers.specs.Listed.{listed}
 use Rattle.integers.specs.TwosComplement.{as_word, from_word}
 use Rattle.signals.specs.Bits.{bit}

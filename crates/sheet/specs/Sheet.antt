@@ -1,8 +1,7 @@
 -- Document 02, request 1: an empty sheet, and what a sheet holds after one more answer. What it comes to over a list of
 -- answers is said apart (sheet_guarantee/specs/Meaning.antt).
-use Rattle.std.specs.Prelude.{Bool, not, ◌||◌, List, [], ◌∷◌, ℕ, ◌+◌, leb, ℤ, pos, ◌+ℤ◌, get_or, set}
+use Rattle.std.specs.Prelude.{Bool, not, ◌||◌, List, [], ◌∷◌, ℕ, ◌+◌, leb, ℤ, pos, ◌+ℤ◌, get_or, set, if◌then◌else◌}
 use Rattle.std.specs.Int.Signed.{lt_z}
-use Rattle.integers.specs.Choice.{if◌then◌else◌}
 use Rattle.signals.specs.Bits.{bit}
 use Rattle.modes.specs.declared.Mode.{Mode}
 use Rattle.modes.specs.declared.Mode.TheVariants as mode

@@ -1,4 +1,5 @@
 -- The claim: over the contracts, after every list of answers.
+use Rattle.std.specs.Prelude.{if◌then◌else◌}
 use mathlib.Core.Bool.{Bool, true, false}
 use mathlib.Core.Path.{◌≡◌, refl, sym, ap, subst, ◌∙◌}
 use mathlib.Core.List.{List, [], ◌∷◌}
@@ -7,7 +8,7 @@ use native.Mathlib.Omega.{arith}
 use lib.Dec.{eqb, leb}
 use lib.ListN.{get_or}
 use borrow.Author.Tests.{leb-true, leb-false, eq-eqb, ne_eqb}
-use Rattle.integers.specs.Choice.{if◌then◌else◌, by_cases, never}
+use Rattle.integers.specs.Choice.{by_cases, never}
 use Rattle.answers.specs.declared.ScanValues.{ScanValues}
 use Rattle.sheet.specs.EnteredLaws.{parts, empty_valid, entered_valid}
 use Rattle.sheet.specs.Sheet as rules

@@ -1,5 +1,6 @@
 -- For given extremes, how high and how low the PV of each number can be, and that the sums of these are the bounds by
 -- which a kept sum is tested.
+use Rattle.std.specs.Prelude.{if◌then◌else◌}
 use mathlib.Core.Path.{◌≡◌, refl, ap, ◌∙◌}
 use mathlib.Core.Bool.{Bool, true, false}
 use Prim.Native.Nat.{ℕ, zero, suc, ◌+◌, ◌-◌, ◌≤◌, ◌<◌, min}
@@ -7,7 +8,7 @@ use native.Mathlib.Omega.{arith}
 use lib.Dec.{eqb, ltb}
 use lib.IntN.{ℤ, pos, ◌+ℤ◌, ◌-ℤ◌}
 use borrow.Author.Tests.{eqb-true, eqb-false, ltb-true, ltb-false}
-use Rattle.integers.specs.Choice.{if◌then◌else◌, by_cases}
+use Rattle.integers.specs.Choice.{by_cases}
 use Rattle.integers.specs.Operations.{sum, difference}
 use Rattle.integers.specs.Parts.{integers}
 use Rattle.sheet.specs.SumLaws.{reach, lowered, raised}

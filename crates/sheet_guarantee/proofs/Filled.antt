@@ -1,4 +1,5 @@
 -- Answers that give the values of a valid sheet: one after another, each as far from the end as the sums allow.
+use Rattle.std.specs.Prelude.{if◌then◌else◌}
 use mathlib.Core.Path.{◌≡◌, refl, sym, ap, subst, ◌∙◌}
 use mathlib.Core.Bool.{Bool, true, false, not, ◌&&◌}
 use mathlib.Core.List.{List, [], ◌∷◌}
@@ -10,7 +11,7 @@ use lib.ListN.{length, get_or, set, length-set}
 use lib.Seq.{get_or-set_same, get_or-set_other}
 use lib.Signed.{lt_z, ◌≤ℤ◌}
 use borrow.Author.Tests.{eqb-true, eqb-false}
-use Rattle.integers.specs.Choice.{if◌then◌else◌, by_cases}
+use Rattle.integers.specs.Choice.{by_cases}
 use Rattle.integers.specs.Operations.{sum, difference}
 use Rattle.integers.specs.Parts.{integers}
 use Rattle.signals.specs.Bits.{bit}

@@ -1,4 +1,5 @@
 -- What the farthest PVs of each number leave room for: they are in order, and an extreme comes first at its number.
+use Rattle.std.specs.Prelude.{if◌then◌else◌}
 use mathlib.Core.Logic.{◌⊎◌, inl, inr}
 use mathlib.Core.Path.{◌≡◌, refl, sym, ◌∙◌}
 use mathlib.Core.Bool.{Bool, true, false}
@@ -8,7 +9,7 @@ use lib.Dec.{eqb, ltb}
 use lib.IntN.{ℤ, pos, ◌+ℤ◌, ◌-ℤ◌}
 use lib.Signed.{◌≤ℤ◌, ◌<ℤ◌}
 use borrow.Author.Tests.{eqb-true, eq-eqb, ltb-true, lt-ltb}
-use Rattle.integers.specs.Choice.{if◌then◌else◌, by_cases}
+use Rattle.integers.specs.Choice.{by_cases}
 use Rattle.integers.specs.Operations.{sum, difference}
 use Rattle.integers.specs.Parts.{integers}
 use Rattle.sheet.specs.ExtremeLaws.{Order, different, equal, at_here, at_other, between}

@@ -1,6 +1,5 @@
 -- Document 02, request 1: what is promised of a sheet over every list of answers, by what it hands out.
-use Rattle.std.specs.Prelude.{◌≡◌, List, [], ◌∷◌, ℕ, ◌≤◌, eqb, ℤ, pos, neg_ℤ, ◌≤ℤ◌}
-use Rattle.integers.specs.Choice.{if◌then◌else◌}
+use Rattle.std.specs.Prelude.{◌≡◌, List, [], ◌∷◌, ℕ, ◌≤◌, eqb, ℤ, pos, neg_ℤ, ◌≤ℤ◌, if◌then◌else◌}
 use Rattle.modes.specs.declared.Mode.{Mode}
 use Rattle.answers.specs.declared.ScanValues.{ScanValues}
 use Rattle.sheet.specs.declared.Bound.TheVariants.{Greatest, Least}

@@ -1,7 +1,6 @@
 -- Document 02, request 1: what a list of answers gives, told of the list alone, apart from the step by which a sheet
 -- gets there. Shared with the step are the types, and the bits of a word.
-use Rattle.std.specs.Prelude.{◌≡◌, Bool, not, ◌&&◌, ℕ, ◌+◌, ◌≤◌, eqb, ℤ, pos, ◌+ℤ◌, length, get_or, ◌≤ℤ◌}
-use Rattle.integers.specs.Choice.{if◌then◌else◌}
+use Rattle.std.specs.Prelude.{◌≡◌, Bool, not, ◌&&◌, ℕ, ◌+◌, ◌≤◌, eqb, ℤ, pos, ◌+ℤ◌, length, get_or, ◌≤ℤ◌, if◌then◌else◌}
 use Rattle.signals.specs.Bits.{bit}
 use Rattle.modes.specs.declared.Mode.{Mode}
 use Rattle.modes.specs.declared.Mode.TheVariants.{Hold, Track, Forced, Manual, Auto, Remote, Ratio, Fallback}

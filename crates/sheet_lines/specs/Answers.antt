@@ -1,6 +1,5 @@
 -- The answer that a line has: MODE PV DS OP.
-use Rattle.std.specs.Prelude.{◌&&◌, List, ℕ, ℤ}
-use Rattle.integers.specs.Choice.{if◌then◌else◌}
+use Rattle.std.specs.Prelude.{◌&&◌, List, ℕ, ℤ, if◌then◌else◌}
 use Rattle.modes.specs.declared.Mode.{Mode}
 use Rattle.text.specs.Arguments.{part, argument, arguments_from, has_count, natural_in, integer_in}
 use Rattle.text.specs.Words.{word_at}

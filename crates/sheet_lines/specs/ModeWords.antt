@@ -1,6 +1,5 @@
 -- The word of each mode in a line, and the mode of a word.
-use Rattle.std.specs.Prelude.{List, ℕ}
-use Rattle.integers.specs.Choice.{if◌then◌else◌}
+use Rattle.std.specs.Prelude.{List, ℕ, if◌then◌else◌}
 use Rattle.modes.specs.declared.Mode.{Mode}
 use Rattle.modes.specs.declared.Mode.TheVariants.{Hold, Track, Forced, Manual, Auto, Remote, Ratio, Fallback}
 use Rattle.text.specs.Words.{same_bytes}

@@ -1,6 +1,5 @@
 -- The sixteen numbers of a kept sheet, and the values that they stand for: each within the range of its type.
-use Rattle.std.specs.Prelude.{◌&&◌, List, [], ◌∷◌, ℕ, eqb, ltb, ℤ, pos, get_or, set, replicate}
-use Rattle.integers.specs.Choice.{if◌then◌else◌}
+use Rattle.std.specs.Prelude.{◌&&◌, List, [], ◌∷◌, ℕ, eqb, ltb, ℤ, pos, get_or, set, replicate, if◌then◌else◌}
 use Rattle.sheet.specs.declared.Extreme.TheVariants.{None, First}
 use Rattle.text.specs.Arguments.{natural_in, integer_in}
 use Rattle.sheet_numbers.specs.declared.Count.{Count}

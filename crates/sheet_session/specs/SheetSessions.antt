@@ -1,6 +1,5 @@
 -- What a run of the console holds for the drying sheet, and what each command of the sheet does to it.
-use Rattle.std.specs.Prelude.{ℕ, ℤ}
-use Rattle.integers.specs.Choice.{if◌then◌else◌}
+use Rattle.std.specs.Prelude.{ℕ, ℤ, if◌then◌else◌}
 use Rattle.answers.specs.declared.ScanValues.{ScanValues}
 use Rattle.sheet.specs.Sheet.{empty_sheet, entered}
 use Rattle.sheet.specs.Valid.{kept_sheet}

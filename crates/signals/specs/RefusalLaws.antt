@@ -1,9 +1,8 @@
 -- Which of the tests that hold gives the number of a refusal: the first in the order of the list. Where the tests are
 -- listed by ascending numbers that is the lowest number of all that hold, "Within a group the lowest number wins."
-use Rattle.std.specs.Prelude.{◌≡◌, refl, Bool, true, false, List, [], ◌∷◌, ◌++◌, ℕ, ◌≤◌, ◌<◌}
+use Rattle.std.specs.Prelude.{◌≡◌, refl, Bool, true, false, List, [], ◌∷◌, ◌++◌, ℕ, ◌≤◌, ◌<◌, if◌then◌else◌}
 use Rattle.std.proofs.Common.{ap, arith}
 use Rattle.std.proofs.Math.Option.{some}
-use Rattle.integers.specs.Choice.{if◌then◌else◌}
 use Rattle.signals.specs.Refusals.{first_of, refused_by, scan_tests}
 use Rattle.signals.specs.declared.Input.{Input}
 use Rattle.signals.specs.declared.clock.ClockReading.{ClockReading}

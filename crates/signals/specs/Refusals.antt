@@ -1,7 +1,6 @@
 -- Document 01, "By whose hand a call is declined", and document 02: the numbers, and the tests of a scan.
-use Rattle.std.specs.Prelude.{Bool, ◌||◌, List, [], ◌∷◌, ℕ, ltb}
+use Rattle.std.specs.Prelude.{Bool, ◌||◌, List, [], ◌∷◌, ℕ, ltb, if◌then◌else◌}
 use Rattle.std.proofs.Math.Option.{Option, some, none}
-use Rattle.integers.specs.Choice.{if◌then◌else◌}
 use Rattle.signals.specs.Bits.{bit}
 use Rattle.signals.specs.Clock.{is_too_early}
 use Rattle.signals.specs.declared.Input.{Input}

@@ -1,7 +1,6 @@
 -- Document 01, "The calls" and "One scan", Input: what the bits of the switch word, the pin byte, the button byte and
 -- the sensor byte mean.
-use Rattle.std.specs.Prelude.{Bool, ℕ}
-use Rattle.integers.specs.Choice.{if◌then◌else◌}
+use Rattle.std.specs.Prelude.{Bool, ℕ, if◌then◌else◌}
 use Rattle.signals.specs.Bits.{bit}
 use Rattle.signals.specs.declared.Buttons.{Buttons}
 use Rattle.signals.specs.declared.Input.{Input}

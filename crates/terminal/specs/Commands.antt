@@ -1,7 +1,6 @@
 -- Document 02, request 4: "A line is a mnemonic from document 01's table .. and perhaps, after the sign >, a value".
-use Rattle.std.specs.Prelude.{Bool, ◌&&◌, List, [], ◌∷◌, ℕ, eqb, leb, ℤ, pos, drop}
+use Rattle.std.specs.Prelude.{Bool, ◌&&◌, List, [], ◌∷◌, ℕ, eqb, leb, ℤ, pos, drop, if◌then◌else◌}
 use Rattle.std.proofs.Math.Option.{Option, some, none}
-use Rattle.integers.specs.Choice.{if◌then◌else◌}
 use Rattle.numerals.specs.Numerals.{integer_of, word_of}
 use Rattle.terminal.specs.Mnemonics.{named}
 use Rattle.terminal.specs.declared.command.Command.{Command}

@@ -1,9 +1,9 @@
 -- Laws of the mnemonics: the table as the code has it, the search in it, and that each names its own number.
-use Rattle.std.specs.Prelude.{◌≡◌, Bool, true, false, List, [], ◌∷◌, ℕ, zero, suc, ◌+◌, ◌-◌, ◌*◌, ◌≤◌, ◌<◌, ltb, length, take, drop, get_or}
+use Rattle.std.specs.Prelude.{◌≡◌, Bool, true, false, List, [], ◌∷◌, ℕ, zero, suc, ◌+◌, ◌-◌, ◌*◌, ◌≤◌, ◌<◌, ltb, length, take, drop, get_or, if◌then◌else◌}
 use Rattle.std.proofs.Math.Path.{refl}
 use Rattle.std.proofs.Common.{sym, ap, ◌∙◌, arith, drop-cons, eqb-true, le-ltb, ltb-false}
 use Rattle.std.proofs.Math.Option.{Option, some, none}
-use Rattle.integers.specs.Choice.{if◌then◌else◌, both}
+use Rattle.integers.specs.Choice.{both}
 use Rattle.integers.specs.Listed.{listed, listed_same}
 use Rattle.terminal.specs.Mnemonics.{mnemonics, mnemonic, is_of, numbered, named, number_or}
 

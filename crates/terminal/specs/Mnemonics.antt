@@ -1,7 +1,6 @@
 -- Document 02, request 4: "a mnemonic from document 01's table (1H to MP, capitals)".
-use Rattle.std.specs.Prelude.{Bool, ◌&&◌, List, [], ◌∷◌, ℕ, suc, eqb, ltb, length, get_or}
+use Rattle.std.specs.Prelude.{Bool, ◌&&◌, List, [], ◌∷◌, ℕ, suc, eqb, ltb, length, get_or, if◌then◌else◌}
 use Rattle.std.proofs.Math.Option.{Option, some, none}
-use Rattle.integers.specs.Choice.{if◌then◌else◌}
 use Rattle.formatting.specs.Ascii.{ascii}
 
 -- in the order of the numbers, 1 to 32

@@ -1,8 +1,7 @@
 -- Document 02, request 4: what comes of a line, whole; request 6: "Terminal lines carry a writer as well. Reading stays
 -- free."
-use Rattle.std.specs.Prelude.{List, ◌∷◌, ◌++◌, ℕ, ltb, ℤ, nat_abs, length, drop}
+use Rattle.std.specs.Prelude.{List, ◌∷◌, ◌++◌, ℕ, ltb, ℤ, nat_abs, length, drop, if◌then◌else◌}
 use Rattle.std.proofs.Math.Option.{Option, some, none}
-use Rattle.integers.specs.Choice.{if◌then◌else◌}
 use Rattle.numerals.specs.Numerals.{decimal, hexadecimal_word}
 use Rattle.signals.specs.Refusals.{number_of, refused_by}
 use Rattle.rights.specs.declared.Writer.{Writer}

@@ -1,4 +1,5 @@
 -- What the rules take a line for is what its bytes ask.
+use Rattle.std.specs.Prelude.{if◌then◌else◌}
 use mathlib.Core.Logic.{inl, inr}
 use mathlib.Core.Path.{◌≡◌, refl, sym, ap, subst, ◌∙◌}
 use mathlib.Core.Bool.{Bool, true, false, ◌&&◌}
@@ -10,7 +11,7 @@ use lib.Dec.{eqb, leb}
 use lib.IntN.{ℤ, pos}
 use lib.ListN.{length, drop}
 use borrow.Author.Tests.{eqb-true, eq-eqb, leb-true, leb-false, le-leb, lt-leb, lt-ltb}
-use Rattle.integers.specs.Choice.{if◌then◌else◌, both}
+use Rattle.integers.specs.Choice.{both}
 use Rattle.numerals.specs.Numerals.{digits_of, with_sign, integer_of, word_of}
 use Rattle.numerals.specs.Reading.{some_of}
 use Rattle.numerals.specs.Shortest.{natural_some, not_minus, integer_some, headed}

@@ -1,4 +1,5 @@
 -- Every line does what its bytes ask, and is refused in the order of the request.
+use Rattle.std.specs.Prelude.{if◌then◌else◌}
 use mathlib.Core.Path.{◌≡◌, refl, sym, ap, subst, ◌∙◌}
 use mathlib.Core.Bool.{Bool, true, false}
 use mathlib.Core.List.{List, ◌∷◌, ◌++◌}
@@ -9,7 +10,7 @@ use lib.Dec.{ltb}
 use lib.IntN.{ℤ, pos, nat_abs}
 use lib.ListN.{length, drop}
 use borrow.Author.Tests.{ltb-true, ltb-false}
-use Rattle.integers.specs.Choice.{if◌then◌else◌, by_cases}
+use Rattle.integers.specs.Choice.{by_cases}
 use Rattle.numerals.specs.DigitLaws.{digits_length}
 use Rattle.numerals.specs.Numerals.{last_digits, decimal, hexadecimal_word, read_on, integer_of}
 use Rattle.numerals.specs.Reading.{read_last}

@@ -1,4 +1,5 @@
 -- What each line asks, beside what the rules take it for.
+use Rattle.std.specs.Prelude.{if◌then◌else◌}
 use mathlib.Core.Path.{◌≡◌, refl, sym, ap, subst, ◌∙◌}
 use mathlib.Core.Bool.{Bool, true, false}
 use mathlib.Core.List.{List, [], ◌∷◌, ◌++◌}
@@ -9,7 +10,6 @@ use lib.Dec.{eqb}
 use lib.IntN.{ℤ}
 use lib.ListN.{take, drop, take-append-drop}
 use borrow.Author.Tests.{eqb-true}
-use Rattle.integers.specs.Choice.{if◌then◌else◌}
 use Rattle.integers.specs.Listed.{listed, listed_same}
 use Rattle.terminal.specs.Commands.{value_of, writing, command_of, command_by, command_in}
 use Rattle.terminal.specs.MnemonicLaws.{begins_with, names, named_range}

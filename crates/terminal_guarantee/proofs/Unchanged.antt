@@ -1,4 +1,5 @@
 -- A parameter that is written with the value that it has leaves everything as it was.
+use Rattle.std.specs.Prelude.{if◌then◌else◌}
 use mathlib.Core.Path.{◌≡◌, refl, sym, ap, subst, ◌∙◌}
 use mathlib.Core.Bool.{Bool, true, false, ◌&&◌, ◌||◌}
 use mathlib.Core.List.{List, [], ◌∷◌}
@@ -11,7 +12,7 @@ use lib.ListN.{set}
 use lib.Seq.{set-get_or}
 use lib.Signed.{◌≤ℤ◌}
 use borrow.Author.Tests.{ne_eqb}
-use Rattle.integers.specs.Choice.{if◌then◌else◌, by_cases, both}
+use Rattle.integers.specs.Choice.{by_cases, both}
 use Rattle.integers.specs.Limit.{limited_same}
 use Rattle.signals.specs.Refusals.{refused_by}
 use Rattle.modes.specs.declared.Mode.{Mode}

@@ -1,6 +1,5 @@
 -- Document 01, "Words (004, 4.3.5, 4.3.6)": MD and DS, bit by bit.
-use Rattle.std.specs.Prelude.{Bool, false, not, [], ◌∷◌, ℕ, ◌+◌, ◌*◌, eqb}
-use Rattle.integers.specs.Choice.{if◌then◌else◌}
+use Rattle.std.specs.Prelude.{Bool, false, not, [], ◌∷◌, ℕ, ◌+◌, ◌*◌, eqb, if◌then◌else◌}
 use Rattle.signals.specs.Signals.{pins_of, buttons_of}
 use Rattle.modes.specs.Modes.{is_open_cause, is_cause, is_one_of}
 use Rattle.modes.specs.declared.Conditions.{Conditions}

@@ -1,7 +1,6 @@
 -- Document 01, "Words" and "By whose hand a call is declined": what writing MD and DS takes, and which words MD
 -- refuses.
-use Rattle.std.specs.Prelude.{Bool, false, not, ◌&&◌, ◌||◌, List, [], ◌∷◌, ℕ}
-use Rattle.integers.specs.Choice.{if◌then◌else◌}
+use Rattle.std.specs.Prelude.{Bool, false, not, ◌&&◌, ◌||◌, List, [], ◌∷◌, ℕ, if◌then◌else◌}
 use Rattle.signals.specs.Bits.{bit}
 use Rattle.signals.specs.Signals.{pins_of}
 use Rattle.modes.specs.Modes.{is_cause}

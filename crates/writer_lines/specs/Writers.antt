@@ -1,7 +1,6 @@
 -- Document 02, request 6: "Each write names its writer: operator, engineer or computer", in a line by that word.
-use Rattle.std.specs.Prelude.{◌≡◌, refl, List, ℕ, ◌<◌, length}
+use Rattle.std.specs.Prelude.{◌≡◌, refl, List, ℕ, ◌<◌, length, if◌then◌else◌}
 use Rattle.std.proofs.Common.{arith}
-use Rattle.integers.specs.Choice.{if◌then◌else◌}
 use Rattle.rights.specs.declared.Writer.TheVariants.{Operator, Engineer, Computer}
 use Rattle.text.specs.Words.{same_bytes, same_unequal}
 use Rattle.formatting.specs.Ascii.{ascii}

@@ -1,10 +1,10 @@
 -- `arithmetic_lines::proportional` meets its contract.
+use Rattle.std.specs.Prelude.{if◌then◌else◌}
 use mathlib.Core.Path.{◌≡◌, refl}
 use mathlib.Core.Bool.{Bool, ◌&&◌}
 use lib.IntN.{ℤ}
 use mir.Syntax.{w64}
 use mir.Val.{to_z, of_z}
-use Rattle.integers.specs.Choice.{if◌then◌else◌}
 use Rattle.integers.specs.Machine.{back}
 use Rattle.terms.specs.Terms.{stored_term, proportional_term}
 use Rattle.arithmetic_lines.specs.Calculations.{proportional_calculation}

@@ -1,11 +1,11 @@
 -- `arithmetic_lines::scale` meets its contract.
+use Rattle.std.specs.Prelude.{if◌then◌else◌}
 use mathlib.Core.Path.{◌≡◌, refl}
 use mathlib.Core.Bool.{Bool, ◌&&◌}
 use lib.IntN.{ℤ}
 use lib.Signed.{lt_z}
 use mir.Syntax.{w64}
 use mir.Val.{to_z, of_z}
-use Rattle.integers.specs.Choice.{if◌then◌else◌}
 use Rattle.integers.specs.Machine.{back}
 use Rattle.scaling.specs.Scale.{scaled}
 use Rattle.arithmetic_lines.specs.Calculations.{scale_calculation}
