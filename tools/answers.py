@@ -50,7 +50,7 @@ class Function:
         self.asked = of["asked_at"]
         self.places = {}
         for k, pl in enumerate(of["places"]):
-            self.places[pl[0]] = dict(parent=pl[1], old=pl[2][0], new=pl[2][1], name=of["places_by_name"][k], arm=of["arms"][k], clauses=(of["clauses"][k] or {}).get("fields", []), of=pl[3], typed=bool(of["typed"][k]))
+            self.places[pl[0]] = dict(parent=pl[1], old=pl[2][0], new=pl[2][1], name=of["places_by_name"][k], arm=of["arms"][k], clauses=(of["clauses"][k] or {}).get("fields", []), of=pl[3], typed=bool(of["typed"][k] or of["arms"][k]))
         self.loops = of["loops"]
         self.params = of["params"]
         self.args = {o.rsplit(".", 1)[1]: n.rsplit(".", 1)[1] for o, n in of["args"] if "." in o}
@@ -92,6 +92,9 @@ class Function:
 
     def record(self, place):
         """The name of a place today: of an arm's places its last."""
+        return self.places[self.last(place)]["name"]
+
+    def last(self, place):
         arm = self.places[place]["arm"]
         while arm:
             later = [
@@ -101,7 +104,7 @@ class Function:
             if not later:
                 break
             place, arm = later[0], self.places[later[0]]["arm"]
-        return self.places[place]["name"]
+        return place
 
 
 def parameter(rest, names):
@@ -152,14 +155,14 @@ def rewrite(body, fn, env, goal=None, outer=None):
     def earlier(place):
         """In a lemma, the record of an earlier place: a record with facts of types has one more `before`."""
         own = next(v for v in env if v == first)
-        at, steps = env[own], 0
+        at, steps = fn.last(env[own]), 0
         while at is not None and at != place:
             at, steps = fn.up(at), steps + 1
-        if not steps:
+        if not steps or place == env[own]:
             return own
         if fn.places[place]["typed"]:
             return f"(HAND_{fn.record(place)} {own})"
-        return own + ".before" * (steps + fn.places[env[own]]["typed"])
+        return own + ".before" * (steps + fn.places[fn.last(env[own])]["typed"])
 
     first = next(iter(env), None)
 
@@ -194,6 +197,7 @@ def rewrite(body, fn, env, goal=None, outer=None):
         else:
             break
     body = PATH.sub(path, steps(body, fn, env)).replace(".type-inv", ".type_inv")
+    body = re.sub(r"ap not \(([^()]*(?:\([^()]*(?:\([^()]*\)[^()]*)*\)[^()]*)*)\) ∙ (c\.if-not-[\w.-]+)", r"ap not (\1 ∙ \2)", body)
     return re.sub(r"(?:not-true|not-false)(?: _)* (c\.if-not-\S+\.(?:true|false))(?![\w.'-])", r"\1", body)
 
 

@@ -1,0 +1,31 @@
+-- `controller::Controller::answer` meets its contract.
+use mathlib.Core.Path.{◌≡◌, refl, ap, ◌∙◌}
+use mir.Syntax.{w32}
+use Rattle.integers.specs.Machine.{back}
+use Rattle.outputs.specs.OutputLaws.{stored_back}
+use Rattle.answers.specs.declared.ScanValues.{ScanValues}
+use Rattle.controller.specs.Answers.{op_of, electrical_of, reply_of}
+use Rattle.controller.specs.Scan.{mode_now, md_now, ds_now, status_of, with_output}
+use Rattle.controller.specs.declared.Answer.TheVariants.{Accepted}
+use Rattle.controller.specs.declared.Controller.{Controller}
+use Rattle.controller.specs.ValidLaws.{reading_back}
+use Rattle.controller.proofs.Controller.answer.Goals as goal
+
+-- values that are those of a controller make its answer
+answered : (c : Controller) (v : ScanValues) → v.md ≡ md_now c.core → v.ds ≡ ds_now c.core → v.op ≡ op_of c.output →
+    v.electrical ≡ electrical_of c.core.sw c.output → v.mode ≡ mode_now c.core → v.pv ≡ c.core.readings.pv →
+    reply_of (Accepted v) ≡ with_output (status_of c.core) c.core.sw c.output
+unfolding status_of
+answered c v md ds op electrical mode pv = rw (md, ds, op, electrical, mode, pv) refl
+
+pub returns : goal.returns
+returns c =
+    let stored = stored_back c.requires.stored in
+    answered c.args.self _
+    c.md-md.ensures
+    c.ds-ds.ensures
+    (c.op_of-op.ensures.0 ∙ ap op_of stored)
+    (c.electrical_of-electrical.ensures ∙ ap (electrical_of c.args.self.core.sw) stored)
+    c.mode-mode.ensures
+    (back w32 c.narrow-pv.result c.narrow-pv.type_inv ∙ c.narrow-pv.ensures ∙
+    reading_back c.args.self.core.readings.pv c.requires.readable.pv_most)

@@ -1,0 +1,14 @@
+-- `controller::Controller::fresh` meets its contract.
+use Rattle.parameters.specs.LegalLaws.{defaults_legal}
+use Rattle.controller.specs.State.{fresh_core, fresh_controller}
+use Rattle.controller.specs.ValidLaws.{valid_fresh}
+use Rattle.controller.proofs.Controller.fresh.Goals as goal
+
+pub start_core-core-requires : goal.start_core-core-requires
+start_core-core-requires c = rw c.of-parameters.ensures defaults_legal
+
+pub returns : goal.returns
+unfolding fresh_controller fresh_core
+returns c =
+    let is = simp c.of-parameters.ensures at c.start_core-core.ensures in
+    (simp is, rw is (valid_fresh c.args.sw))

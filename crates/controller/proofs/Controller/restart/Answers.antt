@@ -1,0 +1,40 @@
+-- `controller::Controller::restart` meets its contract.
+use mathlib.Core.Path.{◌≡◌, sym, ap, ◌∙◌}
+use mathlib.Core.Option.{none, some}
+use Rattle.signals.specs.Refusals.{number_of, number_in, refused_by}
+use Rattle.outputs.specs.Instruction.{executed, changed, limited_to}
+use Rattle.controller.specs.Restart.{values_in, restart_tests, restart_accepted, restart_core, controller_restarted, restart}
+use Rattle.controller.specs.RestartLaws.{taken, taken_legal, restarted_valid}
+use Rattle.controller.specs.Scan.{controller_after, refused, response_from}
+use Rattle.controller.proofs.Controller.restart.Goals as goal
+
+pub values_of-values-requires : goal.values_of-values-requires
+values_of-values-requires c =
+    let e : refused_by (restart_tests c.args.image.now) ≡ none =
+    sym c.restart_verdict-verdict.ensures ∙ ap number_in c.in-Accepted.is in
+    (taken c.args.image.now e).size
+
+pub restarted-controller-requires : goal.restarted-controller-requires
+restarted-controller-requires c =
+    let e : refused_by (restart_tests c.args.image.now) ≡ none =
+    sym c.restart_verdict-verdict.ensures ∙ ap number_in c.in-Accepted.is in
+    simp c.values_of-values.ensures
+    (taken_legal (values_in c.args.image.now)
+    (taken c.args.image.now e).legal)
+
+pub returns-in-Refused : goal.returns-in-Refused
+unfolding restart restart_core response_from controller_after refused executed changed limited_to
+returns-in-Refused c =
+    let e : refused_by (restart_tests c.args.image.now)
+    ≡ some (number_of c.in-Refused.refusal) =
+    sym c.restart_verdict-verdict.ensures ∙ ap number_in c.in-Refused.is in
+    (simp e, c.requires)
+
+pub returns-in-Accepted : goal.returns-in-Accepted
+unfolding restart restart_core response_from controller_after controller_restarted restart_accepted
+returns-in-Accepted c =
+    let e : refused_by (restart_tests c.args.image.now) ≡ none =
+    sym c.restart_verdict-verdict.ensures ∙ ap number_in c.in-Accepted.is in
+    let args = c.args in
+    let is = simp c.values_of-values.ensures at c.restarted-controller.ensures in
+    (simp (e, is), rw is (restarted_valid args.self (values_in args.image.now) (taken args.image.now e).legal))

@@ -1,0 +1,8 @@
+-- `controller::Controller::settings` meets its contract.
+use Rattle.outputs.specs.OutputLaws.{stored_back}
+use Rattle.controller.specs.Save.{settings_of, settings_now}
+use Rattle.controller.proofs.Controller.settings.Goals as goal
+
+pub returns : goal.returns
+unfolding settings_now settings_of
+returns c = simp (c.op_of-op.ensures.0, stored_back c.requires.stored)

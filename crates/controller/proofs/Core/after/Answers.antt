@@ -1,0 +1,7 @@
+-- `controller::Core::after` meets its contract.
+use Rattle.controller.specs.Scan.{core_after}
+use Rattle.controller.proofs.Core.after.Goals as goal
+
+pub returns : goal.returns
+unfolding core_after
+returns c = simp (c.history_after-history.ensures, c.indications_after-indications.ensures, c.is_open-isopen.ensures)

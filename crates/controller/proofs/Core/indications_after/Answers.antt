@@ -1,0 +1,7 @@
+-- `controller::Core::indications_after` meets its contract.
+use Rattle.controller.specs.Scan.{indications_after}
+use Rattle.controller.proofs.Core.indications_after.Goals as goal
+
+pub returns : goal.returns
+unfolding indications_after
+returns c = simp (c.high_alarm-highalarm.ensures, c.low_alarm-lowalarm.ensures, c.battery_low-batterylow.ensures)
