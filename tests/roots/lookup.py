@@ -6,9 +6,9 @@ No proof tells of this: the contract is of values alone. Looked at is the consol
 takes the root of any sample in two ways: in a scan with IC 1, and by the line `root`. The function
 `scaling::roots::entry` is a few instructions that go forward within it, call nothing, write no memory and read it once,
 at the sample's place in the table; it is called at two places at least, nothing else names an address in the table, and
-no function has room on its stack for a copy, of a byte for each root (of two in the program's start). The table is
-constant data, two bytes to a root, and all other constant data together is smaller than a byte for each root. The last
-line printed is 'N passed, M failed', one count for each of these.
+no function has room on its stack for a copy, of a byte for each root (in the program's start, beside its buffers, of
+two). The table is constant data, two bytes to a root, and all other constant data together is smaller than a byte for
+each root. The last line printed is 'N passed, M failed', one count for each of these.
 """
 
 import math
@@ -24,7 +24,8 @@ FUNCTION = "scaling::roots::entry"
 ROOTS = [math.isqrt(10000 * place) for place in range(10001)]
 TABLE_SIZE = 2 * len(ROOTS)
 MOST_INSTRUCTIONS, LEAST_COPY = 8, len(ROOTS)
-START, START_COPY = f"{PROGRAM}::main+start", TABLE_SIZE  # its stack has the buffers of the standard streams too
+# The program's start: its stack has two buffers of this size, which `main` declares, and those of the standard streams
+START, BUFFERS = f"{PROGRAM}::main+start", 2 * 65536
 COMPUTING = re.compile(r"movz?[bwlq]*|lea|cmp|test|xor|and|dec|sub|add|cmov\w+")  # the last operand is what may be written
 JUMP = re.compile(r"j(?:a|ae|b|be|mp)")
 HEADING = re.compile(r"[0-9a-f]+ <(.+)>:")
@@ -117,7 +118,8 @@ def program_faults(functions, table, pointers):
     faults += [] if len(calls) >= WAYS else [f"the look-up is called at {len(calls)} places"]
     for name, lines in functions.items():
         room = sum(int(found.group(1), 16) for found in map(STACK.search, lines) if found)
-        faults += [f"{name} has {room} bytes on its stack"] if room >= (START_COPY if name == START else LEAST_COPY) else []
+        most = BUFFERS + TABLE_SIZE if name == START else LEAST_COPY
+        faults += [f"{name} has {room} bytes on its stack"] if room >= most else []
     return faults
 
 
