@@ -20,7 +20,7 @@ use Rattle.guarantee.specs.Count.{open_scans, last_reading, LastScan, last_pins,
 use Rattle.guarantee.specs.Exact.{Calls, exact}
 use Rattle.guarantee.specs.Fault.{fault_stands}
 use Rattle.guarantee.specs.Linked.{ScanEnsures, WriteEnsures, AccessEnsures, ReadEnsures, LastReadingEnsures, SaveEnsures}
-use Rattle.guarantee.specs.Linked.{Slice, Lifetime}
+use Rattle.guarantee.specs.Linked.{MutSlice, Lifetime}
 use Rattle.guarantee.specs.Modes.{mode_in, is_hold_or_track}
 use Rattle.guarantee.specs.Rights.{has_right, access_or}
 
@@ -66,7 +66,7 @@ pub record Demand3 (word : ℕ) (calls : Calls) (rs : List Response) (c : Contro
   -- and so does every read that is made now, which changes nothing
   pub same_reads : (n : ℕ) (r : ReadAnswer) → ReadEnsures c n r → SameReading c (exact word calls).core n (reply_of_read r)
   -- and every save, which changes nothing either, of any buffer: the answer and every byte
-  pub same_saves : (life : Lifetime) (buffer : Slice) (r : Verdict) (after : List ℕ) → SaveEnsures life c buffer r after →
+  pub same_saves : (life : Lifetime) (buffer : MutSlice) (r : Verdict) (after : List ℕ) → SaveEnsures life c buffer r after →
       SameSave c (exact word calls).core buffer.now (reply_of_verdict r) after
   -- the stored output is within 3/2 × n × 1/65,536 unit of the exact controller's: 3 × n halves of 1/65,536 unit
   pub bound : WithinHalves c.output (exact word calls).output (3 * automatic_scans word calls)

@@ -43,7 +43,7 @@ use Rattle.controller.specs.declared.Controller.{Controller}
 use Rattle.guarantee.specs.Bytes.{word_at}
 use Rattle.promises.specs.Images.{Restored, SavedRestarts, WithinItsLimits, SavesTheSame}
 use Rattle.promises.specs.Restarts.{Accepts, RestartState}
-use Rattle.guarantee.specs.Linked.{SaveEnsures, Slice, Lifetime}
+use Rattle.guarantee.specs.Linked.{SaveEnsures, MutSlice, Lifetime}
 use Rattle.guarantee.proofs.Answers.{own_output}
 use Rattle.guarantee.proofs.Brought.{op_at}
 use Rattle.guarantee.proofs.Linked.{valid_linked}
@@ -108,7 +108,7 @@ taken_save image buffer size = go (ltb (length buffer) 137) refl
     go true e a = never (ap is_acceptance a)
     go false e a = rw (le-leb 137 (length buffer) (ltb-false (length buffer) 137 e)) refl
 
-module _ (c : Controller) (valid : Valid c) (life : Lifetime) (buffer : Slice) (r : Verdict) (after : List ℕ)
+module _ (c : Controller) (valid : Valid c) (life : Lifetime) (buffer : MutSlice) (r : Verdict) (after : List ℕ)
     (saves : SaveEnsures life c buffer r after) (took : Accepts r) where
   after_is : after ≡ saved_image c ++ drop 137 buffer.now
   after_is = saves.1 ∙ taken_save (saved_image c) buffer.now (saved_size c valid) (sym saves.0 ∙ took)

@@ -42,6 +42,7 @@ not_both e = let z : ◌≡◌ {A = ℕ} 0 1 = cc in absurd (omega arith)
 none_holds : (ts : List (Bool × ℕ)) → Passed ts → (m : ℕ) → Holds m ts → ⊥
 none_holds (t ∷ ts) p m (here q d) = never (sym p.0 ∙ q)
 none_holds (t ∷ ts) p m (later h) = none_holds ts p.1 m h
+none_holds [] p m h = elim h [ ]
 
 one_holds : (ts : List (Bool × ℕ)) (n : ℕ) → refused_by ts ≡ some n → Holds n ts
 unfolding refused_by

@@ -15,7 +15,7 @@ use Rattle.controller.specs.declared.Controller.{Controller}
 use Rattle.guarantee.specs.Bytes.{word_at, sum_right}
 use Rattle.guarantee.specs.Claim.{OwnOutput}
 use Rattle.guarantee.specs.Exact.{Calls}
-use Rattle.guarantee.specs.Linked.{SaveEnsures, RestartEnsures, Slice, Lifetime, Linked}
+use Rattle.guarantee.specs.Linked.{SaveEnsures, RestartEnsures, Slice, MutSlice, Lifetime, Linked}
 use Rattle.promises.specs.Restarts.{Accepts, headers_right, sound, RestartState}
 
 -- ---- the bytes of a saved image
@@ -49,7 +49,7 @@ pub record SavedBytes (c : Controller) (image : List ℕ) : Type 0 where
 abbrev pub SaveEncodes : Type 0
 SaveEncodes =
     (word : ℕ) (calls : Calls) (rs : List Response) (c : Controller) → Linked word calls rs c →
-    (life : Lifetime) (buffer : Slice) (r : Verdict) (after : List ℕ) → SaveEnsures life c buffer r after → Accepts r →
+    (life : Lifetime) (buffer : MutSlice) (r : Verdict) (after : List ℕ) → SaveEnsures life c buffer r after → Accepts r →
     SavedBytes c (take 137 after) × (drop 137 after ≡ drop 137 buffer.now)
 
 -- ---- a saved image restarts the settings it was saved from, request and output by the restart rules
@@ -75,7 +75,7 @@ pub record Restored (c d n : Controller) : Type 0 where
 abbrev pub SavedRestarts : Type 0
 SavedRestarts =
     (word : ℕ) (calls : Calls) (rs : List Response) (c : Controller) → Linked word calls rs c →
-    (life : Lifetime) (buffer : Slice) (r : Verdict) (after : List ℕ) → SaveEnsures life c buffer r after → Accepts r →
+    (life : Lifetime) (buffer : MutSlice) (r : Verdict) (after : List ℕ) → SaveEnsures life c buffer r after → Accepts r →
     (later : Lifetime) (d : Controller) (image : Slice) (j : CallResult) → image.now ≡ take 137 after → RestartEnsures later d image j →
     (sound image.now ≡ true) × Accepts j.verdict × Restored c d j.controller
 
@@ -93,6 +93,6 @@ SavesTheSame =
     ((k : ℕ) → get_or image.now k 0 < 256) → sound image.now ≡ true → WithinItsLimits image.now → bit d.core.sw 11 ≡ false →
     RestartEnsures life d image j →
     Accepts j.verdict ×
-    ((later : Lifetime) (buffer : Slice) (r : Verdict) (after : List ℕ) → 137 ≤ length buffer.now →
+    ((later : Lifetime) (buffer : MutSlice) (r : Verdict) (after : List ℕ) → 137 ≤ length buffer.now →
     SaveEnsures later j.controller buffer r after →
     Accepts r × (after ≡ image.now ++ drop 137 buffer.now))

@@ -16,7 +16,7 @@ use Rattle.controller.specs.Write.{write_tests}
 use Rattle.controller.specs.declared.CallResult.{CallResult}
 use Rattle.controller.specs.declared.Controller.{Controller}
 use Rattle.controller.specs.declared.ScanResult.{ScanResult}
-use Rattle.guarantee.specs.Linked.{ScanEnsures, WriteEnsures, SaveEnsures, RestartEnsures, Slice, Lifetime}
+use Rattle.guarantee.specs.Linked.{ScanEnsures, WriteEnsures, SaveEnsures, RestartEnsures, Slice, MutSlice, Lifetime}
 
 -- the number that a call is refused with; none where it is accepted
 abbrev pub refusal_in : Reply → Option ℕ
@@ -49,5 +49,5 @@ pub record RefusalOrder : Type 0 where
       Lowest (place_in write_order) (write_tests c.core w n v) (refusal_in (reply_of_verdict r.verdict))
   pub restarts : (life : Lifetime) (c : Controller) (image : Slice) (r : CallResult) → RestartEnsures life c image r →
       Lowest by_number (restart_tests image.now) (refusal_in (reply_of_verdict r.verdict))
-  pub saves : (life : Lifetime) (c : Controller) (buffer : Slice) (r : Verdict) (after : List ℕ) → SaveEnsures life c buffer r after →
+  pub saves : (life : Lifetime) (c : Controller) (buffer : MutSlice) (r : Verdict) (after : List ℕ) → SaveEnsures life c buffer r after →
       Lowest by_number (save_tests buffer.now) (refusal_in (reply_of_verdict r))

@@ -9,7 +9,7 @@ use Rattle.integers.specs.Limit.{limited}
 use Rattle.signals.specs.Bits.{bit}
 use Rattle.signals.specs.declared.Input.{Input}
 use Rattle.signals.specs.declared.clock.ClockReading.TheVariants.{At}
-use Rattle.modes.specs.declared.Mode.TheVariants.{Manual, Auto, Remote, Ratio}
+use Rattle.modes.specs.declared.Mode.TheVariants.{Remote, Ratio}
 use Rattle.modes.specs.declared.Request.TheVariants as request
 use Rattle.parameters.specs.Table.{value}
 use Rattle.answers.specs.declared.ScanValues.{ScanValues}

@@ -137,6 +137,7 @@ unfolding newest
 extreme_after_lem b none a None of_none =
     of_some (comes_first b none a (λ n x h. never_numbered h) (λ n x h. never_numbered h))
 extreme_after_lem b xs a (First o) (of_some f) = of_some (first_after b xs a o f)
+extreme_after_lem b (_ then _) a None x = elim x [ ]
 
 -- ---- the whole sheet
 

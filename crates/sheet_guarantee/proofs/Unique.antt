@@ -83,6 +83,8 @@ same_extreme b none None None of_none of_none = refl
 same_extreme b none None (First p) of_none (of_some g) = never_numbered g.stands
 same_extreme b none (First o) None (of_some f) of_none = never_numbered f.stands
 same_extreme b xs (First o) (First p) (of_some f) (of_some g) = ap First (same_first b xs o p f g)
+same_extreme b (_ then _) None e x _ = elim x [ ]
+same_extreme b (_ then _) (First o) None _ x = elim x [ ]
 
 -- ---- the whole
 

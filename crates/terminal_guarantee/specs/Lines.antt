@@ -19,7 +19,7 @@ use Rattle.controller.specs.declared.ReadAnswer.TheVariants as read
 use Rattle.terminal.specs.declared.LineAnswer.TheVariants.{Reply, Refused}
 use Rattle.terminal.specs.declared.LineResult.{LineResult}
 use Rattle.terminal.proofs.answer.Reads as answer-reads
-use Rattle.guarantee.specs.Linked.{Slice, ReadEnsures, WriteEnsures}
+use Rattle.guarantee.specs.Linked.{Slice, MutSlice, ReadEnsures, WriteEnsures}
 use Rattle.promises.specs.RefusalCauses.{NumberEnsures}
 use Rattle.terminal_guarantee.specs.Forms.{letters, InTable, IsWord, IsDecimal, Value, Asked, a_read, a_write, Asks}
 
@@ -27,13 +27,13 @@ abbrev pub Lifetimes : Type 0
 Lifetimes = Lfts 2
 
 -- what the `ensures` of a line says of its result, where the reply buffer has the bytes `after` afterwards
-abbrev pub LineEnsures : Lifetimes → Controller → Writer → Slice → Slice → LineResult → List ℕ → Type 0
+abbrev pub LineEnsures : Lifetimes → Controller → Writer → Slice → MutSlice → LineResult → List ℕ → Type 0
 LineEnsures lives c w line buffer r after =
     answer-reads.Post lives (c, (w, (line, (buffer, tt)))) r (c, (w, (line, (at_last buffer after, tt))))
 
 -- its `requires`, whoever the writer, whatever the line and the buffer
 abbrev pub LineReady : Controller → Type 0
-LineReady c = (lives : Lifetimes) (w : Writer) (line buffer : Slice) → answer-reads.Pre lives (c, (w, (line, (buffer, tt))))
+LineReady c = (lives : Lifetimes) (w : Writer) (line : Slice) (buffer : MutSlice) → answer-reads.Pre lives (c, (w, (line, (buffer, tt))))
 
 -- ---- a value as the terminal displays it
 
@@ -95,7 +95,7 @@ pub data LineClaim (c : Controller) (w : Writer) (line buffer : List ℕ) (r : L
 -- of every line and every buffer, at every valid controller: each that calls and lines lead to is (`LinesAreWrites`)
 abbrev pub LinesRight : Type 0
 LinesRight =
-    (lives : Lifetimes) (c : Controller) (w : Writer) (line buffer : Slice) (r : LineResult) (after : List ℕ) → Valid c →
+    (lives : Lifetimes) (c : Controller) (w : Writer) (line : Slice) (buffer : MutSlice) (r : LineResult) (after : List ℕ) → Valid c →
     LineEnsures lives c w line buffer r after → LineClaim c w line.now buffer.now r after
 
 -- a line asks one thing at the most, so one case of the claim is left to it

@@ -5,7 +5,7 @@ use Rattle.rights.specs.declared.Writer.{Writer}
 use Rattle.controller.specs.declared.Controller.{Controller}
 use Rattle.terminal.specs.declared.LineAnswer.TheVariants.{Reply}
 use Rattle.terminal.specs.declared.LineResult.{LineResult}
-use Rattle.guarantee.specs.Linked.{Slice}
+use Rattle.guarantee.specs.Linked.{Slice, MutSlice}
 use Rattle.guarantee.specs.Rights.{has_right, number_without}
 use Rattle.promises.specs.RefusalCauses.{setpoint_refused}
 use Rattle.terminal_guarantee.specs.Forms.{letters}
@@ -38,9 +38,9 @@ pub record SendingBack (w : Writer) (pins n : ℕ) (first : LineResult) (text bu
 abbrev pub ReplySentBack : Type 0
 ReplySentBack =
     (word : ℕ) (es : Events) (c : Controller) → Visited word es c → (n : ℕ) → 1 ≤ n → n ≤ 23 →
-    (lives : Lifetimes) (w : Writer) (bytes buffer : Slice) (r : LineResult) (after : List ℕ) →
+    (lives : Lifetimes) (w : Writer) (bytes : Slice) (buffer : MutSlice) (r : LineResult) (after : List ℕ) →
     LineEnsures lives c w bytes buffer r after →
     take 2 bytes.now ≡ letters n → (k : ℕ) → r.answer ≡ Reply k →
-    (lives2 : Lifetimes) (w2 : Writer) (again buffer2 : Slice) (r2 : LineResult) (after2 : List ℕ) →
+    (lives2 : Lifetimes) (w2 : Writer) (again : Slice) (buffer2 : MutSlice) (r2 : LineResult) (after2 : List ℕ) →
     LineEnsures lives2 r.controller w2 again buffer2 r2 after2 → again.now ≡ take k after → 9 ≤ length buffer2.now →
     SendingBack w2 r.controller.core.conditions.pins n r (take k after) buffer2.now r2 after2 k

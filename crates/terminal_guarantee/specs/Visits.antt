@@ -9,7 +9,7 @@ use Rattle.controller.specs.declared.ScanResult.{ScanResult}
 use Rattle.guarantee.specs.Demand.{Demand3}
 use Rattle.guarantee.specs.Exact as calls
 use Rattle.guarantee.specs.Exact.{Call, scan, write, restart, Calls}
-use Rattle.guarantee.specs.Linked.{FreshEnsures, ScanEnsures, WriteEnsures, RestartEnsures, Slice, Lifetime, Linked, Ready}
+use Rattle.guarantee.specs.Linked.{FreshEnsures, ScanEnsures, WriteEnsures, RestartEnsures, Slice, MutSlice, Lifetime, Linked, Ready}
 use Rattle.terminal.specs.declared.LineResult.{LineResult}
 use Rattle.terminal_guarantee.specs.Forms.{a_write, Asks}
 use Rattle.terminal_guarantee.specs.Lines.{Lifetimes, LineEnsures, LineReady}
@@ -35,7 +35,7 @@ pub data Visited (word : ℕ) : Events → Controller → Type 0 where
       Visited word (es then call (write w n v)) r.controller
   restarted : {es : Events} {c : Controller} (life : Lifetime) (image : Slice) (r : CallResult) → Visited word es c →
       RestartEnsures life c image r → Visited word (es then call (restart image.now)) r.controller
-  typed : {es : Events} {c : Controller} (lives : Lifetimes) (w : Writer) (bytes buffer : Slice) (r : LineResult) (after : List ℕ) →
+  typed : {es : Events} {c : Controller} (lives : Lifetimes) (w : Writer) (bytes : Slice) (buffer : MutSlice) (r : LineResult) (after : List ℕ) →
       Visited word es c → LineEnsures lives c w bytes buffer r after →
       Visited word (es then line w bytes.now (length buffer.now)) r.controller
 
