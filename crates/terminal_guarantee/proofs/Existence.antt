@@ -22,6 +22,7 @@ use Rattle.controller.specs.Write as writes
 use Rattle.controller.specs.Write.{write_tests}
 use Rattle.controller.specs.declared.Controller.{Controller}
 use Rattle.guarantee.specs.Exact.{scan, write, restart}
+use Rattle.guarantee.specs.Linked.{MutSlice}
 use Rattle.guarantee.proofs.Existence.{lend, write_exists, scan_exists, restart_exists, whenever}
 use Rattle.terminal.specs.Commands.{command_in}
 use Rattle.terminal.specs.Terminal.{LineOutcome, reply_text, present_value, refused_line, replied, wrote_or, answered_to, answered}
@@ -85,6 +86,10 @@ valid_visited (wrote w n v r l e) = e.1
 valid_visited (restarted life image r l e) = e.1
 valid_visited (typed lives w bytes buffer r after l e) = e.1
 
+-- these bytes, as a reference that may be written to
+abbrev lend_mut : List ℕ → MutSlice
+lend_mut bytes = record { ref_ptr = (0, 0); ghost_name = 0; now = bytes }
+
 pub always_visited : AlwaysVisited
 unfolding answered
 always_visited word none = record { last = fresh_controller word; visited = started (fresh_controller word) (refl, valid_fresh word) }
@@ -106,7 +111,7 @@ always_visited word (es then line who bytes room) =
     let valid = valid_visited w.visited in
     let r = result_by w.last who buffer (command_in bytes) valid in
     let e = with_valid w.last who bytes buffer _ valid r.described in
-    let here = typed lives who (lend bytes) (lend buffer) r.result r.after w.visited e in
+    let here = typed lives who (lend bytes) (lend_mut buffer) r.result r.after w.visited e in
     record {
       last = r.result.controller;
       visited = subst (λ (k : ℕ). Visited word (es then line who bytes k) r.result.controller) (length-replicate room 0) here;

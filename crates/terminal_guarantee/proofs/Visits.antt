@@ -21,7 +21,7 @@ use Rattle.terminal.specs.declared.LineResult.{LineResult}
 use Rattle.terminal_guarantee.specs.Forms.{letters, InTable, a_read, a_write, Asks, writes}
 use Rattle.terminal_guarantee.specs.Lines.{Written, refused_write, accepted_write, LineClaim, no_mnemonic, no_value, short_buffer}
 use Rattle.terminal_guarantee.specs.Lines.{a_reading, a_writing}
-use Rattle.terminal_guarantee.specs.Visits.{Events, none, ◌then◌, line, Visited, started, scanned, wrote, restarted, typed}
+use Rattle.terminal_guarantee.specs.Visits.{Events, ◌then◌, line, Visited, started, scanned, wrote, restarted, typed}
 use Rattle.terminal_guarantee.specs.Visits.{Turned, nothing, a_call, a_write_of, no_call, LinesAreWrites}
 use Rattle.terminal_guarantee.proofs.Forms.{apart}
 use Rattle.terminal_guarantee.proofs.Lines.{lines_right}
