@@ -6,9 +6,9 @@ No proof tells of this: the contract is of values alone. Looked at is the consol
 takes the root of any sample in two ways: in a scan with IC 1, and by the line `root`. The function
 `scaling::roots::entry` is a few instructions that go forward within it, call nothing, write no memory and read it once,
 at the sample's place in the table; it is called at two places at least, nothing else names an address in the table, and
-no function has room on its stack for a copy, of a byte for each root (in the program's start, beside its buffers, of
-two). The table is constant data, two bytes to a root, and all other constant data together is smaller than a byte for
-each root. The last line printed is 'N passed, M failed', one count for each of these.
+no function has room on its stack for a copy, of a byte for each root (the program's start beside its two buffers). The
+table is constant data, two bytes to a root, and all other constant data together is smaller than a byte for each root.
+The last line printed is 'N passed, M failed', one count for each of these.
 """
 
 import math
@@ -24,8 +24,7 @@ FUNCTION = "scaling::roots::entry"
 ROOTS = [math.isqrt(10000 * place) for place in range(10001)]
 TABLE_SIZE = 2 * len(ROOTS)
 MOST_INSTRUCTIONS, LEAST_COPY = 8, len(ROOTS)
-# The program's start: its stack has two buffers of this size, which `main` declares, and those of the standard streams
-START, BUFFERS = f"{PROGRAM}::main+start", 2 * 65536
+START, BUFFERS = f"{PROGRAM}::main+start", 2 * 65536  # the program's start has the input and the output on its stack
 COMPUTING = re.compile(r"movz?[bwlq]*|lea|cmp|test|xor|and|dec|sub|add|cmov\w+")  # the last operand is what may be written
 JUMP = re.compile(r"j(?:a|ae|b|be|mp)")
 HEADING = re.compile(r"[0-9a-f]+ <(.+)>:")
@@ -39,6 +38,7 @@ WIDENED = re.compile(r"movzwl %di,%e(\w\w)")                  # the sample, the 
 BASE = re.compile(r"lea -?0x[0-9a-f]+\(%rip\),(%r\w+)")       # where the table begins
 LOADED = re.compile(r"movzwl \((%r\w+),%r(\w+),2\),%eax")     # what the function returns
 STACK = re.compile(r"sub\s+\$0x([0-9a-f]+),%rsp")
+LARGE_STACK = re.compile(r"\tmov\s+%rsp,%r11\n.*\tsub\s+\$0x([0-9a-f]+),%r11")  # much room, which a loop then takes page by page
 BYTES = re.compile(r" [0-9a-f]+ ((?:[0-9a-f]{2,8} ){1,5})")  # in words of four bytes, and so five pieces at an odd place
 SECTION = re.compile(r"^\s+\d+ (\.rodata\S*)\s+([0-9a-f]{8})  ([0-9a-f]{16}) .*\n\s+(.*)$", re.MULTILINE)
 
@@ -108,6 +108,11 @@ def function_faults(lines):
     return faults
 
 
+def room_of(lines):
+    """How many bytes of the stack a function takes."""
+    return sum(int(size, 16) for size in STACK.findall("\n".join(lines)) + LARGE_STACK.findall("\n".join(lines)))
+
+
 def program_faults(functions, table, pointers):
     """What in the program's functions or data names an address in the table past the look-up, or could hold a copy."""
     inside = range(table, table + TABLE_SIZE)
@@ -117,8 +122,8 @@ def program_faults(functions, table, pointers):
     calls = [line for name, lines in functions.items() if name != FUNCTION for line in lines if CALL.search(line)]
     faults += [] if len(calls) >= WAYS else [f"the look-up is called at {len(calls)} places"]
     for name, lines in functions.items():
-        room = sum(int(found.group(1), 16) for found in map(STACK.search, lines) if found)
-        most = BUFFERS + TABLE_SIZE if name == START else LEAST_COPY
+        room = room_of(lines)
+        most = LEAST_COPY + (BUFFERS if name == START else 0)
         faults += [f"{name} has {room} bytes on its stack"] if room >= most else []
     return faults
 
