@@ -180,11 +180,15 @@ def rewrite(body, fn, env, goal=None, outer=None):
             if place == asked:
                 return base
             return f"(goal.at.{goal} c).{fn.record(place)}"
-        rest = [{"pre": "requires", "fits": "ranges"}.get(rest[0], rest[0]), *rest[1:]]
+        if not any(plain(of["old"] or "") == rest[0] for of in fn.places.values()):
+            rest = [{"pre": "requires", "fits": "ranges"}.get(rest[0], rest[0]), *rest[1:]]
         if rest[0].replace("-", "_") in ("args", "ranges", "requires", "utf8", "auto", "well_formed", "lifetimes"):
             new = [rest[0].replace("-", "_"), *(fn.args.get(r, r) for r in rest[1:])]
         else:
             new = fn.field(place, rest) if place else ["UNKNOWN_" + rest[0], *rest[1:]]
+            for tried in (rest, [re.sub(r"\d+$", "", rest[0]), *rest[1:]]):
+                if new[0].startswith("UNKNOWN_"):
+                    new = fn.field(env[base if base in env else first], tried)
         new = [new[0], *(r.replace("-", "_") if not new[0].startswith("in") else r for r in new[1:])]
         return ".".join([base, *new])
 
@@ -318,7 +322,14 @@ def convert(path, module, fn, left, crate):
         outer.update(inner)
         if re.match(r"(?:--[^\n]*\n)*module _ [^\n]*where\s*$", part):
             continue
-        out.append(rewrite(renamed(part, answers), fn, env, None, outer))
+        pieces, now = [], []
+        for line in renamed(part, answers).split("\n"):
+            if now and re.match(r"^ *(?:pub |abbrev )*" + WORD + r"(?: : |(?: " + WORD + r")* =(?: |$))", line) and not line.lstrip().startswith("let "):
+                pieces.append("\n".join(now))
+                now = []
+            now.append(line)
+        pieces.append("\n".join(now))
+        out.append("\n".join(rewrite(piece, fn, dict(env), None, outer) for piece in pieces))
     goals = f"Rattle.{crate}.proofs.{module}"
     kept = [u for u in uses if not re.search(r"\.(Statement\.|Tie as)", u)]
     folder = os.path.dirname(path)
