@@ -138,10 +138,12 @@ module _ (d : Controller) (image : List ℕ) (bytes : Bytes image) (sound : is_s
   vs = values_in image
 
   settings_are : settings_now (controller_restarted d vs) ≡ settings_in vs
-  unfolding vs settings_now settings_of controller_restarted controller_after restart_accepted restored_settings settings_in executed changed
+  unfolding vs settings_now settings_of controller_restarted controller_after restart_accepted restored_settings settings_in executed
+      changed
       limited_to restart_instruction restarted_to stored_arithmetic
   settings_are =
-      rw ((sound_of image sound).right, off) (rw (op_of_units (LO (parameters_in vs)) (HO (parameters_in vs)) (get_or vs 23 0) least most) refl)
+      rw ((sound_of image sound).right, off)
+      (rw (op_of_units (LO (parameters_in vs)) (HO (parameters_in vs)) (get_or vs 23 0) least most) refl)
 
   -- it saves to the same bytes
   pub same_bytes_lem : saved_image (restart d image).next ≡ image

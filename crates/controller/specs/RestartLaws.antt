@@ -110,5 +110,6 @@ restarted_valid c vs e =
 pub valid_restart : (c : Controller) (image : List ℕ) → Valid c → Valid (restart c image).next
 unfolding restart restart_core response_from controller_after refused executed changed limited_to controller_restarted
 valid_restart c image valid =
-    by_verdict_lem (λ o. Valid (response_from c o).next) (refused_by (restart_tests image)) c.core (restart_accepted c.core (values_in image))
+    by_verdict_lem (λ o. Valid (response_from c o).next) (refused_by (restart_tests image)) c.core
+    (restart_accepted c.core (values_in image))
     (λ e. restarted_valid c (values_in image) (taken image e).legal) (λ m. valid)

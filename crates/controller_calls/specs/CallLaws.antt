@@ -119,7 +119,8 @@ module _ (c : Controller) (valid : Valid c) (part rest : List ℕ) (p : is_fille
       let n : number_of refusal ≡ 15 = cc in
       simp (lt-leb 137 (length part) l, filled_append part rest p r, n)
 
-  long : 137 ≤ length part → (v : Verdict) → reply_of_verdict v ≡ acceptance → checked_reply v (saved_in (saved_image c) part ++ rest) ≡ Image
+  long : 137 ≤ length part → (v : Verdict) → reply_of_verdict v ≡ acceptance →
+      checked_reply v (saved_in (saved_image c) part ++ rest) ≡ Image
   unfolding checked_reply saved_in
   long l verdict.Accepted e =
       simp (le-leb 137 (length part) l)

@@ -1,5 +1,7 @@
 -- The fields looked at so far, their values, and their sum.
-use Rattle.std.proofs.Common.{◌≡◌, ℕ, zero, suc, ◌+◌, ◌-◌, ◌%◌, ◌<◌, ◌≤◌, true, false, eqb, List, [], ◌∷◌, ◌++◌, length, get_or, take, drop, set, refl, ap, ◌∙◌, append-nil, le_of_suc-le-suc, not-suc-le-zero, add-one, arith, length-drop, length-set, take_all, drop-drop, take-suc-set, eq-eqb}
+use Rattle.std.proofs.Common.{◌≡◌, ℕ, zero, suc, ◌+◌, ◌-◌, ◌%◌, ◌<◌, ◌≤◌, true, false, eqb, List, [], ◌∷◌, ◌++◌, length, get_or, take, drop}
+use Rattle.std.proofs.Common.{set, refl, ap, ◌∙◌, append-nil, le_of_suc-le-suc, not-suc-le-zero, add-one, arith, length-drop, length-set}
+use Rattle.std.proofs.Common.{take_all, drop-drop, take-suc-set, eq-eqb}
 use lib.Seq.{append_snoc}
 use Rattle.fields.specs.FieldLaws.{start_of, next_start, start_most}
 use Rattle.fields.specs.Fields.{tag_of, length_of, sum, sum_of}
@@ -49,7 +51,8 @@ well_formed_next b start place t n g h et en hh =
       formed = cc (g.formed, well_formed_more place (28 - (place + 1)) (drop start b) hd);
     }
 
-pub well_formed_wrong : (b : List ℕ) (start place t n : ℕ) → WellFormed b start place → place < 28 → t ≡ tag_of place → n ≡ length_of place →
+pub well_formed_wrong : (b : List ℕ) (start place t n : ℕ) → WellFormed b start place → place < 28 → t ≡ tag_of place →
+    n ≡ length_of place →
     has_header t n (take (length b - start) (drop start b)) ≡ false → well_formed_from 0 28 b ≡ false
 well_formed_wrong b start place t n g h et en hh =
     let p : take (length b - start) (drop start b) ≡ drop start b = part_is b start in

@@ -1,5 +1,7 @@
 -- What the stores of a field leave, and the fields encoded so far, one behind the other.
-use Rattle.std.proofs.Common.{◌≡◌, ℕ, ◌+◌, ◌-◌, ◌/◌, ◌%◌, ◌<◌, ◌≤◌, List, [], ◌∷◌, ◌++◌, length, get_or, take, drop, set, sym, ap, ◌∙◌, subst, append_assoc, append-nil, zero-add, add-one, arith, length-append, length-drop, drop_of_length-le, length-take, take_all, drop-drop, take_at, drop_at}
+use Rattle.std.proofs.Common.{◌≡◌, ℕ, ◌+◌, ◌-◌, ◌/◌, ◌%◌, ◌<◌, ◌≤◌, List, [], ◌∷◌, ◌++◌, length, get_or, take, drop, set, sym, ap, ◌∙◌}
+use Rattle.std.proofs.Common.{subst, append_assoc, append-nil, zero-add, add-one, arith, length-append, length-drop, drop_of_length-le}
+use Rattle.std.proofs.Common.{length-take, take_all, drop-drop, take_at, drop_at}
 use lib.Seq.{sets-eq}
 use borrow.Rule.Slice.PartMut.{put_mid}
 use Rattle.fields.specs.FieldLaws.{by_length, length_field, start_of, next_start, start_most, start_end, fields_more}
@@ -52,7 +54,8 @@ encoded_next values buffer b last start place t n size room r h et en es el =
     let v = get_or values place 0 in
     let more : fields_from 0 (take (place + 1) values) ≡ fields_from 0 (take place values) ++ field_bytes t n v =
     ap (λ (k : ℕ). fields_from 0 (take k values)) (add-one place) ∙ fields_more 0 values place (omega arith) ∙ (cc (zero-add place)) in
-    let long : length (field_bytes t n v) ≡ 3 + n = subst (λ (m : ℕ). length (field_bytes t m v) ≡ 3 + m) (sym en) (length_field t place v) in
+    let long : length (field_bytes t n v) ≡ 3 + n = subst (λ (m : ℕ). length (field_bytes t m v) ≡ 3 + m) (sym en)
+    (length_field t place v) in
     let next : start + 3 + n ≡ start_of (place + 1) = omega (arith, next_start place h) in
     let assoc : start + (3 + n) ≡ start + 3 + n = omega arith in
     record {

@@ -1,6 +1,8 @@
 -- Laws of single fields and of where they stand.
-use Rattle.std.specs.Prelude.{◌≡◌, ℕ, zero, suc, ◌+◌, ◌-◌, ◌*◌, ◌<◌, ◌≤◌, Bool, true, false, cond, List, [], ◌∷◌, ◌++◌, length, take, nat_lt, slice_index, refl}
-use Rattle.std.proofs.Common.{append_assoc, append-nil, le_of_suc-le-suc, not-suc-le-zero, add-zero, add-suc, suc-add, arith, ltb-true, ltb-false}
+use Rattle.std.specs.Prelude.{◌≡◌, ℕ, zero, suc, ◌+◌, ◌-◌, ◌*◌, ◌<◌, ◌≤◌, Bool, true, false, cond, List, [], ◌∷◌, ◌++◌, length, take}
+use Rattle.std.specs.Prelude.{nat_lt, slice_index, refl}
+use Rattle.std.proofs.Common.{append_assoc, append-nil, le_of_suc-le-suc, not-suc-le-zero, add-zero, add-suc, suc-add, arith, ltb-true}
+use Rattle.std.proofs.Common.{ltb-false}
 use Rattle.fields.specs.Fields.{tag_of, length_of, value_bytes, field_bytes, fields_from}
 
 -- a value has one byte or two
@@ -45,7 +47,8 @@ start_end = refl
 
 -- one field more
 pub fields_more : (first : ℕ) (vs : List ℕ) (i : ℕ) → i < length vs →
-    fields_from first (take (suc i) vs) ≡ fields_from first (take i vs) ++ field_bytes (tag_of (first + i)) (length_of (first + i)) (slice_index vs i)
+    fields_from first (take (suc i) vs) ≡ fields_from first (take i vs) ++ field_bytes (tag_of (first + i)) (length_of (first + i))
+    (slice_index vs i)
 unfolding fields_from
 fields_more first [] i h = absurd (not-suc-le-zero h)
 fields_more first (v ∷ vs) zero h = simp (append-nil, add-zero)

@@ -1,6 +1,8 @@
 -- Values that are encoded are decoded again, and fields that are decoded are encoded as the same bytes.
-use Rattle.std.specs.Prelude.{◌≡◌, ℕ, zero, suc, ◌+◌, ◌*◌, ◌/◌, ◌%◌, ◌^◌, ◌<◌, ◌≤◌, true, ◌&&◌, List, [], ◌∷◌, ◌++◌, length, drop, ◌==◌, slice_index, refl}
-use Rattle.std.proofs.Common.{ap, ◌∙◌, append-nil, append_assoc, not-suc-le-zero, add-zero, zero-add, arith, length-append, length-drop, get_or-drop, eq-eqb, eqb-true}
+use Rattle.std.specs.Prelude.{◌≡◌, ℕ, zero, suc, ◌+◌, ◌*◌, ◌/◌, ◌%◌, ◌^◌, ◌<◌, ◌≤◌, true, ◌&&◌, List, [], ◌∷◌, ◌++◌, length, drop, ◌==◌}
+use Rattle.std.specs.Prelude.{slice_index, refl}
+use Rattle.std.proofs.Common.{ap, ◌∙◌, append-nil, append_assoc, not-suc-le-zero, add-zero, zero-add, arith, length-append, length-drop}
+use Rattle.std.proofs.Common.{get_or-drop, eq-eqb, eqb-true}
 use Rattle.integers.specs.Choice.{both}
 use Rattle.fields.specs.FieldLaws.{by_length, length_field, start_of, next_start, start_grows}
 use Rattle.fields.specs.Fields.{tag_of, length_of, value_bytes, field_bytes, fields_from}
@@ -38,7 +40,8 @@ unfolding value_in field_bytes value_bytes
 value_of tag v rest place =
     by_length (λ (n : ℕ). v < 256 ^ n → value_in n (field_bytes tag n v ++ rest) ≡ v) (λ h. omega arith) (λ h. omega arith) place
 
-pub encoded_well_formed : (vs : List ℕ) (place : ℕ) (rest : List ℕ) → well_formed_from place (length vs) (fields_from place vs ++ rest) ≡ true
+pub encoded_well_formed : (vs : List ℕ) (place : ℕ) (rest : List ℕ) →
+    well_formed_from place (length vs) (fields_from place vs ++ rest) ≡ true
 unfolding fields_from well_formed_from
 encoded_well_formed [] place rest = refl
 encoded_well_formed (v ∷ vs) place rest =

@@ -69,7 +69,8 @@ history_is c i = ap (λ (t : Bool). if t then Nothing else c.history) (gap_is c.
 -- ---- the reading by the list
 
 step : (c : Core) (x : Call) → let o = outcome_of one_more c x in o.next.clock ≡ reading_after x o.answer c.clock
-unfolding outcome_of scan_core write_core write_accepted restart_core restart_accepted refused accepted context_of core_after status_of reading_after
+unfolding outcome_of scan_core write_core write_accepted restart_core restart_accepted refused accepted context_of core_after status_of
+    reading_after
 step c (scan i) =
     by_verdict_lem (λ o. o.next.clock ≡ reading_after (scan i) o.answer c.clock) (refused_by (scan_tests c.clock i)) c
     (accepted one_more c i) (λ e. refl) (λ n. refl)

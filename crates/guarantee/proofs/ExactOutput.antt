@@ -26,7 +26,8 @@ use Rattle.outputs.specs.ControlDifference.{control_difference, earlier_setpoint
 use Rattle.outputs.specs.History.{recalled}
 use Rattle.outputs.specs.Instruction.{keep, set_to, add_terms, unlimited, between, exact_arithmetic, changed, limited_to, executed}
 use Rattle.outputs.specs.Outputs as outputs
-use Rattle.outputs.specs.Outputs.{minimum_of, adjusted, terms_of, limits_in, instruction_of, limits_written, restarted_to, restart_instruction}
+use Rattle.outputs.specs.Outputs.{minimum_of, adjusted, terms_of, limits_in, instruction_of, limits_written, restarted_to}
+use Rattle.outputs.specs.Outputs.{restart_instruction}
 use Rattle.outputs.specs.declared.Context.{Context}
 use Rattle.outputs.specs.declared.History.{History}
 use Rattle.outputs.specs.declared.History.TheVariants.{Nothing, One, Two}
@@ -216,7 +217,8 @@ restart_is k image f = rw (restart_units image (bit k.sw 11) _) refl
 
 pub outcome_is : (k : Core) (x : Call) (f : Fraction) → let o = outcome_of one_more k x in
     (if is_accepted o.answer then output_after k o.next x f else f) ≡ executed exact_arithmetic o.instruction f
-unfolding outcome_of scan_core write_core write_accepted restart_core restart_accepted refused accepted status_of output_after executed changed
+unfolding outcome_of scan_core write_core write_accepted restart_core restart_accepted refused accepted status_of output_after executed
+    changed
     limited_to next
 outcome_is k (scan i) f =
     by_verdict_lem (λ o. (if is_accepted o.answer then output_after k o.next (scan i) f else f)

@@ -13,7 +13,8 @@ use Rattle.controller.specs.Restart as restarts
 use Rattle.controller.specs.Restart.{values_in, restart_tests, restart_accepted, restart_core}
 use Rattle.controller.specs.RestartLaws.{valid_restart}
 use Rattle.controller.specs.Scan as rules
-use Rattle.controller.specs.Scan.{controller_after, earlier_scans, core_after, status_of, Outcome, accepted, refused, scan_core, response_from}
+use Rattle.controller.specs.Scan.{controller_after, earlier_scans, core_after, status_of, Outcome, accepted, refused, scan_core}
+use Rattle.controller.specs.Scan.{response_from}
 use Rattle.controller.specs.State.{fresh_controller, fresh_core}
 use Rattle.controller.specs.Valid.{Valid}
 use Rattle.controller.specs.ValidLaws.{by_verdict_lem, valid_fresh, valid_scan}
@@ -66,7 +67,8 @@ switch_word c (scan i) =
 switch_word c (write w n v) =
     by_verdict_lem (λ o. o.next.sw ≡ c.sw) (refused_by (write_tests c w n v)) c (write_accepted c n v) (λ e. sw_stays c n v) (λ m. refl)
 switch_word c (restart image) =
-    by_verdict_lem (λ o. o.next.sw ≡ c.sw) (refused_by (restart_tests image)) c (restart_accepted c (values_in image)) (λ e. refl) (λ m. refl)
+    by_verdict_lem (λ o. o.next.sw ≡ c.sw) (refused_by (restart_tests image)) c (restart_accepted c (values_in image)) (λ e. refl)
+    (λ m. refl)
 
 -- ---- the bound
 
@@ -82,7 +84,8 @@ outcome_sound c (scan i) legal =
 outcome_sound c (write w n v) legal =
     by_verdict_lem (λ o. Divides o.instruction.change) (refused_by (write_tests c w n v)) c (write_accepted c n v) (λ e. keeps) (λ m. keeps)
 outcome_sound c (restart image) legal =
-    by_verdict_lem (λ o. Divides o.instruction.change) (refused_by (restart_tests image)) c (restart_accepted c (values_in image)) (λ e. sets)
+    by_verdict_lem (λ o. Divides o.instruction.change) (refused_by (restart_tests image)) c (restart_accepted c (values_in image))
+    (λ e. sets)
     (λ m. keeps)
 
 pub bound_after : (word : ℕ) (xs : Calls) → Near (ours word xs).output (exact word xs).output (3 * automatic_scans word xs)
@@ -97,7 +100,8 @@ bound_after word (xs then x) =
 
 open_counts : (c : Core) (x : Call) → let o = outcome_of one_more c x in
     o.next.conditions.opencount ≡ open_after x o.answer c.conditions.opencount
-unfolding outcome_of scan_core write_core write_accepted restart_core restart_accepted refused accepted core_after conditions_after open_count_after
+unfolding outcome_of scan_core write_core write_accepted restart_core restart_accepted refused accepted core_after conditions_after
+    open_count_after
     status_of open_after
 open_counts c (scan i) =
     by_verdict_lem (λ o. o.next.conditions.opencount ≡ open_after (scan i) o.answer c.conditions.opencount)

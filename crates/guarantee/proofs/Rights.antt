@@ -91,7 +91,8 @@ pin_is Computer pins = refl
 
 step : (c : Core) (x : Call) → let o = outcome_of one_more c x in
     o.next.conditions.pins ≡ pins_after x o.answer c.conditions.pins
-unfolding outcome_of scan_core write_core write_accepted restart_core restart_accepted refused accepted core_after conditions_after status_of
+unfolding outcome_of scan_core write_core write_accepted restart_core restart_accepted refused accepted core_after conditions_after
+    status_of
     pins_after
 step c (scan i) =
     by_verdict_lem (λ o. o.next.conditions.pins ≡ pins_after (scan i) o.answer c.conditions.pins)

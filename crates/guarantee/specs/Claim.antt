@@ -2,7 +2,8 @@
 -- and of the answers, the value of a parameter, what a read answers, the bytes of an image, the exact controller's
 -- steps but for the output, and the words of Shared.antt. The limits, what a word shows of the mode and how near the
 -- stored output is stand here a second time, so that a rule isn't judged by itself.
-use Rattle.std.specs.Prelude.{◌≡◌, List, [], ◌∷◌, ◌++◌, ℕ, ◌+◌, ◌-◌, ◌*◌, ◌/◌, ◌<◌, min, ltb, ℤ, pos, ◌+ℤ◌, ◌*ℤ◌, length, drop, ◌≤ℤ◌, ◌<ℤ◌, if◌then◌else◌}
+use Rattle.std.specs.Prelude.{◌≡◌, List, [], ◌∷◌, ◌++◌, ℕ, ◌+◌, ◌-◌, ◌*◌, ◌/◌, ◌<◌, min, ltb, ℤ, pos, ◌+ℤ◌, ◌*ℤ◌, length, drop, ◌≤ℤ◌, ◌<ℤ◌}
+use Rattle.std.specs.Prelude.{if◌then◌else◌}
 use Rattle.std.proofs.Math.Option.{some}
 use Rattle.signals.specs.Bits.{bit}
 use Rattle.terms.specs.Fraction.{Fraction}

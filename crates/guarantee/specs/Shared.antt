@@ -1,7 +1,8 @@
 -- Words that the claim borrows from the rules, and what each of them means, told once for all crates of the claim and
 -- apart from the definitions: a choice, a bit of a word, a limited value, the arithmetic of fractions, and what stands
 -- for an answer that the code gives. What is borrowed besides is told where it is used; docs/DECISIONS.md lists it.
-use Rattle.std.specs.Prelude.{◌≡◌, true, false, List, [], ◌∷◌, ℕ, ◌*◌, ◌/◌, ◌%◌, ◌<◌, eqb, ℤ, pos, ◌+ℤ◌, ◌*ℤ◌, get_or, ◌≤ℤ◌, ◌<ℤ◌, if◌then◌else◌}
+use Rattle.std.specs.Prelude.{◌≡◌, true, false, List, [], ◌∷◌, ℕ, ◌*◌, ◌/◌, ◌%◌, ◌<◌, eqb, ℤ, pos, ◌+ℤ◌, ◌*ℤ◌, get_or, ◌≤ℤ◌, ◌<ℤ◌}
+use Rattle.std.specs.Prelude.{if◌then◌else◌}
 use Rattle.std.proofs.Math.Option.{some, none}
 use Rattle.integers.specs.Limit as value
 use Rattle.signals.specs.Bits.{bit}

@@ -26,7 +26,8 @@ limited_low low high x h = by_cases (λ r. low ≤ℤ r) (lt_z high (at_least lo
 pub limited_high : (low high x : ℤ) → limited low high x ≤ℤ high
 unfolding limited at_most
 limited_high low high x =
-    by_cases (λ r. r ≤ℤ high) (lt_z high (at_least low x)) high (at_least low x) (λ e. omega (arith, integers)) (λ e. omega (arith, integers))
+    by_cases (λ r. r ≤ℤ high) (lt_z high (at_least low x)) high (at_least low x) (λ e. omega (arith, integers))
+    (λ e. omega (arith, integers))
 
 -- a value within its limits is kept
 pub limited_same : (low high x : ℤ) → low ≤ℤ x → x ≤ℤ high → limited low high x ≡ x

@@ -1,7 +1,8 @@
 -- A list by its places, and a loop that fills an array so: one law for every type of element.
 use Rattle.std.specs.Prelude.{◌≡◌, length, take, get_or, set}
 use Rattle.std.proofs.Math.Path.{refl, sym, ap}
-use Rattle.std.proofs.Common.{subst, ◌∙◌, add-zero, zero-add, add-suc, suc-add, le_of_suc-le-suc, not-suc-le-zero, add-one, arith, length-set, take-suc-set, take_all}
+use Rattle.std.proofs.Common.{subst, ◌∙◌, add-zero, zero-add, add-suc, suc-add, le_of_suc-le-suc, not-suc-le-zero, add-one, arith}
+use Rattle.std.proofs.Common.{length-set, take-suc-set, take_all}
 use mathlib.Core.List.{List, [], ◌∷◌, ◌++◌}
 use Prim.Native.Nat.{ℕ, zero, suc, ◌+◌, ◌-◌, ◌≤◌, ◌<◌}
 

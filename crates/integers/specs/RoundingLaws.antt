@@ -1,5 +1,6 @@
 -- Laws of the roundings, for proofs: sizes, the tests as code makes them, and signs kept.
-use Rattle.std.specs.Prelude.{◌≡◌, refl, Bool, true, false, ℕ, zero, suc, ◌+◌, ◌-◌, ◌*◌, ◌/◌, ◌%◌, ◌≤◌, ◌<◌, ℤ, pos, negsuc, neg_ℤ, nat_abs, ◌-ℤ◌, ◌*ℤ◌}
+use Rattle.std.specs.Prelude.{◌≡◌, refl, Bool, true, false, ℕ, zero, suc, ◌+◌, ◌-◌, ◌*◌, ◌/◌, ◌%◌, ◌≤◌, ◌<◌, ℤ, pos, negsuc, neg_ℤ, nat_abs}
+use Rattle.std.specs.Prelude.{◌-ℤ◌, ◌*ℤ◌}
 use Rattle.std.proofs.Common.{sym, ap, ◌∙◌, zero-le, mul-le-mul_left, mul-le-mul_right, div-le_self, mul-div_cancel}
 use Rattle.std.proofs.Math.Nat.{zero-div, zero-mod, div-eq_of_lt-le, mul-mod_left}
 use native.Mathlib.Omega.{arith, by_contra}

@@ -1,6 +1,7 @@
 -- Laws of lines.
 use Rattle.std.specs.Prelude.{◌≡◌, refl, Bool, cond, List, [], ◌∷◌, ◌++◌, eqb, leb, ltb, length, take, get_or}
-use Rattle.std.proofs.Common.{sym, ◌∙◌, arith, length-take, drop_of_length-le, drop-cons, drop-drop, take_all, eq-eqb, ne_eqb, leb-true, leb-false, ltb-false}
+use Rattle.std.proofs.Common.{sym, ◌∙◌, arith, length-take, drop_of_length-le, drop-cons, drop-drop, take_all, eq-eqb, ne_eqb, leb-true}
+use Rattle.std.proofs.Common.{leb-false, ltb-false}
 use Rattle.std.proofs.Math.Path.{ap}
 use Rattle.std.proofs.Math.Bool.{true, false}
 use Prim.Native.Nat.{ℕ, zero, suc, ◌+◌, ◌-◌, ◌≤◌, ◌<◌, min}

@@ -48,7 +48,8 @@ pub taken_none : (had : Option (List ℕ)) → Consumes had had []
 taken_none None = tt
 taken_none (Some xs) = refl
 
-pub taken_both : (had mid left : Option (List ℕ)) (xs ys : List ℕ) → Consumes had mid xs → Consumes mid left ys → Consumes had left (xs ++ ys)
+pub taken_both : (had mid left : Option (List ℕ)) (xs ys : List ℕ) → Consumes had mid xs → Consumes mid left ys →
+    Consumes had left (xs ++ ys)
 taken_both None mid left xs ys p q = tt
 taken_both (Some a) None left xs ys p q = absurd p
 taken_both (Some a) (Some b) None xs ys p q = absurd q

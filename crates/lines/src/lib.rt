@@ -174,8 +174,8 @@ fn read_on<R: Read>(
 }
 
 // The next line, in the line buffer. Where `complete` is false the input has ended. Of the bytes that were pending and
-// those received the contract rules out a line that is cut or joined with the next, and a byte that is lost. Which bytes
-// were received it tells of a reader whose bytes are known; of standard input no contract can.
+// those received the contract rules out a line that is cut or joined with the next, and a byte that is lost. Which
+// bytes were received it says of a reader whose bytes are known; of standard input no contract can.
 pub fn next_line<R: Read, W: Write>(
     reader: &mut R,
     writer: &mut W,

@@ -56,7 +56,8 @@ pub data AllRight (word : ℕ) : Calls → Answers → Type 0 where
   accepted_scan : {xs : Calls} {ys : Answers} {i : Input} {v : ScanValues} → AllRight word xs ys →
       scan_refusal (last_reading word xs) i ≡ option.none →
       Right (exact word (xs then scan i)).core v → AllRight word (xs then scan i) (answers.◌then◌ ys v)
-  refused_scan_lem : {xs : Calls} {ys : Answers} {i : Input} {n : ℕ} → AllRight word xs ys → scan_refusal (last_reading word xs) i ≡ some n →
+  refused_scan_lem : {xs : Calls} {ys : Answers} {i : Input} {n : ℕ} → AllRight word xs ys →
+      scan_refusal (last_reading word xs) i ≡ some n →
       AllRight word (xs then scan i) ys
   a_write : {xs : Calls} {ys : Answers} {w : Writer} {n : ℕ} {v : ℤ} → AllRight word xs ys → AllRight word (xs then write w n v) ys
   a_restart : {xs : Calls} {ys : Answers} {image : List ℕ} → AllRight word xs ys → AllRight word (xs then restart image) ys

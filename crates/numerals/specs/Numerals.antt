@@ -1,5 +1,6 @@
 -- Numbers as ASCII bytes: digits of a base from 2 to 16, decimals and words of 16 bits, written and read.
-use Rattle.std.specs.Prelude.{Bool, true, false, ◌&&◌, cond, List, [], ◌∷◌, ◌++◌, ℕ, zero, suc, ◌+◌, ◌-◌, ◌*◌, ◌/◌, ◌%◌, eqb, leb, ltb, ℤ, nat_abs, length, drop, get_or}
+use Rattle.std.specs.Prelude.{Bool, true, false, ◌&&◌, cond, List, [], ◌∷◌, ◌++◌, ℕ, zero, suc, ◌+◌, ◌-◌, ◌*◌, ◌/◌, ◌%◌, eqb, leb, ltb, ℤ}
+use Rattle.std.specs.Prelude.{nat_abs, length, drop, get_or}
 use Rattle.std.proofs.Math.Option.{Option, some, none}
 use Rattle.integers.specs.Sign.{from_sign, is_negative}
 

@@ -1,5 +1,6 @@
 -- Laws of numbers that are read: which 64 bits hold, and what an answer says of the digits.
-use Rattle.std.specs.Prelude.{◌≡◌, refl, Bool, true, false, cond, List, [], ◌∷◌, ℕ, ◌+◌, ◌-◌, ◌*◌, ◌/◌, ◌^◌, ◌≤◌, ◌<◌, ltb, ℤ, nat_abs, length}
+use Rattle.std.specs.Prelude.{◌≡◌, refl, Bool, true, false, cond, List, [], ◌∷◌, ℕ, ◌+◌, ◌-◌, ◌*◌, ◌/◌, ◌^◌, ◌≤◌, ◌<◌, ltb, ℤ, nat_abs}
+use Rattle.std.specs.Prelude.{length}
 use Rattle.std.proofs.Math.Option.{Option, some, none}
 use Rattle.std.proofs.Common.{mul_comm, mul-le-mul_right, div-lt_iff_lt-mul, le-div_iff_mul-le, arith, lt-ltb, le-ltb}
 use Rattle.integers.specs.Choice.{by_cases}

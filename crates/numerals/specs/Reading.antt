@@ -5,7 +5,8 @@ use Rattle.std.proofs.Common.{◌∙◌, div-lt_iff_lt-mul, add-one, arith, drop
 use mathlib.Core.List.{List, [], ◌∷◌, ◌++◌}
 use Rattle.std.proofs.Math.Option.{Option, none, some}
 use Prim.Native.Nat.{ℕ, zero, suc, ◌+◌, ◌*◌, ◌/◌, ◌%◌, ◌^◌, ◌≤◌, ◌<◌}
-use Rattle.std.proofs.Math.Nat.{pow-zero, pow-suc, div-add-mod', mod-lt, mul-le-mul_right, mul-add-div_right, div-eq_of_lt, pow-le-pow_right}
+use Rattle.std.proofs.Math.Nat.{pow-zero, pow-suc, div-add-mod', mod-lt, mul-le-mul_right, mul-add-div_right, div-eq_of_lt}
+use Rattle.std.proofs.Math.Nat.{pow-le-pow_right}
 use Rattle.std.proofs.Math.ListN.{length}
 use Rattle.std.proofs.Math.Seq.{drop-cons}
 use borrow.Author.Tests.{ltb-true, lt-ltb, le-ltb}

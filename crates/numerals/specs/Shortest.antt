@@ -1,5 +1,6 @@
 -- What is written reads back as the number; nothing shorter reads as it, and nothing else that is as short does.
-use Rattle.std.specs.Prelude.{◌≡◌, refl, Bool, true, false, cond, List, [], ◌∷◌, ℕ, zero, suc, ◌^◌, ◌≤◌, ◌<◌, eqb, leb, ltb, ℤ, pos, negsuc, nat_abs, length, drop, get_or}
+use Rattle.std.specs.Prelude.{◌≡◌, refl, Bool, true, false, cond, List, [], ◌∷◌, ℕ, zero, suc, ◌^◌, ◌≤◌, ◌<◌, eqb, leb, ltb, ℤ, pos, negsuc}
+use Rattle.std.specs.Prelude.{nat_abs, length, drop, get_or}
 use Rattle.std.proofs.Common.{ap, ◌∙◌, arith, length-drop, ltb-true, leb-true, lt-ltb, le-ltb, le-leb, eq-eqb, eqb-true}
 use Rattle.std.proofs.Math.Option.{Option, none, some}
 use Rattle.integers.specs.Sign.{from_sign}

@@ -75,7 +75,8 @@ module _ (c d : Controller) (valid : Valid c) where
   output_is : next.output ≡ limited_stored (LO (settings_now c).parameters) (HO (settings_now c).parameters)
       (stored_units (if bit d.core.sw 11 then (if bit d.core.sw 14 then HO (settings_now c).parameters else
       LO (settings_now c).parameters) else pos (settings_now c).op))
-  unfolding vs next controller_after restart_accepted executed changed limited_to restart_instruction restarted_to minimum_of stored_arithmetic
+  unfolding vs next controller_after restart_accepted executed changed limited_to restart_instruction restarted_to minimum_of
+      stored_arithmetic
       switches_of
   output_is = rw (taken_is, saved_sum c valid, never_off (bit d.core.sw 11)) refl
 

@@ -75,7 +75,8 @@ unfolding parameter_in words
 same_parameter image n h = go (eqb n 0) refl
   where
     go : (t : Bool) → eqb n 0 ≡ t →
-        (if t then pos 0 else from_word (get_or (values_in image) (n - 1) 0)) ≡ (if t then pos 0 else from_word (get_or (words image) (n - 1) 0))
+        (if t then pos 0 else from_word (get_or (values_in image) (n - 1) 0)) ≡
+        (if t then pos 0 else from_word (get_or (words image) (n - 1) 0))
     go true e = refl
     go false e =
         let some = eqb-false n 0 e in
@@ -112,7 +113,8 @@ unfolding parameters_in parameter_in words value listed from_word parameter_at a
 legal_is image = ap are_legal (parameters_at image)
 
 pub repaired_at : (image : List ℕ) (n : ℕ) → 1 ≤ n → n ≤ 23 → value (repaired (parameters_in (values_in image))) n ≡ repaired_value image n
-unfolding parameters_in parameter_in words value with_value listed from_word parameter_at repaired setpoint_and_ratio_limited limited_anew by_pairs
+unfolding parameters_in parameter_in words value with_value listed from_word parameter_at repaired setpoint_and_ratio_limited limited_anew
+    by_pairs
     paired_value by_range ranged_value widest_output rule_of least most in_order default ranged paired repaired_value
 repaired_at image n h k =
     ap (λ (p : Parameters). value (repaired p) n) (parameters_at image) ∙

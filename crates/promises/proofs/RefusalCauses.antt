@@ -78,7 +78,8 @@ module _ (values : ℕ → ℤ) (n : ℕ) (v : ℤ) (first : 1 ≤ n) (last : n 
   range_is : in_range (rule_of n) values v ≡ (le_z (least values n) v && le_z v (most values n))
   unfolding rule_of listed least most
   range_is =
-      listed_same (λ (m : ℕ). in_range (rule_of m) values v) (λ (m : ℕ). le_z (least values m) v && le_z v (most values m)) 1 25 n refl first
+      listed_same (λ (m : ℕ). in_range (rule_of m) values v)
+      (λ (m : ℕ). le_z (least values m) v && le_z v (most values m)) 1 25 n refl first
       (omega arith)
 
   order_is : pair_in_order (rule_of n) values n v ≡ in_order (replaced values n v) n

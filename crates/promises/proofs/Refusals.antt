@@ -27,7 +27,8 @@ use Rattle.controller.specs.RestartLaws.{restart_ascends}
 use Rattle.controller.specs.Scan as rules
 use Rattle.controller.specs.Scan.{Outcome, refused_or, status_of, scan_core, controller_after, response_from}
 use Rattle.controller.specs.ValidLaws.{Passed, passed}
-use Rattle.controller.specs.Write.{word_of, setpoint_tests, state_tests, value_tests, access_now, write_tests, write_accepted, write_core, write}
+use Rattle.controller.specs.Write.{word_of, setpoint_tests, state_tests, value_tests, access_now, write_tests, write_accepted, write_core}
+use Rattle.controller.specs.Write.{write}
 use Rattle.controller.specs.declared.Controller.{Controller}
 use Rattle.controller.specs.declared.Core.{Core}
 use Rattle.promises.specs.RefusalCauses.{RefusedStays}

@@ -244,7 +244,8 @@ module _ (d : Controller) (image : List ℕ) (wrong : is_sum_right (values_in im
   p = repaired (parameters_in vs)
 
   output_is : next.output ≡ limited_stored (LO p) (HO p) (stored_units (if bit d.core.sw 14 then HO p else LO p))
-  unfolding vs next p controller_after restart_accepted executed changed limited_to restart_instruction restarted_to minimum_of stored_arithmetic
+  unfolding vs next p controller_after restart_accepted executed changed limited_to restart_instruction restarted_to minimum_of
+      stored_arithmetic
       switches_of repaired_settings
   output_is = rw (taken_is, wrong, always (bit d.core.sw 11)) refl
 
@@ -255,7 +256,8 @@ module _ (d : Controller) (image : List ℕ) (wrong : is_sum_right (values_in im
       let legal = repaired_legal (parameters_in vs) size (in_unused vs) in
       let user_bits_are : (restored_settings vs).userbits
       ≡ (if leb (get_or image 131 0) 7 then user_bits_in (get_or image 131 0) else user_bits_in 0) =
-      ap (λ (s : Settings). s.userbits) taken_is ∙ ap (λ (v : ℕ). if leb v 7 then user_bits_in v else user_bits_in 0) (user_bits_at image) in
+      ap (λ (s : Settings). s.userbits) taken_is ∙
+      ap (λ (v : ℕ). if leb v 7 then user_bits_in v else user_bits_in 0) (user_bits_at image) in
       record {
         fault = ap (λ (s : Settings). s.fault) taken_is;
         request =

@@ -213,7 +213,8 @@ module _ (c : Core) (i : Input) (legal : Legal c.parameters) (sampled : SampleRa
   -- ---- the whole
 
   pub effect : ScanEffect c now i
-  unfolding now accepted core_after conditions_after open_count_after counted buttons_of indications_after low_alarm high_alarm context_of computed_in
+  unfolding now accepted core_after conditions_after open_count_after counted buttons_of indications_after low_alarm high_alarm context_of
+      computed_in
       computed p second_channel power
   effect =
       record {

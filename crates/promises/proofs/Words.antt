@@ -181,7 +181,8 @@ module _ (now : Core) where
         user2 = ds_bit 7 (omega arith);
         user1 = ds_bit 6 (omega arith);
         hold_or_manual =
-            ds_bit 5 (omega arith) ∙ fifth (mode_now now) ∙ ap (λ (o : Option Mode). not (hold_manual_or_forced o)) (sym (mode_is_first now));
+            ds_bit 5 (omega arith) ∙ fifth (mode_now now) ∙
+            ap (λ (o : Option Mode). not (hold_manual_or_forced o)) (sym (mode_is_first now));
         remote_or_ratio_lem =
             ds_bit 4 (omega arith) ∙ fourth (mode_now now) ∙ ap (λ (o : Option Mode). not (remote_or_ratio o)) (sym (mode_is_first now));
         battery = ds_bit 3 (omega arith);

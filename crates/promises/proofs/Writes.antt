@@ -27,7 +27,8 @@ use Rattle.outputs.specs.Outputs.{limits_in, limits_written}
 use Rattle.controller.specs.Answers.{Response}
 use Rattle.controller.specs.Scan.{mode_now, controller_after, response_from}
 use Rattle.controller.specs.Write as writes
-use Rattle.controller.specs.Write.{core_with, md_written, ds_written, parameter_written, core_written, write_tests, write_accepted, write_core}
+use Rattle.controller.specs.Write.{core_with, md_written, ds_written, parameter_written, core_written, write_tests, write_accepted}
+use Rattle.controller.specs.Write.{write_core}
 use Rattle.controller.specs.declared.Controller.{Controller}
 use Rattle.controller.specs.declared.Core.{Core}
 use Rattle.guarantee.proofs.ExactOutput.{either, limiting_is}

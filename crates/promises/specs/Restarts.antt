@@ -1,7 +1,8 @@
 -- What is promised of a start, fresh or by an image, over the contracts of `Controller::fresh` and
 -- `Controller::restart`. An image is told by the places of its bytes, its parameters by the columns of the table.
 -- Shared with the rules are the types of the state, the value of a parameter, and the words of Shared.antt (guarantee).
-use Rattle.std.specs.Prelude.{◌≡◌, Bool, true, false, not, ◌&&◌, ◌||◌, List, [], ◌∷◌, ℕ, zero, suc, ◌+◌, ◌-◌, ◌*◌, ◌≤◌, leb, ltb, eqb, ℤ, pos, ◌*ℤ◌, ◌-ℤ◌, length, get_or, if◌then◌else◌}
+use Rattle.std.specs.Prelude.{◌≡◌, Bool, true, false, not, ◌&&◌, ◌||◌, List, [], ◌∷◌, ℕ, zero, suc, ◌+◌, ◌-◌, ◌*◌, ◌≤◌, leb, ltb, eqb, ℤ}
+use Rattle.std.specs.Prelude.{pos, ◌*ℤ◌, ◌-ℤ◌, length, get_or, if◌then◌else◌}
 use Rattle.std.specs.Int.Signed.{le_z}
 use Rattle.integers.specs.Limit.{limited}
 use Rattle.signals.specs.Bits.{bit}
@@ -25,7 +26,8 @@ Accepts r = reply_of_verdict r ≡ acceptance
 
 -- at this place stand a tag and a two-byte length
 abbrev pub header_at : List ℕ → ℕ → ℕ → ℕ → Bool
-header_at image place tag size = eqb (get_or image place 0) tag && (eqb (get_or image (place + 1) 0) 0 && eqb (get_or image (place + 2) 0) size)
+header_at image place tag size = eqb (get_or image place 0) tag &&
+    (eqb (get_or image (place + 1) 0) 0 && eqb (get_or image (place + 2) 0) size)
 
 -- so many tags from this one on, one every five bytes, tag 1 at byte 0; then 41h, 42h, 43h, 44h and 7Fh
 unfoldable pub headers_from : List ℕ → ℕ → ℕ → Bool

@@ -1,6 +1,6 @@
 -- A table of numbers as the compiler lowers it: a switch with an arm for each place, which sets local 2 to its entry.
--- `entries_of` reads the entries off any arms, and `arms_of` makes the arms of entries. Where code has another form 0 is
--- read; `arms_of` makes no such code, so the arms that it makes aren't the ones that were read.
+-- `entries_of` reads the entries off any arms, and `arms_of` makes the arms of entries. Where code has another form 0
+-- is read; `arms_of` makes no such code, so the arms that it makes aren't the ones that were read.
 use mathlib.Core.Bool.{Bool, true, false}
 use mathlib.Core.List.{List, [], ◌∷◌}
 use Prim.Native.Nat.{ℕ, suc}

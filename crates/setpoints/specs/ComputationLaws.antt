@@ -99,7 +99,8 @@ pub zero_minus : (z : ℤ) → pos 0 -ℤ z ≡ neg_ℤ z
 zero_minus z = omega (arith, integers, difference (pos 0) z, negation z)
 
 module _ (p : Parameters) (legal : Legal p) where
-  pub limited_setpoint : (s : Switches) (mode : Mode) (sl rs trim : ℤ) (i : Input) → Inside (LS p) (setpoint_of p s mode sl rs trim i) (HS p)
+  pub limited_setpoint : (s : Switches) (mode : Mode) (sl rs trim : ℤ) (i : Input) →
+      Inside (LS p) (setpoint_of p s mode sl rs trim i) (HS p)
   unfolding setpoint_of
   limited_setpoint s mode sl rs trim i = setpoint_limited p legal _
 

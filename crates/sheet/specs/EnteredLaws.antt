@@ -1,5 +1,6 @@
 -- An empty sheet is valid, entering keeps a sheet valid, and so no value of it can pass its type.
-use Rattle.std.specs.Prelude.{◌≡◌, refl, true, ◌&&◌, ℕ, zero, suc, ◌+◌, ◌*◌, ◌≤◌, ◌<◌, eqb, leb, ℤ, pos, nat_abs, ◌+ℤ◌, length, get_or, ◌≤ℤ◌}
+use Rattle.std.specs.Prelude.{◌≡◌, refl, true, ◌&&◌, ℕ, zero, suc, ◌+◌, ◌*◌, ◌≤◌, ◌<◌, eqb, leb, ℤ, pos, nat_abs, ◌+ℤ◌, length, get_or}
+use Rattle.std.specs.Prelude.{◌≤ℤ◌}
 use Rattle.std.proofs.Common.{ap, ◌∙◌, arith, length-set, leb-true, leb-false, le-leb, eqb-true, eq-eqb}
 use Rattle.std.specs.Int.Signed.{mag, le_z}
 use Rattle.integers.specs.Choice.{by_cases, both, never}

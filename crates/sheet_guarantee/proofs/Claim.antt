@@ -48,7 +48,8 @@ next ys = if eqb (many ys) 4294967295 then Full else Taken
 abbrev Entered : Answers → List Entry → ScanValues → EnterResult → Type 0
 Entered xs es a r = (r.entry ≡ next (taken_of xs es)) × Gives (taken_of (xs then a) (r.entry ∷ es)) r.sheet.values
 
-one_more_lem : (xs : Answers) (es : List Entry) (s : Sheet) (a : ScanValues) → Holds (taken_of xs es) s → Entered xs es a (rules.entered s a)
+one_more_lem : (xs : Answers) (es : List Entry) (s : Sheet) (a : ScanValues) → Holds (taken_of xs es) s →
+    Entered xs es a (rules.entered s a)
 unfolding rules.entered
 one_more_lem xs es s a h =
     let ys = taken_of xs es in

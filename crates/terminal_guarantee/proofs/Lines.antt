@@ -102,7 +102,8 @@ displayed c n valid =
     let v = present_value c n in
     by_cases (Displayed n v) (is_word n) (hexadecimal_word (nat_abs v)) (decimal v)
     (λ e.
-    subst (λ (z : ℤ). Displayed n z (hexadecimal_word (nat_abs v))) (sym (word_value c n e)) (word_displayed n (nat_abs v) e (md_small c n)))
+    subst (λ (z : ℤ). Displayed n z (hexadecimal_word (nat_abs v))) (sym (word_value c n e))
+    (word_displayed n (nat_abs v) e (md_small c n)))
     (λ e.
     let d = decimal_shortest 5 v (omega (arith, value_few c n valid e)) (omega arith) in
     let reads_as : (t : List ℕ) → Value n t v → integer_of 5 t ≡ some v = λ t f. rw e at (form_value f) in

@@ -143,7 +143,8 @@ stored : (c : Controller) (n : ℕ) → 1 ≤ n → n ≤ 23 → present_value c
 unfolding value_in
 stored c n h k = rw (le-leb 1 n h, le-leb n 23 k) refl
 
-reply_asks : (c : Controller) (n : ℕ) → Valid c → InTable n → n ≤ 23 → Asks (reply_text n (present_value c n)) (a_write n (present_value c n))
+reply_asks : (c : Controller) (n : ℕ) → Valid c → InTable n → n ≤ 23 →
+    Asks (reply_text n (present_value c n)) (a_write n (present_value c n))
 unfolding reply_text value_text value_of
 reply_asks c n valid t most =
     let v = present_value c n in

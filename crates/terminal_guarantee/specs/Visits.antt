@@ -35,7 +35,8 @@ pub data Visited (word : ℕ) : Events → Controller → Type 0 where
       Visited word (es then call (write w n v)) r.controller
   restarted : {es : Events} {c : Controller} (life : Lifetime) (image : Slice) (r : CallResult) → Visited word es c →
       RestartEnsures life c image r → Visited word (es then call (restart image.now)) r.controller
-  typed : {es : Events} {c : Controller} (lives : Lifetimes) (w : Writer) (bytes : Slice) (buffer : MutSlice) (r : LineResult) (after : List ℕ) →
+  typed : {es : Events} {c : Controller} (lives : Lifetimes) (w : Writer) (bytes : Slice) (buffer : MutSlice) (r : LineResult)
+      (after : List ℕ) →
       Visited word es c → LineEnsures lives c w bytes buffer r after →
       Visited word (es then line w bytes.now (length buffer.now)) r.controller
 

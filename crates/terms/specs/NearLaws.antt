@@ -50,7 +50,8 @@ stored_near f h = record { positive = h; near = omega (arith, nearest_even-off (
 
 -- document 01: "At an exact half either neighbour may stand". The two, by sign and magnitude, are each off by one half
 pub neighbours_near : (f : Fraction) → Positive f → let z = stored_units f.numerator in let d = f.denominator in
-    2 * (nat_abs z % d) ≡ d → Near (from_sign (is_negative z) (nat_abs z / d)) f 1 × Near (from_sign (is_negative z) (nat_abs z / d + 1)) f 1
+    2 * (nat_abs z % d) ≡ d → Near (from_sign (is_negative z) (nat_abs z / d)) f 1 ×
+    Near (from_sign (is_negative z) (nat_abs z / d + 1)) f 1
 neighbours_near f some half =
     let z = stored_units f.numerator in
     let d = f.denominator in

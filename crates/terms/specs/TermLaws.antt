@@ -138,7 +138,8 @@ unfolding integral_term stored_term limited_term limited at_most at_least whole 
 integral_none t c none = simp none
 
 pub integral_parts : (t : Tuning) (c : ℤ) → (t.ti ≡ 0 → ⊥) →
-    over (from_sign (is_negative c) (10000000 * nat_abs c * scan_numerator t)) (t.xp * t.span * scan_denominator t * t.ti) ≡ integral_term t c
+    over (from_sign (is_negative c) (10000000 * nat_abs c * scan_numerator t)) (t.xp * t.span * scan_denominator t * t.ti) ≡
+    integral_term t c
 unfolding integral_term
 integral_parts t c some = simp (ne_eqb t.ti 0 some) (rw (times_is, from_sign-times))
 

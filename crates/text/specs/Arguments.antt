@@ -1,5 +1,6 @@
 -- The numbers of a line from a position on, as a call's arguments: at most six.
-use Rattle.std.specs.Prelude.{Bool, true, false, ◌&&◌, ◌||◌, cond, List, [], ◌∷◌, ◌++◌, ℕ, zero, suc, ◌-◌, eqb, ltb, ℤ, pos, neg_ℤ, nat_abs, length, take, drop, get_or, replicate}
+use Rattle.std.specs.Prelude.{Bool, true, false, ◌&&◌, ◌||◌, cond, List, [], ◌∷◌, ◌++◌, ℕ, zero, suc, ◌-◌, eqb, ltb, ℤ, pos, neg_ℤ, nat_abs}
+use Rattle.std.specs.Prelude.{length, take, drop, get_or, replicate}
 use Rattle.std.specs.Int.Signed.{le_z}
 use Rattle.integers.specs.Sign.{is_negative}
 use Rattle.numerals.specs.Parsed.{number_of}

@@ -1,5 +1,6 @@
 -- Laws of hexadecimal digits read.
-use Rattle.std.specs.Prelude.{◌≡◌, refl, Bool, ◌&&◌, cond, List, [], ◌∷◌, ◌++◌, ℕ, zero, suc, ◌+◌, ◌*◌, ◌/◌, ◌%◌, ◌≤◌, ◌<◌, ltb, leb, length, drop, get_or, set}
+use Rattle.std.specs.Prelude.{◌≡◌, refl, Bool, ◌&&◌, cond, List, [], ◌∷◌, ◌++◌, ℕ, zero, suc, ◌+◌, ◌*◌, ◌/◌, ◌%◌, ◌≤◌, ◌<◌, ltb, leb}
+use Rattle.std.specs.Prelude.{length, drop, get_or, set}
 use Rattle.std.proofs.Common.{sym, ap, ◌∙◌, add-one, arith, length-append, drop_of_length-le, drop-cons}
 use Rattle.std.proofs.Math.Bool.{true, false}
 use Rattle.std.proofs.Math.Option.{Option, some, none}
@@ -41,7 +42,8 @@ length_pairs word (suc n) = length-append (pairs word n) _ ∙ ap (λ (k : ℕ).
 
 pub pairs_more :
     (word buffer : List ℕ) (n : ℕ) → n < length buffer →
-    set (pairs word n ++ drop n buffer) n (pair (get_or word (2 * n) 0) (get_or word (2 * n + 1) 0)) ≡ pairs word (n + 1) ++ drop (n + 1) buffer
+    set (pairs word n ++ drop n buffer) n (pair (get_or word (2 * n) 0) (get_or word (2 * n + 1) 0)) ≡ pairs word (n + 1) ++ drop
+    (n + 1) buffer
 unfolding pairs
 pairs_more word buffer n h =
     rw (add-one n, drop-cons buffer n 0 h)

@@ -30,7 +30,8 @@ pairs_written bs h (suc n) k =
     let l = h n (omega arith) in
     let d = hexadecimal_at bs n (omega arith) in
     let byte : pair (get_or (hexadecimal bs) (2 * n) 0) (get_or (hexadecimal bs) (2 * n + 1) 0) ≡ get_or bs n 0 =
-    rw (d.0, d.1, digit_value_lem (get_or bs n 0 / 16 % 16) (omega arith), digit_value_lem (get_or bs n 0 % 16) (omega arith)) (omega arith) in
+    rw (d.0, d.1, digit_value_lem (get_or bs n 0 / 16 % 16) (omega arith), digit_value_lem (get_or bs n 0 % 16) (omega arith))
+    (omega arith) in
     rw (take-suc bs n 0 (omega arith), byte, pairs_written bs h n (omega arith))
 
 -- two digits or more are no `-`

@@ -36,14 +36,17 @@ unfolding line_figures held t.answered t.answered_to t.read_to t.written_to t.re
     names.named names.numbered names.is_of names.mnemonic n.last_digits n.digit_byte n.places_within n.places n.digits n.decimal
     n.hexadecimal_word n.digit_value n.read_on n.digits_of n.with_sign n.integer_of n.word_of value_in w.write w.write_core w.write_tests
     w.access_now w.value_tests g.may_write g.pin_tests g.right_tests g.access_tests
-    w.state_tests w.write_accepted w.core_written w.md_written w.ds_written w.parameter_written w.core_with written conditions_written power_written
+    w.state_tests w.write_accepted w.core_written w.md_written w.ds_written w.parameter_written w.core_with written conditions_written
+    power_written
     user_bits_written
     md_tests rule_of u.limits_written s.refused h.history_after s.scan s.scan_core s.accepted s.earlier_scans h.history_before
     s.response_from s.controller_after s.context_of s.computed_in s.indications_after s.core_after s.status_of s.mode_now
     State.fresh_controller State.fresh_core State.start_readings a.op_of a.electrical_of refused_by scan_tests buttons_of pins_of
-    switches_of adjustment_of m.counted m.open_count_after m.conditions_after m.mode_of m.goes_to_minimum byte_of md_high md_low MD ds_low DS
+    switches_of adjustment_of m.counted m.open_count_after m.conditions_after m.mode_of m.goes_to_minimum byte_of md_high md_low MD ds_low
+    DS
     value with_value r.computed r.low_alarm r.high_alarm p.first_sample p.process_variable p.third_channel l.moved_by_hand
-    l.ratio_after l.setpoint_moved l.setpoint_after l.following_setpoint p.trim_of p.local_setpoint p.setpoint_in p.setpoint_of p.measured_power
+    l.ratio_after l.setpoint_moved l.setpoint_after l.following_setpoint p.trim_of p.local_setpoint p.setpoint_in p.setpoint_of
+    p.measured_power
     scaled half_up Limit.limited Limit.at_least Limit.at_most o.stored_arithmetic o.changed o.limited_to o.executed
     u.terms_of u.by_terms u.limits_in u.instruction_of
 line_figures_hold =

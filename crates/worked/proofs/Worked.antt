@@ -135,7 +135,13 @@ scan_figures_hold = (
         r = remote_result;
         q = fall_back_result;
         falls_back = record {
-          remote = record { made = remote_made (trimmed_chain _ refl refl) refl; values = remote_values; accepted = refl; in_mode_lem = refl };
+          remote = record {
+            made = remote_made
+                (trimmed_chain _ refl refl) refl;
+            values = remote_values;
+            accepted = refl;
+            in_mode_lem = refl;
+          };
           fall_back = record {
             made =
                 scan_by remote_result.controller (pin_at_zero 5750) fall_back_result

@@ -47,11 +47,22 @@ pub returns-then-low-high : goal.returns-then-low-high
 returns-then-low-high c =
     rw (
       calculation (goal.at.returns-then-low-high c).After-signed_at-value,
-      rw (low_back (goal.at.returns-then-low-high c).After-signed_at-value, high_back (goal.at.returns-then-low-high c).After-signed_at-value) at c.if-low-high.true,
+      rw (
+        low_back (goal.at.returns-then-low-high c).After-signed_at-value,
+        high_back (goal.at.returns-then-low-high c).After-signed_at-value,
+      ) at c.if-low-high.true,
       back w64 c.limit.result c.limit.type_inv,
-      rw (low_back (goal.at.returns-then-low-high c).After-signed_at-value, high_back (goal.at.returns-then-low-high c).After-signed_at-value, value_back (goal.at.returns-then-low-high c).After-signed_at-value) at c.limit.ensures,
+      rw (
+        low_back (goal.at.returns-then-low-high c).After-signed_at-value,
+        high_back (goal.at.returns-then-low-high c).After-signed_at-value,
+        value_back (goal.at.returns-then-low-high c).After-signed_at-value,
+      ) at c.limit.ensures,
     ) refl
 
 pub returns : goal.returns
 returns c =
-    rw (calculation (goal.at.returns c).After-signed_at-value, rw (low_back (goal.at.returns c).After-signed_at-value, high_back (goal.at.returns c).After-signed_at-value) at c.if-low-high.false) refl
+    rw (
+      calculation (goal.at.returns c).After-signed_at-value,
+      rw (low_back (goal.at.returns c).After-signed_at-value, high_back (goal.at.returns c).After-signed_at-value) at c.if-low-high.false,
+    )
+    refl

@@ -41,11 +41,21 @@ pub returns-then-low-high : goal.returns-then-low-high
 returns-then-low-high c =
     rw (
       calculation (goal.at.returns-then-low-high c).After-natural_at-sample,
-      rw (low_back (goal.at.returns-then-low-high c).After-natural_at-sample, high_back (goal.at.returns-then-low-high c).After-natural_at-sample) at c.if-low-high.true,
+      rw (
+        low_back (goal.at.returns-then-low-high c).After-natural_at-sample,
+        high_back (goal.at.returns-then-low-high c).After-natural_at-sample,
+      ) at c.if-low-high.true,
       back w64 c.scale.result c.scale.type_inv,
-      rw (low_back (goal.at.returns-then-low-high c).After-natural_at-sample, high_back (goal.at.returns-then-low-high c).After-natural_at-sample) at c.scale.ensures,
+      rw (
+        low_back (goal.at.returns-then-low-high c).After-natural_at-sample,
+        high_back (goal.at.returns-then-low-high c).After-natural_at-sample,
+      ) at c.scale.ensures,
     ) refl
 
 pub returns : goal.returns
 returns c =
-    rw (calculation (goal.at.returns c).After-natural_at-sample, rw (low_back (goal.at.returns c).After-natural_at-sample, high_back (goal.at.returns c).After-natural_at-sample) at c.if-low-high.false) refl
+    rw (
+      calculation (goal.at.returns c).After-natural_at-sample,
+      rw (low_back (goal.at.returns c).After-natural_at-sample, high_back (goal.at.returns c).After-natural_at-sample) at
+          c.if-low-high.false,
+    ) refl

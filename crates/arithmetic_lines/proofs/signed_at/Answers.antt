@@ -23,11 +23,16 @@ module _ (c : After-magnitude-size) where
 
 pub returns-then-most-size : goal.returns-then-most-size
 unfolding signed_in
-returns-then-most-size c = (rw (← (size_is (goal.at.returns-then-most-size c).After-magnitude-size), lt-ltb _ _ c.if-most-size.true) refl, omega arith)
+returns-then-most-size c =
+    (rw (← (size_is (goal.at.returns-then-most-size c).After-magnitude-size), lt-ltb _ _ c.if-most-size.true) refl, omega arith)
 
 pub returns : goal.returns
 unfolding signed_in
 returns c = (
-  rw (← (size_is (goal.at.returns c).After-magnitude-size), le-ltb _ _ c.if-most-size.false, value_back (goal.at.returns c).After-magnitude-size) refl,
+  rw (
+    ← (size_is (goal.at.returns c).After-magnitude-size),
+    le-ltb _ _ c.if-most-size.false,
+    value_back (goal.at.returns c).After-magnitude-size,
+  ) refl,
   rw (value_back (goal.at.returns c).After-magnitude-size, ← (size_is (goal.at.returns c).After-magnitude-size)) c.if-most-size.false,
 )

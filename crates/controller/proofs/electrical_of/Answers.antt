@@ -15,8 +15,10 @@ op_is c = c.op_of-op.ensures.0 ∙ ap op_of (to_z-of_z c.ranges.output)
 
 pub returns-then-s : goal.returns-then-s
 unfolding electrical_of
-returns-then-s c = simp (op_is (goal.at.returns-then-s c).After-op_of-op, switch_is (goal.at.returns-then-s c).After-switches_of-s ∙ c.if-s.true)
+returns-then-s c = simp
+    (op_is (goal.at.returns-then-s c).After-op_of-op, switch_is (goal.at.returns-then-s c).After-switches_of-s ∙ c.if-s.true)
 
 pub returns-else-s : goal.returns-else-s
 unfolding electrical_of
-returns-else-s c = simp (op_is (goal.at.returns-else-s c).After-op_of-op, switch_is (goal.at.returns-else-s c).After-switches_of-s ∙ c.if-s.false)
+returns-else-s c = simp
+    (op_is (goal.at.returns-else-s c).After-op_of-op, switch_is (goal.at.returns-else-s c).After-switches_of-s ∙ c.if-s.false)

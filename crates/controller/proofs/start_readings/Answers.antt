@@ -15,7 +15,11 @@ minus-er-requires c =
 pub returns : goal.returns
 unfolding start_readings
 returns c =
-    simp (back w64 c.minus-er.result c.minus-er.type_inv, back w64 c.get-sp.result c.get-sp.type_inv, back w64 c.get-pv.result c.get-pv.type_inv)
+    simp (
+      back w64 c.minus-er.result c.minus-er.type_inv,
+      back w64 c.get-sp.result c.get-sp.type_inv,
+      back w64 c.get-pv.result c.get-pv.type_inv,
+    )
     (simp (c.minus-er.ensures, back w64 c.get-sp.result c.get-sp.type_inv, back w64 c.get-pv.result c.get-pv.type_inv)
     (simp c.get-sp.ensures
     (simp c.get-pv.ensures)))

@@ -7,7 +7,8 @@ use Rattle.fields.proofs.save.Goals as goal
 
 pub returns-then-buffer-lt-IMAGE_LENGTH : goal.returns-then-buffer-lt-IMAGE_LENGTH
 unfolding refused_by save_tests saved_in
-returns-then-buffer-lt-IMAGE_LENGTH c = (simp (lt-ltb _ _ c.if-buffer-lt-IMAGE_LENGTH.true), simp (lt-leb _ _ c.if-buffer-lt-IMAGE_LENGTH.true))
+returns-then-buffer-lt-IMAGE_LENGTH c =
+    (simp (lt-ltb _ _ c.if-buffer-lt-IMAGE_LENGTH.true), simp (lt-leb _ _ c.if-buffer-lt-IMAGE_LENGTH.true))
 
 pub returns : goal.returns
 unfolding refused_by save_tests saved_in

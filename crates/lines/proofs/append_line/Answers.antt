@@ -13,7 +13,8 @@ returns-then-b-eq10 c =
     let i = c.loop-i.i in
     let feed = c.if-b-eq10.true in
     record {
-      filled = sym (ap (append_all (buffer c.loop-i.line c.loop-i.filled)) (line_at_feed bytes i (omega arith) feed)) ∙ c.loop-i.invariant.2;
+      filled = sym (ap (append_all (buffer c.loop-i.line c.loop-i.filled)) (line_at_feed bytes i (omega arith) feed)) ∙
+          c.loop-i.invariant.2;
       complete = sym (end_at_feed bytes i (omega arith) feed) ∙ c.loop-i.invariant.3;
       count = omega (arith, c.loop-i.invariant.4, length_at_feed bytes i (omega arith) feed);
     }

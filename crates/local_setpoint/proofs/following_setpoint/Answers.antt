@@ -9,7 +9,11 @@ pub returns : goal.returns
 unfolding following_setpoint
 returns c =
     simp (back w64 c.choose.result c.choose.type_inv)
-    (simp (c.choose.ensures, back w64 c.limited_setpoint-limited.result c.limited_setpoint-limited.type_inv, back w64 c.choose-elsewhere.result c.choose-elsewhere.type_inv)
+    (simp (
+      c.choose.ensures,
+      back w64 c.limited_setpoint-limited.result c.limited_setpoint-limited.type_inv,
+      back w64 c.choose-elsewhere.result c.choose-elsewhere.type_inv,
+    )
     (simp (c.choose-elsewhere.ensures, to_z-of_z c.ranges.sp, to_z-of_z c.ranges.sl)
     (simp c.is_ratio-ratio.ensures
     (simp c.is_remote-remote.ensures

@@ -39,7 +39,8 @@ module _ (c : Else-base-d) where
 pub returns-then-d-base : goal.returns-then-d-base
 returns-then-d-base c =
     let l = c.loop-i in
-    let large = no_room c.args.base l.value c.digit_value-d.result c.requires.0 (digit_most (goal.at.returns-then-d-base c).Else-base-d) c.if-d-base.true in
+    let large = no_room c.args.base l.value c.digit_value-d.result c.requires.0
+    (digit_most (goal.at.returns-then-d-base c).Else-base-d) c.if-d-base.true in
     sym (ap within64 (more (goal.at.returns-then-d-base c).Else-base-d) ∙ too_large c.args.base _ _ c.requires.0 large)
 
 -- there is room for the digit

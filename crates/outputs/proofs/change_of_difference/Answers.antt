@@ -8,7 +8,8 @@ use Rattle.outputs.specs.OutputLaws.{earlier_reading, control_difference_size, s
 use Rattle.setpoints.specs.ComputationLaws.{reading_back, reading_small}
 use Rattle.integers.specs.Machine.{back}
 use Rattle.outputs.specs.ControlDifference.{change_of_difference}
-use Rattle.outputs.proofs.change_of_difference.Goals.{After-control_difference-earlier, After-control_difference-now, After-earlier_setpoint-sp}
+use Rattle.outputs.proofs.change_of_difference.Goals.{After-control_difference-earlier, After-control_difference-now}
+use Rattle.outputs.proofs.change_of_difference.Goals.{After-earlier_setpoint-sp}
 use Rattle.outputs.proofs.change_of_difference.Goals as goal
 
 earlier_is : (c : After-earlier_setpoint-sp) → let a = c.args in
@@ -52,4 +53,5 @@ minus-requires c =
 pub returns : goal.returns
 unfolding change_of_difference
 returns c =
-    back w64 c.minus.result c.minus.type_inv ∙ c.minus.ensures ∙ simp (now_is (goal.at.returns c).After-control_difference-now, then_is (goal.at.returns c).After-control_difference-earlier)
+    back w64 c.minus.result c.minus.type_inv ∙ c.minus.ensures ∙
+    simp (now_is (goal.at.returns c).After-control_difference-now, then_is (goal.at.returns c).After-control_difference-earlier)

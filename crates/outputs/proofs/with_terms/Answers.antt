@@ -18,7 +18,8 @@ use Rattle.outputs.specs.Instruction.{changed, stored_arithmetic}
 use Rattle.outputs.specs.Outputs.{terms_of}
 use Rattle.outputs.specs.OutputLaws.{PastRange, recalled_read, control_difference_most, change_most, second_most}
 use Rattle.outputs.specs.OutputLaws.{tuning_range, stored_size, stored_small, term_sized, small_of, sum_most}
-use Rattle.outputs.proofs.with_terms.Goals.{After-derivative, After-integral, After-plus-one, After-plus-two, After-proportional, After-recalled-past, After-second_difference-d}
+use Rattle.outputs.proofs.with_terms.Goals.{After-derivative, After-integral, After-plus-one, After-plus-two, After-proportional}
+use Rattle.outputs.proofs.with_terms.Goals.{After-recalled-past, After-second_difference-d}
 use Rattle.outputs.proofs.with_terms.Goals as goal
 
 past_is : (c : After-recalled-past) → let a = c.args in c.recalled-past.result ≡ recalled a.h a.r
@@ -93,10 +94,14 @@ proportional_is c =
 
 pub plus-one-requires : goal.plus-one-requires
 plus-one-requires c =
-    simp (to_z-of_z c.ranges.output, proportional_is c)
-    (stored_small c.args.output c.requires.3, small_of (term_sized _ (proportional_positive _ (tuned (goal.at.plus-one-requires c).After-second_difference-d) _)) (omega arith))
+    simp (to_z-of_z c.ranges.output, proportional_is c) (
+      stored_small c.args.output c.requires.3,
+      small_of (term_sized _ (proportional_positive _ (tuned (goal.at.plus-one-requires c).After-second_difference-d) _)) (omega arith),
+    )
 
-one_is : (c : After-plus-one) → to_z w64 (of_z w64 c.plus-one.result) ≡ c.args.output +ℤ stored_term (proportional_term (tuning c.before.before) (change c.before.before))
+one_is : (c : After-plus-one) →
+    to_z w64 (of_z w64 c.plus-one.result) ≡ c.args.output +ℤ stored_term
+    (proportional_term (tuning c.before.before) (change c.before.before))
 one_is c =
     back w64 c.plus-one.result c.plus-one.type_inv ∙ c.plus-one.ensures ∙
     simp (to_z-of_z c.ranges.output, proportional_is c.before)
@@ -105,37 +110,52 @@ pub integral-requires : goal.integral-requires
 unfolding now
 integral-requires c =
     let read = c.requires.1 in
-    simp (tuning_is (goal.at.integral-requires c).After-second_difference-d, now_is (goal.at.integral-requires c).After-second_difference-d) (tuned (goal.at.integral-requires c).After-second_difference-d, control_difference_most _ _ _ read.sp_read read.pv_read)
+    simp (tuning_is (goal.at.integral-requires c).After-second_difference-d, now_is (goal.at.integral-requires c).After-second_difference-d)
+    (tuned (goal.at.integral-requires c).After-second_difference-d, control_difference_most _ _ _ read.sp_read read.pv_read)
 
-integral_is : (c : After-integral) → to_z w64 (of_z w64 c.integral.result) ≡ stored_term (integral_term (tuning c.before.before.before) (now c.before.before.before))
+integral_is : (c : After-integral) →
+    to_z w64 (of_z w64 c.integral.result) ≡ stored_term (integral_term (tuning c.before.before.before) (now c.before.before.before))
 integral_is c =
-    back w64 c.integral.result c.integral.type_inv ∙ c.integral.ensures ∙ simp (tuning_is c.before.before.before, now_is c.before.before.before)
+    back w64 c.integral.result c.integral.type_inv ∙ c.integral.ensures ∙
+    simp (tuning_is c.before.before.before, now_is c.before.before.before)
 
 pub plus-two-requires : goal.plus-two-requires
 plus-two-requires c =
     simp (one_is (goal.at.plus-two-requires c).After-plus-one, integral_is c) (
-      small_of (sum_most (stored_size c.requires.3) (term_sized _ (proportional_positive _ (tuned (goal.at.plus-two-requires c).After-second_difference-d) _))) (omega arith),
+      small_of (sum_most (stored_size c.requires.3)
+          (term_sized _ (proportional_positive _ (tuned (goal.at.plus-two-requires c).After-second_difference-d) _))) (omega arith),
       small_of (term_sized _ (integral_positive _ (tuned (goal.at.plus-two-requires c).After-second_difference-d) _)) (omega arith),
     )
 
 two_is : (c : After-plus-two) → to_z w64 (of_z w64 c.plus-two.result)
-    ≡ (c.args.output +ℤ stored_term (proportional_term (tuning c.before.before.before.before) (change c.before.before.before.before))) +ℤ stored_term (integral_term (tuning c.before.before.before.before) (now c.before.before.before.before))
+    ≡ (c.args.output +ℤ stored_term (proportional_term (tuning c.before.before.before.before) (change c.before.before.before.before))) +ℤ
+    stored_term (integral_term (tuning c.before.before.before.before) (now c.before.before.before.before))
 two_is c =
     back w64 c.plus-two.result c.plus-two.type_inv ∙ c.plus-two.ensures ∙ simp (one_is c.before.before, integral_is c.before)
 
 pub derivative-requires : goal.derivative-requires
 unfolding second
 derivative-requires c =
-    simp (tuning_is (goal.at.derivative-requires c).After-second_difference-d, second_is (goal.at.derivative-requires c).After-second_difference-d) (tuned (goal.at.derivative-requires c).After-second_difference-d, second_most _ _ c.requires.1 (past_known (goal.at.derivative-requires c).After-second_difference-d))
+    simp (
+      tuning_is (goal.at.derivative-requires c).After-second_difference-d,
+      second_is (goal.at.derivative-requires c).After-second_difference-d,
+    ) (
+      tuned (goal.at.derivative-requires c).After-second_difference-d,
+      second_most _ _ c.requires.1 (past_known (goal.at.derivative-requires c).After-second_difference-d),
+    )
 
-derivative_is : (c : After-derivative) → to_z w64 (of_z w64 c.derivative.result) ≡ stored_term (derivative_term (tuning c.before.before.before.before.before) (second c.before.before.before.before.before))
+derivative_is : (c : After-derivative) →
+    to_z w64 (of_z w64 c.derivative.result) ≡ stored_term
+    (derivative_term (tuning c.before.before.before.before.before) (second c.before.before.before.before.before))
 derivative_is c =
-    back w64 c.derivative.result c.derivative.type_inv ∙ c.derivative.ensures ∙ simp (tuning_is c.before.before.before.before.before, second_is c.before.before.before.before.before)
+    back w64 c.derivative.result c.derivative.type_inv ∙ c.derivative.ensures ∙
+    simp (tuning_is c.before.before.before.before.before, second_is c.before.before.before.before.before)
 
 pub plus-requires : goal.plus-requires
 plus-requires c =
     simp (two_is (goal.at.plus-requires c).After-plus-two, derivative_is c) (
-      small_of (sum_most (sum_most (stored_size c.requires.3) (term_sized _ (proportional_positive _ (tuned (goal.at.plus-requires c).After-second_difference-d) _)))
+      small_of (sum_most (sum_most (stored_size c.requires.3)
+          (term_sized _ (proportional_positive _ (tuned (goal.at.plus-requires c).After-second_difference-d) _)))
           (term_sized _ (integral_positive _ (tuned (goal.at.plus-requires c).After-second_difference-d) _))) (omega arith),
       small_of (term_sized _ (derivative_positive _ (tuned (goal.at.plus-requires c).After-second_difference-d) _)) (omega arith),
     )
@@ -143,4 +163,5 @@ plus-requires c =
 pub returns : goal.returns
 unfolding changed stored_arithmetic terms_of tuning past inverse change now second
 returns c =
-    back w64 c.plus.result c.plus.type_inv ∙ c.plus.ensures ∙ simp (two_is (goal.at.returns c).After-plus-two, derivative_is (goal.at.returns c).After-derivative)
+    back w64 c.plus.result c.plus.type_inv ∙ c.plus.ensures ∙
+    simp (two_is (goal.at.returns c).After-plus-two, derivative_is (goal.at.returns c).After-derivative)

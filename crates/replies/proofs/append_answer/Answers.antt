@@ -7,7 +7,6 @@ use Rattle.formatting.specs.Buffer.{buffer, append_all}
 use Rattle.formatting.specs.Laws.{then}
 use Rattle.replies.specs.Replies.{answer_text}
 use Rattle.replies.specs.ReplyLaws.{value_most}
-use Rattle.replies.proofs.append_answer.Goals.{After-slice_known-6-1}
 use Rattle.replies.proofs.append_answer.Goals as goal
 
 pub returns : goal.returns

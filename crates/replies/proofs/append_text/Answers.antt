@@ -14,8 +14,10 @@ returns-in-Accepted c =
 
 pub returns-in-Value : goal.returns-in-Value
 unfolding reply_text
-returns-in-Value c =
-    (rw c.in-Value.is (rw (back w32 c.in-Value.v (search rules)) at c.append_value.ensures), rw c.in-Value.is (value_most c.in-Value.v (search rules)))
+returns-in-Value c = (
+  rw c.in-Value.is (rw (back w32 c.in-Value.v (search rules)) at c.append_value.ensures),
+  rw c.in-Value.is (value_most c.in-Value.v (search rules)),
+)
 
 pub returns-in-Answer : goal.returns-in-Answer
 unfolding reply_text

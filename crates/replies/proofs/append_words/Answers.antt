@@ -3,7 +3,6 @@ use native.Mathlib.Omega.{arith}
 use Rattle.formatting.specs.Buffer.{buffer}
 use Rattle.formatting.specs.Laws.{then}
 use Rattle.replies.specs.Replies.{words_text}
-use Rattle.replies.proofs.append_words.Goals.{After-slice_known-6-1}
 use Rattle.replies.proofs.append_words.Goals as goal
 
 pub returns : goal.returns

@@ -11,7 +11,11 @@ pub setpoint_in-unlimited-requires : goal.setpoint_in-unlimited-requires
 setpoint_in-unlimited-requires c =
     let p = c.args.p in
     let legal = c.requires.0 in
-    simp (back w64 c.trim_of-trim.result c.trim_of-trim.type_inv, back w64 c.ratio_after-rs.result c.ratio_after-rs.type_inv, back w64 c.setpoint_after-sl.result c.setpoint_after-sl.type_inv) (
+    simp (
+      back w64 c.trim_of-trim.result c.trim_of-trim.type_inv,
+      back w64 c.ratio_after-rs.result c.ratio_after-rs.type_inv,
+      back w64 c.setpoint_after-sl.result c.setpoint_after-sl.type_inv,
+    ) (
       legal,
       c.requires.1,
       rw c.setpoint_after-sl.ensures (reading_small _ (setpoint_read p legal (setpoint_inside p legal _ _ _ _))),
@@ -23,7 +27,10 @@ pub minus-er-requires : goal.minus-er-requires
 minus-er-requires c =
     let p = c.args.p in
     let legal = c.requires.0 in
-    simp (back w64 c.limited_setpoint-sp.result c.limited_setpoint-sp.type_inv, back w64 c.process_variable-pv.result c.process_variable-pv.type_inv) (
+    simp (
+      back w64 c.limited_setpoint-sp.result c.limited_setpoint-sp.type_inv,
+      back w64 c.process_variable-pv.result c.process_variable-pv.type_inv,
+    ) (
       rw c.process_variable-pv.ensures (reading_small _ (pv_reading p legal _ c.requires.1)),
       rw c.limited_setpoint-sp.ensures (reading_small _ (setpoint_read p legal (setpoint_limited p legal _))),
     )

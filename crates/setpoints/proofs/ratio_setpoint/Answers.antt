@@ -21,7 +21,12 @@ channel-q-requires c = range2 c.args.p c.requires.0 c.args.input.sample2 c.requi
 s_is : (c : After-magnitude-s) → c.magnitude-s.result ≡ nat_abs (limited (LR c.args.p) (HR c.args.p) (c.args.rs +ℤ c.args.trim))
 s_is c =
     simp (c.magnitude-s.ensures, back w64 c.limit-limited.result c.limit-limited.type_inv)
-    (simp (c.limit-limited.ensures, back w64 c.plus-sum.result c.plus-sum.type_inv, back w64 c.get-high.result c.get-high.type_inv, back w64 c.get-low.result c.get-low.type_inv)
+    (simp (
+      c.limit-limited.ensures,
+      back w64 c.plus-sum.result c.plus-sum.type_inv,
+      back w64 c.get-high.result c.get-high.type_inv,
+      back w64 c.get-low.result c.get-low.type_inv,
+    )
     (simp (c.plus-sum.ensures, c.get-high.ensures, c.get-low.ensures, to_z-of_z c.ranges.rs, to_z-of_z c.ranges.trim)))
 
 q_is : (c : After-channel-q) →
@@ -48,11 +53,20 @@ pub returns : goal.returns
 unfolding ratio_setpoint
 returns c =
     simp (back w64 c.plus.result c.plus.type_inv)
-    (simp (c.plus.ensures, back w64 c.get-bias.result c.get-bias.type_inv, back w64 c.ratio_quotient-quotient.result c.ratio_quotient-quotient.type_inv)
+    (simp (
+      c.plus.ensures,
+      back w64 c.get-bias.result c.get-bias.type_inv,
+      back w64 c.ratio_quotient-quotient.result c.ratio_quotient-quotient.type_inv,
+    )
     (simp c.get-bias.ensures
     (simp (c.ratio_quotient-quotient.ensures, back w64 c.channel-q.result c.channel-q.type_inv)
     (simp (c.magnitude-s.ensures, back w64 c.limit-limited.result c.limit-limited.type_inv)
-    (simp (c.limit-limited.ensures, back w64 c.plus-sum.result c.plus-sum.type_inv, back w64 c.get-high.result c.get-high.type_inv, back w64 c.get-low.result c.get-low.type_inv)
+    (simp (
+      c.limit-limited.ensures,
+      back w64 c.plus-sum.result c.plus-sum.type_inv,
+      back w64 c.get-high.result c.get-high.type_inv,
+      back w64 c.get-low.result c.get-low.type_inv,
+    )
     (simp (c.plus-sum.ensures, to_z-of_z c.ranges.rs, to_z-of_z c.ranges.trim)
     (simp c.get-high.ensures
     (simp c.get-low.ensures

@@ -35,9 +35,25 @@ module _ (six : After-natural_in-sensors) where
 pub returns-then-pins-sample1 : goal.returns-then-pins-sample1
 unfolding scan_of
 returns-then-pins-sample1 c =
-    rw (← pins_is (goal.at.returns-then-pins-sample1 c).After-natural_in-sensors, ← sample1_is (goal.at.returns-then-pins-sample1 c).After-natural_in-sensors, ← sample2_is (goal.at.returns-then-pins-sample1 c).After-natural_in-sensors, ← sample3_is (goal.at.returns-then-pins-sample1 c).After-natural_in-sensors, ← buttons_is (goal.at.returns-then-pins-sample1 c).After-natural_in-sensors, ← sensors_is (goal.at.returns-then-pins-sample1 c).After-natural_in-sensors, c.if-pins-sample1.true) refl
+    rw (
+      ← pins_is (goal.at.returns-then-pins-sample1 c).After-natural_in-sensors,
+      ← sample1_is (goal.at.returns-then-pins-sample1 c).After-natural_in-sensors,
+      ← sample2_is (goal.at.returns-then-pins-sample1 c).After-natural_in-sensors,
+      ← sample3_is (goal.at.returns-then-pins-sample1 c).After-natural_in-sensors,
+      ← buttons_is (goal.at.returns-then-pins-sample1 c).After-natural_in-sensors,
+      ← sensors_is (goal.at.returns-then-pins-sample1 c).After-natural_in-sensors,
+      c.if-pins-sample1.true,
+    ) refl
 
 pub returns : goal.returns
 unfolding scan_of
 returns c =
-    rw (← pins_is (goal.at.returns c).After-natural_in-sensors, ← sample1_is (goal.at.returns c).After-natural_in-sensors, ← sample2_is (goal.at.returns c).After-natural_in-sensors, ← sample3_is (goal.at.returns c).After-natural_in-sensors, ← buttons_is (goal.at.returns c).After-natural_in-sensors, ← sensors_is (goal.at.returns c).After-natural_in-sensors, c.if-pins-sample1.false) refl
+    rw (
+      ← pins_is (goal.at.returns c).After-natural_in-sensors,
+      ← sample1_is (goal.at.returns c).After-natural_in-sensors,
+      ← sample2_is (goal.at.returns c).After-natural_in-sensors,
+      ← sample3_is (goal.at.returns c).After-natural_in-sensors,
+      ← buttons_is (goal.at.returns c).After-natural_in-sensors,
+      ← sensors_is (goal.at.returns c).After-natural_in-sensors,
+      c.if-pins-sample1.false,
+    ) refl

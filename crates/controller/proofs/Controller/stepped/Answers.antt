@@ -23,7 +23,8 @@ unfolding context_of
 output_after-output-requires c =
     simp (stored_back c.requires.0.stored) (
       c.requires.0.legal,
-      rw (c.compute-r.ensures, context_is (goal.at.output_after-output-requires c).After-context-x) (read c.args.self.core _ c.requires.0.legal c.requires.1),
+      rw (c.compute-r.ensures, context_is (goal.at.output_after-output-requires c).After-context-x)
+          (read c.args.self.core _ c.requires.0.legal c.requires.1),
       rw c.history_before-history.ensures
           (earlier_kept c.args.self.core.history _ c.requires.0.kept),
       c.requires.0.stored,

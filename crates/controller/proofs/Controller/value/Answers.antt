@@ -10,7 +10,8 @@ use Rattle.outputs.specs.OutputLaws.{stored_back}
 use Rattle.controller.specs.Read.{value_in}
 use Rattle.controller.specs.ValidLaws.{reading_back}
 use borrow.Author.Rules.{rules}
-use Rattle.controller.proofs.Controller.value.Goals.{In_default, in_default-via-then-number-lt1, in_default-via-else-number-lt1+else-number-lt24}
+use Rattle.controller.proofs.Controller.value.Goals.{In_default, in_default-via-then-number-lt1}
+use Rattle.controller.proofs.Controller.value.Goals.{in_default-via-else-number-lt1+else-number-lt24}
 use Rattle.controller.proofs.Controller.value.Goals as goal
 
 pub returns-in-24 : goal.returns-in-24

@@ -37,12 +37,16 @@ some_refuses : {v : Verdict} (r : Refusal) (ts : List (Bool × ℕ)) → number_
 some_refuses r ts e is = sym e ∙ ap number_in is
 
 pub written-controller-requires : goal.written-controller-requires
-written-controller-requires c = simp (value_is (goal.at.written-controller-requires c).After-wide-v)
-    (c.requires, common_passed c.args.self.core c.args.writer c.args.number c.args.value (none_refuses _ (verdict_is (goal.at.written-controller-requires c).After-write_verdict-verdict) c.in-Accepted.is))
+written-controller-requires c = simp (value_is (goal.at.written-controller-requires c).After-wide-v) (
+  c.requires,
+  common_passed c.args.self.core c.args.writer c.args.number c.args.value
+      (none_refuses _ (verdict_is (goal.at.written-controller-requires c).After-write_verdict-verdict) c.in-Accepted.is),
+)
 
 pub returns-in-Refused : goal.returns-in-Refused
 unfolding write write_core response_from controller_after refused executed changed limited_to
-returns-in-Refused c = (simp (some_refuses _ _ (verdict_is (goal.at.returns-in-Refused c).After-write_verdict-verdict) c.in-Refused.is), c.requires)
+returns-in-Refused c =
+    (simp (some_refuses _ _ (verdict_is (goal.at.returns-in-Refused c).After-write_verdict-verdict) c.in-Refused.is), c.requires)
 
 pub returns-in-Accepted : goal.returns-in-Accepted
 unfolding write write_core response_from controller_after controller_written write_accepted

@@ -15,5 +15,6 @@ output_written-output-requires c = rw (c.written-core.ensures, to_z-of_z c.range
 
 pub returns : goal.returns
 unfolding controller_written controller_after write_accepted executed changed
-returns c = simp (back w64 c.output_written-output.result c.output_written-output.type_inv) (simp (c.output_written-output.ensures, stored_back c.requires.0.stored)
+returns c = simp (back w64 c.output_written-output.result c.output_written-output.type_inv)
+    (simp (c.output_written-output.ensures, stored_back c.requires.0.stored)
     (simp (c.mode-mode.ensures, c.written-core.ensures, to_z-of_z c.ranges.v)))

@@ -26,14 +26,16 @@ pub returns-then-not-kept : goal.returns-then-not-kept
 returns-then-not-kept c =
     let test : ℕ → Bool = λ m. keeps (rule_of m) (value c.args.p) m in
     sym (c.loop-number.invariant.2
-    ∙ every_not test c.loop-number.number 24 c.loop-number-test.true (sym (kept (goal.at.returns-then-not-kept c).After-pair_in_order) ∙ c.if-not-kept.true))
+    ∙ every_not test c.loop-number.number 24 c.loop-number-test.true
+    (sym (kept (goal.at.returns-then-not-kept c).After-pair_in_order) ∙ c.if-not-kept.true))
 
 pub loop-number-preserved : goal.loop-number-preserved
 loop-number-preserved c =
     let test : ℕ → Bool = λ m. keeps (rule_of m) (value c.args.p) m in
     let next =
     c.loop-number.invariant.2
-    ∙ every_next test c.loop-number.number 24 c.loop-number-test.true (sym (kept (goal.at.loop-number-preserved c).After-pair_in_order) ∙ c.if-not-kept.false) in
+    ∙ every_next test c.loop-number.number 24 c.loop-number-test.true
+    (sym (kept (goal.at.loop-number-preserved c).After-pair_in_order) ∙ c.if-not-kept.false) in
     (omega arith, omega (arith, c.loop-number-test.true), next)
 
 pub returns : goal.returns

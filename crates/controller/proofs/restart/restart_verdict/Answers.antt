@@ -13,7 +13,8 @@ returns-then-image-ne-IMAGE_LENGTH c = simp (ne_eqb _ _ c.if-image-ne-IMAGE_LENG
 
 pub returns-then-not-is_well_formed : goal.returns-then-not-is_well_formed
 unfolding refused_by restart_tests
-returns-then-not-is_well_formed c = simp (eq-eqb _ _ c.if-image-ne-IMAGE_LENGTH.false, sym c.is_well_formed.ensures ∙ c.if-not-is_well_formed.true)
+returns-then-not-is_well_formed c = simp
+    (eq-eqb _ _ c.if-image-ne-IMAGE_LENGTH.false, sym c.is_well_formed.ensures ∙ c.if-not-is_well_formed.true)
 
 -- what the code's two tests of the values come to
 illegal : (c : After-is_legal) → is_illegal (values_in c.args.image.now)

@@ -6,7 +6,8 @@ use lib.ListN.{length, drop, replicate}
 use Rattle.controller_calls.proofs.filled.fill.Given as goal
 
 abbrev pub invariant-loop-i : goal.invariant-loop-i
-invariant-loop-i l = (length l.buffer ≡ length l.initial.buffer) × (l.i ≤ length l.initial.buffer) × (l.buffer ≡ replicate l.i 0xA5 ++ drop l.i l.initial.buffer)
+invariant-loop-i l = (length l.buffer ≡ length l.initial.buffer) × (l.i ≤ length l.initial.buffer) ×
+    (l.buffer ≡ replicate l.i 0xA5 ++ drop l.i l.initial.buffer)
 
 abbrev pub decreases-loop-i : goal.decreases-loop-i
 decreases-loop-i l = length l.initial.buffer - l.i

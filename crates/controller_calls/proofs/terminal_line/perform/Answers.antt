@@ -37,7 +37,8 @@ returns-then-fits c =
     let part = take size (filled bytes) in
     let rest = drop size (filled bytes) in
     let is = sym c.fits.ensures ∙ c.if-fits.true in
-    let o = rw (sub-zero, sub-zero, c.fill.ensures, (line_is (goal.at.returns-then-fits c).After-append_bytes-end).1) at c.answer-result.ensures.0 in
+    let o = rw (sub-zero, sub-zero, c.fill.ensures, (line_is (goal.at.returns-then-fits c).After-append_bytes-end).1) at
+    c.answer-result.ensures.0 in
     let whole = filled_replicate (length bytes) in
     let checked = checked_line part rest (filled_take size (filled bytes) whole) (filled_drop size (filled bytes) whole)
     c.args.controller c.args.writer (take count bytes) in

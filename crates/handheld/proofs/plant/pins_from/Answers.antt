@@ -29,7 +29,8 @@ pub returns-else-pins : goal.returns-else-pins
 unfolding pins_from
 returns-else-pins c =
     let v = c.in-Number.value in
-    rw c.in-Number.is (sym (pins_left v (sym (ap (λ (k' : Natural). k'.ok) (within (goal.at.returns-else-pins c).After-natural_in-pins)) ∙ c.if-pins.false)))
+    rw c.in-Number.is (sym
+    (pins_left v (sym (ap (λ (k' : Natural). k'.ok) (within (goal.at.returns-else-pins c).After-natural_in-pins)) ∙ c.if-pins.false)))
 
 pub returns-in-Malformed : goal.returns-in-Malformed
 unfolding pins_from

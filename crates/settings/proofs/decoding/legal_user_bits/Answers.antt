@@ -9,4 +9,5 @@ returns-then-value-le-USER_BITS_MOST c = simp (le-leb _ _ c.if-value-le-USER_BIT
 
 pub returns-else-value-le-USER_BITS_MOST : goal.returns-else-value-le-USER_BITS_MOST
 unfolding legal_user_bits
-returns-else-value-le-USER_BITS_MOST c = simp (lt-leb _ _ c.if-value-le-USER_BITS_MOST.false) c.user_bits_in-else-value-le-USER_BITS_MOST.ensures
+returns-else-value-le-USER_BITS_MOST c = simp
+    (lt-leb _ _ c.if-value-le-USER_BITS_MOST.false) c.user_bits_in-else-value-le-USER_BITS_MOST.ensures

@@ -92,6 +92,8 @@ returns c =
     (rw pv at c.extreme_after.ensures)
     (rw pv at c.extreme_after-2.ensures)
     c.alarms_after.ensures
-    (back w64 c.sum.result c.sum.type_inv ∙ rw (sumpv_read (goal.at.returns c).Start, pv_is (goal.at.returns c).After-wide) at c.sum.ensures)
-    (back w64 c.sum-2.result c.sum-2.type_inv ∙ rw (sumop_read (goal.at.returns c).Start, op_is (goal.at.returns c).Start) at c.sum-2.ensures) in
+    (back w64 c.sum.result c.sum.type_inv ∙
+    rw (sumpv_read (goal.at.returns c).Start, pv_is (goal.at.returns c).After-wide) at c.sum.ensures)
+    (back w64 c.sum-2.result c.sum-2.type_inv ∙
+    rw (sumop_read (goal.at.returns c).Start, op_is (goal.at.returns c).Start) at c.sum-2.ensures) in
     (e, rw e (taken_valid v a c.requires.1 c.requires.0 (answerable (goal.at.returns c).Start)))

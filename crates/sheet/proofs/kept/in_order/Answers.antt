@@ -36,12 +36,18 @@ least_is c =
 pub returns-then-less : goal.returns-then-less
 unfolding in_order
 returns-then-less c =
-    let next = back w64 c.plus-next.result c.plus-next.type_inv ∙ rw (least_is (goal.at.returns-then-less c).After-wide-low) at c.plus-next.ensures in
-    let is = rw (least_is (goal.at.returns-then-less c).After-wide-low, greatest_is (goal.at.returns-then-less c).After-wide-high) at c.less.ensures in
+    let next = back w64 c.plus-next.result c.plus-next.type_inv ∙
+    rw (least_is (goal.at.returns-then-less c).After-wide-low) at c.plus-next.ensures in
+    let is = rw (least_is (goal.at.returns-then-less c).After-wide-low, greatest_is (goal.at.returns-then-less c).After-wide-high) at
+    c.less.ensures in
     rw (rw (next, greatest_is (goal.at.returns-then-less c).After-wide-high) at c.less-then-less.ensures, sym is ∙ c.if-less.true) refl
 
 pub returns : goal.returns
 unfolding in_order
 returns c =
     let is = rw (least_is (goal.at.returns c).After-wide-low, greatest_is (goal.at.returns c).After-wide-high) at c.less.ensures in
-    rw (rw (least_is (goal.at.returns c).After-wide-low, greatest_is (goal.at.returns c).After-wide-high) at c.not_above.ensures, sym is ∙ c.if-less.false) refl
+    rw (
+      rw (least_is (goal.at.returns c).After-wide-low, greatest_is (goal.at.returns c).After-wide-high) at c.not_above.ensures,
+      sym is ∙
+          c.if-less.false,
+    ) refl

@@ -33,8 +33,10 @@ sum_bound-low-requires c =
     ((bounded_both c.args.scans c.args.greatest c.args.least (passed c)).1, few (goal.at.sum_bound-low-requires c).Start)
 
 pub sum_bound-high-requires : goal.sum_bound-high-requires
-sum_bound-high-requires c =
-    ((bounded_both c.args.scans c.args.greatest c.args.least (passed (goal.at.sum_bound-high-requires c).Then-is_occurrence-in_order)).0, few (goal.at.sum_bound-high-requires c).Start)
+sum_bound-high-requires c = (
+  (bounded_both c.args.scans c.args.greatest c.args.least (passed (goal.at.sum_bound-high-requires c).Then-is_occurrence-in_order)).0,
+  few (goal.at.sum_bound-high-requires c).Start,
+)
 
 pub returns-then-is_occurrence-in_order : goal.returns-then-is_occurrence-in_order
 unfolding is_possible

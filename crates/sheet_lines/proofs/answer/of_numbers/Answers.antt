@@ -27,9 +27,20 @@ pub returns-then-pv-ds : goal.returns-then-pv-ds
 unfolding answer_of_numbers
 returns-then-pv-ds c =
     let same = back w32 c.integer_in-pv.result.value c.struct_told-1.given.1.0.1 in
-    rw (← pv_is (goal.at.returns-then-pv-ds c).After-natural_in-op, ← ds_is (goal.at.returns-then-pv-ds c).After-natural_in-op, ← op_is (goal.at.returns-then-pv-ds c).After-natural_in-op, c.if-pv-ds.true, same) refl
+    rw (
+      ← pv_is (goal.at.returns-then-pv-ds c).After-natural_in-op,
+      ← ds_is (goal.at.returns-then-pv-ds c).After-natural_in-op,
+      ← op_is (goal.at.returns-then-pv-ds c).After-natural_in-op,
+      c.if-pv-ds.true,
+      same,
+    ) refl
 
 pub returns : goal.returns
 unfolding answer_of_numbers
 returns c =
-    rw (← pv_is (goal.at.returns c).After-natural_in-op, ← ds_is (goal.at.returns c).After-natural_in-op, ← op_is (goal.at.returns c).After-natural_in-op, c.if-pv-ds.false) refl
+    rw (
+      ← pv_is (goal.at.returns c).After-natural_in-op,
+      ← ds_is (goal.at.returns c).After-natural_in-op,
+      ← op_is (goal.at.returns c).After-natural_in-op,
+      c.if-pv-ds.false,
+    ) refl

@@ -16,7 +16,8 @@ module _ (c : After-append_mode-count) where
       × (take c.append_mode-count.result c.append_mode-count.new.out ≡ mode_word c.args.mode)
   front =
       let m = c.args.mode in
-      append_front (mode_word m) (replicate 8 0) c.append_mode-count.new.out c.append_mode-count.result (word_length m) c.append_mode-count.ensures
+      append_front (mode_word m) (replicate 8 0) c.append_mode-count.new.out c.append_mode-count.result
+      (word_length m) c.append_mode-count.ensures
 
 pub slice_bounds-name-end : goal.slice_bounds-name-end
 slice_bounds-name-end c = (front (goal.at.slice_bounds-name-end c).After-append_mode-count).0

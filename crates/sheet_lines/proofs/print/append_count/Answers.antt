@@ -5,7 +5,6 @@ use Rattle.numerals.specs.Numerals.{digits}
 use Rattle.sheet_lines.specs.Appended.{text_of, text_then, number_length, text_is}
 use Rattle.sheet_lines.specs.SheetText.{count_text, number_text, named}
 use Rattle.sheet_lines.specs.ModeLaws.{word_length}
-use Rattle.sheet_lines.proofs.print.append_count.Goals.{After-slice_known-5-1}
 use Rattle.sheet_lines.proofs.print.append_count.Goals as goal
 
 pub returns : goal.returns

@@ -1,7 +1,6 @@
 -- `sheet_lines::print::append_counts` meets its contract.
 use Rattle.sheet_lines.specs.Appended.{text_then}
 use Rattle.sheet_lines.specs.SheetText.{counts_text}
-use Rattle.sheet_lines.proofs.print.append_counts.Goals.{After-slice_known-9-1}
 use Rattle.sheet_lines.proofs.print.append_counts.Goals as goal
 
 pub returns : goal.returns

@@ -3,7 +3,6 @@ use mathlib.Core.Path.{ap}
 use Rattle.formatting.specs.Ascii.{ascii}
 use Rattle.sheet_lines.specs.Appended.{text_then, text_is}
 use Rattle.sheet_lines.specs.SheetText.{extremes_text, extreme_text}
-use Rattle.sheet_lines.proofs.print.append_extremes.Goals.{After-slice_known-3-1}
 use Rattle.sheet_lines.proofs.print.append_extremes.Goals as goal
 
 pub returns : goal.returns

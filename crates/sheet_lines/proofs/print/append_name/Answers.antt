@@ -3,7 +3,6 @@ use native.Mathlib.Omega.{arith}
 use lib.ListN.{length}
 use Rattle.sheet_lines.specs.Appended.{text_of, text_then, text_most}
 use Rattle.sheet_lines.specs.SheetText.{named}
-use Rattle.sheet_lines.proofs.print.append_name.Goals.{After-slice_known-4-1}
 use Rattle.sheet_lines.proofs.print.append_name.Goals as goal
 
 pub returns : goal.returns

@@ -2,7 +2,6 @@
 use native.Mathlib.Omega.{arith}
 use Rattle.sheet_lines.specs.Appended.{number_length, text_of, text_then, text_most}
 use Rattle.sheet_lines.specs.SheetText.{number_text}
-use Rattle.sheet_lines.proofs.print.append_number.Goals.{After-slice_known-3-1}
 use Rattle.sheet_lines.proofs.print.append_number.Goals as goal
 
 pub returns : goal.returns

@@ -9,7 +9,6 @@ use Rattle.numerals.specs.Numerals.{decimal}
 use Rattle.formatting.specs.Buffer.{append_all}
 use Rattle.sheet_lines.specs.Appended.{number_length, pv_length, text_of, text_then}
 use Rattle.sheet_lines.specs.SheetText.{occurrence_text}
-use Rattle.sheet_lines.proofs.print.append_occurrence.Goals.{After-slice_known-4-1}
 use Rattle.sheet_lines.proofs.print.append_occurrence.Goals as goal
 
 pub returns : goal.returns

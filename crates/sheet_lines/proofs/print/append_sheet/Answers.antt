@@ -5,7 +5,6 @@ use mir.Syntax.{w64}
 use Rattle.integers.specs.Machine.{back}
 use Rattle.sheet_lines.specs.Appended.{text_of, text_then, text_is}
 use Rattle.sheet_lines.specs.SheetText.{sheet_text, number_text, sum_text}
-use Rattle.sheet_lines.proofs.print.append_sheet.Goals.{After-slice_known-8-1}
 use Rattle.sheet_lines.proofs.print.append_sheet.Goals as goal
 
 pub returns : goal.returns

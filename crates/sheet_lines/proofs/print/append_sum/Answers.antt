@@ -6,7 +6,6 @@ use Rattle.numerals.specs.Numerals.{decimal}
 use Rattle.formatting.specs.Buffer.{append_all}
 use Rattle.sheet_lines.specs.Appended.{sum_length, text_of, text_then, text_most}
 use Rattle.sheet_lines.specs.SheetText.{sum_text}
-use Rattle.sheet_lines.proofs.print.append_sum.Goals.{After-slice_known-3-1}
 use Rattle.sheet_lines.proofs.print.append_sum.Goals as goal
 
 pub returns : goal.returns

@@ -24,12 +24,14 @@ held : (e : In-Number) → to_z w64 (of_z w64 e.in-Number.value) ≡ e.in-Number
 held e = back w64 e.in-Number.value (omega (arith, (value e).1, number e.in-Number.value))
 
 pub narrow-requires : goal.narrow-requires
-narrow-requires c = simp (held (goal.at.narrow-requires c).In-Number) (omega (arith, (value (goal.at.narrow-requires c).In-Number).1, number c.in-Number.value))
+narrow-requires c = simp (held (goal.at.narrow-requires c).In-Number)
+    (omega (arith, (value (goal.at.narrow-requires c).In-Number).1, number c.in-Number.value))
 
 pub returns-in-Number : goal.returns-in-Number
 returns-in-Number c =
     let n = c.args.number in
-    ap (Write n) (back w32 c.narrow.result (search rules) ∙ c.narrow.ensures ∙ held (goal.at.returns-in-Number c).In-Number) ∙ sym (ap (writing n) (value (goal.at.returns-in-Number c).In-Number).0)
+    ap (Write n) (back w32 c.narrow.result (search rules) ∙ c.narrow.ensures ∙ held (goal.at.returns-in-Number c).In-Number) ∙
+    sym (ap (writing n) (value (goal.at.returns-in-Number c).In-Number).0)
 
 pub returns-in-Malformed : goal.returns-in-Malformed
 returns-in-Malformed c =

@@ -24,15 +24,38 @@ module _ (c : Else-negative) where
 
 pub returns-then-size-least : goal.returns-then-size-least
 unfolding natural_in
-returns-then-size-least c =
-    (simp (not_negative (goal.at.returns-then-size-least c).Else-negative, ← size (goal.at.returns-then-size-least c).Else-negative, lt-ltb _ _ c.if-size-least.true), omega arith, omega arith)
+returns-then-size-least c = (
+  simp (
+    not_negative (goal.at.returns-then-size-least c).Else-negative,
+    ← size (goal.at.returns-then-size-least c).Else-negative,
+    lt-ltb _ _ c.if-size-least.true,
+  ),
+  omega arith,
+  omega arith,
+)
 
 pub returns-then-most-size : goal.returns-then-most-size
 unfolding natural_in
-returns-then-most-size c =
-    (simp (not_negative (goal.at.returns-then-most-size c).Else-negative, ← size (goal.at.returns-then-most-size c).Else-negative, le-ltb _ _ c.if-size-least.false, lt-ltb _ _ c.if-most-size.true), omega arith, omega arith)
+returns-then-most-size c = (
+  simp (
+    not_negative (goal.at.returns-then-most-size c).Else-negative,
+    ← size (goal.at.returns-then-most-size c).Else-negative,
+    le-ltb _ _ c.if-size-least.false,
+    lt-ltb _ _ c.if-most-size.true,
+  ),
+  omega arith,
+  omega arith,
+)
 
 pub returns : goal.returns
 unfolding natural_in
-returns c =
-    (simp (not_negative (goal.at.returns c).Else-negative, ← size (goal.at.returns c).Else-negative, le-ltb _ _ c.if-size-least.false, le-ltb _ _ c.if-most-size.false), omega arith, omega arith)
+returns c = (
+  simp (
+    not_negative (goal.at.returns c).Else-negative,
+    ← size (goal.at.returns c).Else-negative,
+    le-ltb _ _ c.if-size-least.false,
+    le-ltb _ _ c.if-most-size.false,
+  ),
+  omega arith,
+  omega arith,
+)

@@ -33,7 +33,8 @@ returns-then-is_dash c =
 
 pub returns-then-length-eq0 : goal.returns-then-length-eq0
 returns-then-length-eq0 c =
-    let all = none_in c.args.bytes.now (empty_read c.args.word.now (other (goal.at.returns-then-length-eq0 c).Else-is_dash) (omega arith)) in
+    let all = none_in c.args.bytes.now
+    (empty_read c.args.word.now (other (goal.at.returns-then-length-eq0 c).Else-is_dash) (omega arith)) in
     record {
       value = all.0;
       bytes_after = all.1;
@@ -51,7 +52,8 @@ pub returns-then-bytes-count : goal.returns-then-bytes-count
 returns-then-bytes-count c =
     let word = c.args.word.now in
     let count = length word / 2 in
-    let all = too_many c.args.bytes.now (pairs word count) count (read (goal.at.returns-then-bytes-count c).Then-all_digits) (length_pairs word count) (omega arith) in
+    let all = too_many c.args.bytes.now (pairs word count) count (read (goal.at.returns-then-bytes-count c).Then-all_digits)
+    (length_pairs word count) (omega arith) in
     record {
       value = all.0;
       bytes_after = all.1;

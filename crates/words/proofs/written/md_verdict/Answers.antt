@@ -26,12 +26,18 @@ returns-then-not-one c = simp (tests_are (goal.at.returns-then-not-one c).After-
 
 pub returns-then-remote-pins : goal.returns-then-remote-pins
 unfolding refused_by
-returns-then-remote-pins c = simp (tests_are (goal.at.returns-then-remote-pins c).After-cause_remains-remains, c.if-not-one.false, c.if-remote-pins.true)
+returns-then-remote-pins c = simp
+    (tests_are (goal.at.returns-then-remote-pins c).After-cause_remains-remains, c.if-not-one.false, c.if-remote-pins.true)
 
 pub returns-then-auto-remote : goal.returns-then-auto-remote
 unfolding refused_by
 returns-then-auto-remote c =
-    simp (tests_are (goal.at.returns-then-auto-remote c).After-cause_remains-remains, c.if-not-one.false, c.if-remote-pins.false, c.if-auto-remote.true)
+    simp (
+      tests_are (goal.at.returns-then-auto-remote c).After-cause_remains-remains,
+      c.if-not-one.false,
+      c.if-remote-pins.false,
+      c.if-auto-remote.true,
+    )
 
 pub returns : goal.returns
 unfolding refused_by
