@@ -107,14 +107,14 @@ guarantee word calls rs c l =
       mode_first = first;
       open_scans_counted = open_count_after_lem word calls;
       reading_remembered = reading_after_lem word calls;
-      last_reading_lem = λ r h. h ∙ clock_is;
+      last_reading = λ r h. h ∙ clock_is;
       pins_stored = pins_after_lem word calls;
       without_right = unchanged l;
       with_right = by_value l;
       access_told = access_told l;
       scans_apart = λ i j r v l h q. apart c j r v i.milliseconds h q (clock_is ∙ last_scan l);
       earlier_scans_remembered = earlier_after_lem word calls;
-      fault_stands_lem = rw e (fault_after_lem word calls);
+      fault_stands = rw e (fault_after_lem word calls);
       within_limits = λ mode q outside.
           rw e (within_after word calls
           (ap (λ (k : Controller). is_hold_or_track (mode_now k.core)) (sym e) ∙ ap is_hold_or_track (ap here (sym first ∙ q)) ∙ outside));

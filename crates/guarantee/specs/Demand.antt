@@ -33,7 +33,7 @@ pub record Demand3 (word : ℕ) (calls : Calls) (rs : List Response) (c : Contro
   -- the remembered reading is the last accepted scan's since the start or the last accepted restart, told by the list,
   -- and so is the one that a host is given
   pub reading_remembered : (exact word calls).core.clock ≡ last_reading word calls
-  pub last_reading_lem : (r : ClockReading) → LastReadingEnsures c r → r ≡ last_reading word calls
+  pub last_reading : (r : ClockReading) → LastReadingEnsures c r → r ≡ last_reading word calls
   -- the stored pin byte is the last accepted scan's since the start or the last accepted restart; 80h before there is
   -- one
   pub pins_stored : (exact word calls).core.conditions.pins ≡ last_pins word calls
@@ -56,7 +56,7 @@ pub record Demand3 (word : ℕ) (calls : Calls) (rs : List Response) (c : Contro
   -- accepted restart forgot
   pub earlier_scans_remembered : (exact word calls).core.history ≡ earlier word calls
   -- the memory fault stands exactly when document 01 says so
-  pub fault_stands_lem : c.core.conditions.fault ≡ fault_stands word calls
+  pub fault_stands : c.core.conditions.fault ≡ fault_stands word calls
   -- outside Hold and Track, by the conditions again, the stored output is within its limits
   pub within_limits : (mode : Mode) → mode_in (exact word calls).core ≡ some mode → is_hold_or_track mode ≡ false → WithinLimits c
   -- apart from the output, the whole state and every answer equal those of the exact controller, OP and

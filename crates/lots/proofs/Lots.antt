@@ -57,8 +57,8 @@ right c exactly v same mode a =
     subst (Right exactly) (sym is) (record {
       mode = mode ∙ a.mode_first;
       pv = a.pv_is ∙ readings;
-      low_alarm_lem = a.shows_ds.low_alarm_lem ∙ low;
-      high_alarm_lem = a.shows_ds.high_alarm_lem ∙ high;
+      low_alarm = a.shows_ds.low_alarm ∙ low;
+      high_alarm = a.shows_ds.high_alarm ∙ high;
     })
 
 -- of an answer: it was refused, or it is right

@@ -47,8 +47,8 @@ pub data Answered (word : ℕ) : Calls → Controller → Answers → Type 0 whe
 pub record Right (now : Core) (v : ScanValues) : Type 0 where
   pub mode : mode_in now ≡ some v.mode
   pub pv : v.pv ≡ now.readings.pv
-  pub low_alarm_lem : bit v.ds 1 ≡ not now.indications.lowalarm
-  pub high_alarm_lem : bit v.ds 0 ≡ not now.indications.highalarm
+  pub low_alarm : bit v.ds 1 ≡ not now.indications.lowalarm
+  pub high_alarm : bit v.ds 0 ≡ not now.indications.highalarm
 
 -- one answer for each accepted scan, in their order, and for no other call
 pub data AllRight (word : ℕ) : Calls → Answers → Type 0 where

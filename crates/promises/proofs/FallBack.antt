@@ -144,24 +144,24 @@ module _ (d : Controller) (i j : Input) (r q : ScanResult) (trim : ℤ) (valid :
 
   trim_is : trim ≡ expected h.channel3
   unfolding expected
-  trim_is = trim_in _ _ i _ trim Remote h.trim_of_lem one.mode_now_lem refl
+  trim_is = trim_in _ _ i _ trim Remote h.trim_of one.mode_now_lem refl
 
   trim_first : one.effect.trim ≡ trim
   unfolding expected
   trim_first =
-      trim_in _ _ i _ _ Remote one.effect.trim_of_lem one.mode_now_lem refl ∙
-      ap expected (one_scaling _ _ _ _ _ one.effect.trim_of_lem.channel3_scaled h.trim_of_lem.channel3_scaled) ∙ sym trim_is
+      trim_in _ _ i _ _ Remote one.effect.trim_of one.mode_now_lem refl ∙
+      ap expected (one_scaling _ _ _ _ _ one.effect.trim_of.channel3_scaled h.trim_of.channel3_scaled) ∙ sym trim_is
 
   -- the first scan has left the ends of channel 3
   scaled_again : Scaled (value d.core.parameters 6) (value d.core.parameters 5) j.sample3 two.effect.channel3
   scaled_again =
       scaled_at (one.effect.others 6 (λ e. omega arith) (λ e. omega arith)) (one.effect.others 5 (λ e. omega arith) (λ e. omega arith))
-      two.effect.trim_of_lem.channel3_scaled
+      two.effect.trim_of.channel3_scaled
 
   trim_second : two.effect.trim ≡ trim
   unfolding expected
   trim_second =
-      trim_in _ _ j _ _ Fallback two.effect.trim_of_lem two.mode_now_lem refl ∙
+      trim_in _ _ j _ _ Fallback two.effect.trim_of two.mode_now_lem refl ∙
       ap (λ (u : UserBits). if u.measuredpower then pos 0 else two.effect.channel3) one.effect.userbits ∙
       ap expected (one_scaling _ _ _ _ _ scaled_again h.same_channel3) ∙ sym trim_is
 

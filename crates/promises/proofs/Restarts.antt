@@ -80,8 +80,8 @@ start_state sw p q fault userbits output =
       opencount = refl;
       buttons = refl;
       battery = refl;
-      low_alarm_lem = refl;
-      high_alarm_lem = refl;
+      low_alarm = refl;
+      high_alarm = refl;
       pv = refl;
       sp = refl;
       er = refl;
@@ -105,7 +105,7 @@ fresh_state word =
       fault = refl;
       user1 = refl;
       user2 = refl;
-      measured_power_lem = refl;
+      measured_power = refl;
       output = refl;
     }
 
@@ -175,7 +175,7 @@ module _ (d : Controller) (image : List ℕ) (right : is_sum_right (values_in im
             ap (λ (v : ℕ). if bit d.core.sw 11 then Manual else request_for v) (request_at image);
         user1 = ap (λ (s : Settings). s.userbits.user1) settings_are ∙ ap (λ (v : ℕ). bit v 0) (user_bits_at image);
         user2 = ap (λ (s : Settings). s.userbits.user2) settings_are ∙ ap (λ (v : ℕ). bit v 1) (user_bits_at image);
-        measured_power_lem = ap (λ (s : Settings). s.userbits.measuredpower) settings_are ∙ ap (λ (v : ℕ). bit v 2) (user_bits_at image);
+        measured_power = ap (λ (s : Settings). s.userbits.measuredpower) settings_are ∙ ap (λ (v : ℕ). bit v 2) (user_bits_at image);
         output =
             taken_output ∙ to_output held held_legal (bit d.core.sw 11) (bit d.core.sw 14) (word_at image 118) ∙
             rw (parameter_at_lem image 15 (omega arith) (omega arith), parameter_at_lem image 16 (omega arith) (omega arith)) refl;
@@ -269,7 +269,7 @@ module _ (d : Controller) (image : List ℕ) (wrong : is_sum_right (values_in im
             ap (λ (z : ℤ). (if bit d.core.sw 14 then pos 9999 else z) *ℤ pos 65536) (low_repaired image);
         user1 = ap (λ (m : UserBits). m.user1) user_bits_are ∙ user_bits_of (λ m. m.user1) (get_or image 131 0) 0 refl refl;
         user2 = ap (λ (m : UserBits). m.user2) user_bits_are ∙ user_bits_of (λ m. m.user2) (get_or image 131 0) 1 refl refl;
-        measured_power_lem =
+        measured_power =
             ap (λ (m : UserBits). m.measuredpower) user_bits_are ∙ user_bits_of (λ m. m.measuredpower) (get_or image 131 0) 2 refl refl;
         legal = sym (legal_columns _) ∙ legal_tested _ (subst (λ (s : Settings). Legal s.parameters) (sym taken_is) legal);
       }

@@ -229,7 +229,7 @@ module _ (c : Core) (i : Input) (legal : Legal c.parameters) (sampled : SampleRa
         setpoint_moved_lem = setpoint_moved_lem;
         channel3 = third_channel p i;
         trim = trim;
-        trim_of_lem = record { channel3_scaled = channel3_scaled; trim_is = trim_is };
+        trim_of = record { channel3_scaled = channel3_scaled; trim_is = trim_is };
         mp_is = mp_is;
         sp_local = sp_local;
         channel2 = scaled (value p 2) (value p 1) i.sample2;
@@ -247,8 +247,8 @@ module _ (c : Core) (i : Input) (legal : Legal c.parameters) (sampled : SampleRa
         setpoint_remote = setpoint_remote;
         setpoint_ratio = setpoint_ratio;
         er_is = refl;
-        low_alarm_lem = refl;
-        high_alarm_lem = refl;
+        low_alarm = refl;
+        high_alarm = refl;
         battery = refl;
         buttons = refl;
         pins = refl;

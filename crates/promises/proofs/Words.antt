@@ -123,7 +123,7 @@ module _ (now : Core) where
         lower = md_bit 7 (omega arith);
         raise = md_bit 6 (omega arith);
         always_zero = md_bit 5 (omega arith);
-        measured_power_lem = md_bit 4 (omega arith);
+        measured_power = md_bit 4 (omega arith);
         sp = md_bit 3 (omega arith);
         r = md_bit 2 (omega arith);
         a = md_bit 1 (omega arith);
@@ -183,10 +183,10 @@ module _ (now : Core) where
         hold_or_manual =
             ds_bit 5 (omega arith) ∙ fifth (mode_now now) ∙
             ap (λ (o : Option Mode). not (hold_manual_or_forced o)) (sym (mode_is_first now));
-        remote_or_ratio_lem =
+        remote_or_ratio =
             ds_bit 4 (omega arith) ∙ fourth (mode_now now) ∙ ap (λ (o : Option Mode). not (remote_or_ratio o)) (sym (mode_is_first now));
         battery = ds_bit 3 (omega arith);
         cause = ds_bit 2 (omega arith);
-        low_alarm_lem = ds_bit 1 (omega arith);
-        high_alarm_lem = ds_bit 0 (omega arith);
+        low_alarm = ds_bit 1 (omega arith);
+        high_alarm = ds_bit 0 (omega arith);
       }

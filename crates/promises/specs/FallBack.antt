@@ -36,7 +36,7 @@ pub record FallsBack (d : Controller) (i j : Input) (r q : ScanResult) (trim : �
   pub fall_back : ScannedIn Fallback r.controller j q
   -- "SP less trim lies within the limits": LS is parameter 10, HS 9
   pub channel3 : ℤ
-  pub trim_of_lem : Trim d.core r.controller.core i channel3 trim
+  pub trim_of : Trim d.core r.controller.core i channel3 trim
   pub not_below : value d.core.parameters 10 ≤ℤ (r.controller.core.readings.sp -ℤ trim)
   pub not_above : (r.controller.core.readings.sp -ℤ trim) ≤ℤ value d.core.parameters 9
   -- "channel 3 is the same": scaled to the same, as the same sample is

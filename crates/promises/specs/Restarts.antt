@@ -87,8 +87,8 @@ pub record StartState (n : Controller) : Type 0 where
   pub opencount : n.core.conditions.opencount ≡ 0
   pub buttons : n.core.indications.buttons ≡ 0
   pub battery : n.core.indications.batterylow ≡ false
-  pub low_alarm_lem : n.core.indications.lowalarm ≡ false
-  pub high_alarm_lem : n.core.indications.highalarm ≡ false
+  pub low_alarm : n.core.indications.lowalarm ≡ false
+  pub high_alarm : n.core.indications.highalarm ≡ false
   pub pv : n.core.readings.pv ≡ value n.core.parameters 2
   pub sp : n.core.readings.sp ≡ value n.core.parameters 20
   pub er : n.core.readings.er ≡ n.core.readings.pv -ℤ n.core.readings.sp
@@ -106,7 +106,7 @@ pub record FreshState (word : ℕ) (n : Controller) : Type 0 where
   pub fault : n.core.conditions.fault ≡ false
   pub user1 : n.core.userbits.user1 ≡ false
   pub user2 : n.core.userbits.user2 ≡ false
-  pub measured_power_lem : n.core.userbits.measuredpower ≡ false
+  pub measured_power : n.core.userbits.measuredpower ≡ false
   pub output : n.output ≡ pos 0
 
 abbrev pub FreshStarts : Type 0
@@ -138,7 +138,7 @@ pub record Taken (image : List ℕ) (d n : Controller) : Type 0 where
   pub request : n.core.conditions.request ≡ (if bit d.core.sw 11 then Manual else request_for (get_or image 123 0))
   pub user1 : n.core.userbits.user1 ≡ bit (get_or image 131 0) 0
   pub user2 : n.core.userbits.user2 ≡ bit (get_or image 131 0) 1
-  pub measured_power_lem : n.core.userbits.measuredpower ≡ bit (get_or image 131 0) 2
+  pub measured_power : n.core.userbits.measuredpower ≡ bit (get_or image 131 0) 2
   pub output : let low = parameter_at image 16 in let high = parameter_at image 15 in
       n.output ≡
       (if bit d.core.sw 11 then (if bit d.core.sw 14 then high else low) else limited low high (pos (word_at image 118)))
@@ -180,7 +180,7 @@ pub record Repaired (image : List ℕ) (d n : Controller) : Type 0 where
   pub output : n.output ≡ (if bit d.core.sw 14 then pos 9999 else pos 0) *ℤ pos 65536
   pub user1 : n.core.userbits.user1 ≡ (leb (get_or image 131 0) 7 && bit (get_or image 131 0) 0)
   pub user2 : n.core.userbits.user2 ≡ (leb (get_or image 131 0) 7 && bit (get_or image 131 0) 1)
-  pub measured_power_lem : n.core.userbits.measuredpower ≡ (leb (get_or image 131 0) 7 && bit (get_or image 131 0) 2)
+  pub measured_power : n.core.userbits.measuredpower ≡ (leb (get_or image 131 0) 7 && bit (get_or image 131 0) 2)
   pub legal : legal_from (value n.core.parameters) 1 23 ≡ true
 
 abbrev pub WrongSumRepairs : Type 0

@@ -115,7 +115,7 @@ pub record ScanEffect (before now : Core) (i : Input) : Type 0 where
   -- step 5; "MP is scaled channel 3 if MD bit 4 is set, else 0."
   pub channel3 : ℤ
   pub trim : ℤ
-  pub trim_of_lem : Trim before now i channel3 trim
+  pub trim_of : Trim before now i channel3 trim
   pub mp_is : now.readings.mp ≡ (if before.userbits.measuredpower then channel3 else pos 0)
   -- "SP is SL + trim, without trim if S2.1 is ON", SW bit 15; "SP is then limited to LS..HS."
   pub sp_local : remote_or_ratio (mode_in now) ≡ false →
@@ -147,9 +147,9 @@ pub record ScanEffect (before now : Core) (i : Input) : Type 0 where
   -- "ER = PV - SP."
   pub er_is : now.readings.er ≡ now.readings.pv -ℤ now.readings.sp
   -- Words: "low alarm (PV < LA or ER < -LD), .. high (PV > HA or ER > HD)": HA is parameter 11, LA 12, HD 13, LD 14
-  pub low_alarm_lem : now.indications.lowalarm ≡
+  pub low_alarm : now.indications.lowalarm ≡
       (lt_z now.readings.pv (value before.parameters 12) || lt_z now.readings.er (neg_ℤ (value before.parameters 14)))
-  pub high_alarm_lem : now.indications.highalarm ≡
+  pub high_alarm : now.indications.highalarm ≡
       (lt_z (value before.parameters 11) now.readings.pv || lt_z (value before.parameters 13) now.readings.er)
   -- Input: "a sensor byte (.. 1 battery low)"; the pins and buttons of this scan
   pub battery : now.indications.batterylow ≡ bit i.sensors 1

@@ -20,7 +20,7 @@ pub record ShowsMD (md : ℕ) (now : Core) : Type 0 where
   pub lower : bit md 7 ≡ bit now.indications.buttons 7
   pub raise : bit md 6 ≡ bit now.indications.buttons 6
   pub always_zero : bit md 5 ≡ false
-  pub measured_power_lem : bit md 4 ≡ now.userbits.measuredpower
+  pub measured_power : bit md 4 ≡ now.userbits.measuredpower
   pub sp : bit md 3 ≡ bit now.indications.buttons 3
   pub r : bit md 2 ≡ bit now.indications.buttons 2
   pub a : bit md 1 ≡ bit now.indications.buttons 1
@@ -69,8 +69,8 @@ pub record ShowsDS (ds : ℕ) (now : Core) : Type 0 where
   pub user2 : bit ds 7 ≡ now.userbits.user2
   pub user1 : bit ds 6 ≡ now.userbits.user1
   pub hold_or_manual : bit ds 5 ≡ not (hold_manual_or_forced (mode_in now))
-  pub remote_or_ratio_lem : bit ds 4 ≡ not (remote_or_ratio (mode_in now))
+  pub remote_or_ratio : bit ds 4 ≡ not (remote_or_ratio (mode_in now))
   pub battery : bit ds 3 ≡ not now.indications.batterylow
   pub cause : bit ds 2 ≡ not (now.conditions.fault || leb 85 now.conditions.opencount)
-  pub low_alarm_lem : bit ds 1 ≡ not now.indications.lowalarm
-  pub high_alarm_lem : bit ds 0 ≡ not now.indications.highalarm
+  pub low_alarm : bit ds 1 ≡ not now.indications.lowalarm
+  pub high_alarm : bit ds 0 ≡ not now.indications.highalarm

@@ -44,7 +44,7 @@ pub record WriteEffect (before now : Core) (n : ℕ) (v : ℤ) : Type 0 where
       if bit (nat_abs v) 13 then Manual else
       if bit (nat_abs v) 12 then Auto else Remote)
   pub fault : now.conditions.fault ≡ (if eqb n 24 then before.conditions.fault && bit (nat_abs v) 8 else before.conditions.fault)
-  pub measured_power_lem : now.userbits.measuredpower ≡ (if eqb n 24 then bit (nat_abs v) 4 else before.userbits.measuredpower)
+  pub measured_power : now.userbits.measuredpower ≡ (if eqb n 24 then bit (nat_abs v) 4 else before.userbits.measuredpower)
   -- "DS takes bits 7 and 6.": "7, 6 user bits 2, 1"; DS is number 25
   pub user1 : now.userbits.user1 ≡ (if eqb n 25 then bit (nat_abs v) 6 else before.userbits.user1)
   pub user2 : now.userbits.user2 ≡ (if eqb n 25 then bit (nat_abs v) 7 else before.userbits.user2)

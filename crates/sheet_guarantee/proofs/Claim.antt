@@ -133,10 +133,10 @@ results ys s h =
       greatest = λ r e. subst (IsExtreme Greatest ys) (sym e) g.greatest;
       least = λ r e. subst (IsExtreme Least ys) (sym e) g.least;
       with_alarm = λ r e. e ∙ g.alarms;
-      sum_pv_lem = λ r e. e ∙ g.sum_pv_lem;
-      sum_op_lem = λ r e. e ∙ g.sum_op_lem;
-      mean_pv = λ r e. (ap (λ (m : Mean). m.sum) e ∙ g.sum_pv_lem, ap (λ (m : Mean). m.count) e ∙ g.scans);
-      mean_op = λ r e. (ap (λ (m : Mean). m.sum) e ∙ g.sum_op_lem, ap (λ (m : Mean). m.count) e ∙ g.scans);
+      sum_pv_is = λ r e. e ∙ g.sum_pv_is;
+      sum_op_is = λ r e. e ∙ g.sum_op_is;
+      mean_pv = λ r e. (ap (λ (m : Mean). m.sum) e ∙ g.sum_pv_is, ap (λ (m : Mean). m.count) e ∙ g.scans);
+      mean_op = λ r e. (ap (λ (m : Mean). m.sum) e ∙ g.sum_op_is, ap (λ (m : Mean). m.count) e ∙ g.scans);
       values = λ r e. subst (Gives ys) (sym e) g;
     }
 

@@ -134,8 +134,8 @@ module _ (v : SheetValues) (p : Parts v) where
               (of_some (is_first Least l g f.answers (order_turned Greatest g l q.order) q.other_from
               (omega (arith, f.many_are, q.other_to)) (λ n a h. ((f.placed n a h).0, (f.placed n a h).1))));
           alarms = f.alarms_are;
-          sum_pv_lem = f.pv_is;
-          sum_op_lem = op_size v.sumop p.op_least ∙ ap pos f.op_is;
+          sum_pv_is = f.pv_is;
+          sum_op_is = op_size v.sumop p.op_least ∙ ap pos f.op_is;
         };
       }
 
@@ -153,8 +153,8 @@ module _ (v : SheetValues) (p : Parts v) where
           greatest = subst (IsExtreme Greatest none) (sym d) of_none;
           least = subst (IsExtreme Least none) (sym e) of_none;
           alarms = omega (arith, p.alarms);
-          sum_pv_lem = q;
-          sum_op_lem = omega (arith, integers, p.op_least, p.op_most);
+          sum_pv_is = q;
+          sum_op_is = omega (arith, integers, p.op_least, p.op_most);
         };
       }
 

@@ -151,8 +151,8 @@ empty_gives =
       greatest = of_none;
       least = of_none;
       alarms = refl;
-      sum_pv_lem = refl;
-      sum_op_lem = refl;
+      sum_pv_is = refl;
+      sum_op_is = refl;
     }
   where
     zeros : (m : Mode) → ◌≡◌ {A = ℕ} (get_or (0 ∷ 0 ∷ 0 ∷ 0 ∷ 0 ∷ 0 ∷ 0 ∷ 0 ∷ []) (rank m) 0) 0
@@ -177,8 +177,8 @@ taken_gives xs v a g =
       greatest = extreme Greatest v.greatest g.greatest;
       least = extreme Least v.least g.least;
       alarms = rw (alarm_is a) (ap (λ (n : ℕ). if is_alarmed a then n + 1 else n) g.alarms);
-      sum_pv_lem = ap (λ (z : ℤ). z +ℤ a.pv) g.sum_pv_lem;
-      sum_op_lem = ap (λ (z : ℤ). z +ℤ pos a.op) g.sum_op_lem;
+      sum_pv_is = ap (λ (z : ℤ). z +ℤ a.pv) g.sum_pv_is;
+      sum_op_is = ap (λ (z : ℤ). z +ℤ pos a.op) g.sum_op_is;
     }
   where
     extreme : (b : Bound) (e : Extreme) → IsExtreme b xs e → IsExtreme b (xs then a) (extreme_after b e a.pv (v.scans + 1))

@@ -92,8 +92,8 @@ pub one_sheet : (xs : Answers) (v w : SheetValues) → Gives xs v → Gives xs w
 one_sheet xs v w g h =
     same v w (g.scans ∙ sym h.scans) (same_modes xs v w g h)
     (same_extreme Greatest xs v.greatest w.greatest g.greatest h.greatest)
-    (same_extreme Least xs v.least w.least g.least h.least) (g.alarms ∙ sym h.alarms) (g.sum_pv_lem ∙ sym h.sum_pv_lem)
-    (g.sum_op_lem ∙ sym h.sum_op_lem)
+    (same_extreme Least xs v.least w.least g.least h.least) (g.alarms ∙ sym h.alarms) (g.sum_pv_is ∙ sym h.sum_pv_is)
+    (g.sum_op_is ∙ sym h.sum_op_is)
   where
     same : (v w : SheetValues) → v.scans ≡ w.scans → v.modes ≡ w.modes → v.greatest ≡ w.greatest → v.least ≡ w.least →
         v.alarms ≡ w.alarms → v.sumpv ≡ w.sumpv → v.sumop ≡ w.sumop → v ≡ w

@@ -30,8 +30,8 @@ pub record Results (xs : Answers) (s : Sheet) : Type 0 where
   pub greatest : (r : Extreme) → linked.GreatestEnsures s r → IsExtreme Greatest xs r
   pub least : (r : Extreme) → linked.LeastEnsures s r → IsExtreme Least xs r
   pub with_alarm : (r : ℕ) → linked.AlarmEnsures s r → r ≡ how_many is_alarmed xs
-  pub sum_pv_lem : (r : ℤ) → linked.SumPVEnsures s r → r ≡ sum_pv xs
-  pub sum_op_lem : (r : ℤ) → linked.SumOPEnsures s r → r ≡ pos (sum_op xs)
+  pub sum_pv_is : (r : ℤ) → linked.SumPVEnsures s r → r ≡ sum_pv xs
+  pub sum_op_is : (r : ℤ) → linked.SumOPEnsures s r → r ≡ pos (sum_op xs)
   -- "Means are handed out as a sum and a count, never divided."
   pub mean_pv : (r : Mean) → linked.MeanPVEnsures s r → (r.sum ≡ sum_pv xs) × (r.count ≡ many xs)
   pub mean_op : (r : Mean) → linked.MeanOPEnsures s r → (r.sum ≡ pos (sum_op xs)) × (r.count ≡ many xs)

@@ -88,5 +88,5 @@ pub record Gives (xs : Answers) (v : SheetValues) : Type 0 where
   pub greatest : IsExtreme Greatest xs v.greatest
   pub least : IsExtreme Least xs v.least
   pub alarms : v.alarms ≡ how_many is_alarmed xs
-  pub sum_pv_lem : v.sumpv ≡ sum_pv xs
-  pub sum_op_lem : v.sumop ≡ pos (sum_op xs)
+  pub sum_pv_is : v.sumpv ≡ sum_pv xs
+  pub sum_op_is : v.sumop ≡ pos (sum_op xs)

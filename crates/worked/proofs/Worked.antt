@@ -151,7 +151,7 @@ scan_figures_hold = (
             in_mode_lem = refl;
           };
           channel3 = pos 15;
-          trim_of_lem = record { channel3_scaled = fifteen; trim_is = refl };
+          trim_of = record { channel3_scaled = fifteen; trim_is = refl };
           not_below = omega (arith, integers);
           not_above = omega (arith, integers);
           same_channel3 = fifteen;
