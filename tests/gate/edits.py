@@ -3,8 +3,8 @@
 Usage: python3 -B -m tests.gate.edits
 
 `rt ci` has a line for each edit in its log. An edit that is refused only because a proof names something that isn't
-there any more would be refused with the right value too, so it shows nothing; `rt` says so, and passes it. A bad edit,
-which can't be applied or read, shows nothing either. The last line printed is 'N passed, M failed', one count for each
+there any more would be refused with the right value too, so it shows nothing; `rt` says so, and passes it. One that is
+refused by a limit of the prover alone, or a bad one, which can't be applied or read, shows nothing either. The last line printed is 'N passed, M failed', one count for each
 edit.
 """
 
@@ -17,7 +17,8 @@ from tests.gate.steps import log_name
 
 STEP = "proofs"  # the gate's step that runs `rt ci`
 EDIT = re.compile(r"rt: must-fail (\w+/[\w.-]+)\.edit: (.*)")
-REFUSED, FORM = "refused, as it must be", "(only because a proof file names"
+REFUSED = "refused, as it must be"
+FORM, LIMIT = "(only because a proof file names", "(only by a limit"
 
 
 def verdicts_in(log):
@@ -32,6 +33,8 @@ def fault_of(verdict):
         return "wasn't tried"
     if not verdict.startswith(REFUSED):
         return f"wasn't refused by the check: {verdict[:300]}"
+    if verdict.startswith(f"{REFUSED} {LIMIT}"):
+        return f"is refused by a limit of the prover alone: {verdict[:300]}"
     return f"is refused for its form: {verdict[:300]}" if verdict.startswith(f"{REFUSED} {FORM}") else ""
 
 
