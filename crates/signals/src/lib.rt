@@ -258,6 +258,7 @@ pub fn first_refusal(earlier: Verdict, later: Verdict) -> Verdict
 // Whether a scan's input is acceptable after the last accepted reading, or the first refusal that applies: 16 comes
 // after 3. The contract rules out a refusal for a cause that is not listed, one that is forgotten, and a later one
 // where an earlier one applies.
+#[tactic(auto, unfolding(crate::specs::Refusals::refused_by, crate::specs::Refusals::scan_tests))]
 pub fn scan_verdict(last: ClockReading, input: Input) -> Verdict
     ensures { number_in result ≡ refused_by (scan_tests last input) }
 {
