@@ -3,8 +3,9 @@
 
 usage: python3 tools/respell.py [FOLDER]
 
-FOLDER has crates/, and is this repository by default. respell.tsv, beside this file, has a line for each name: the name as it was, and as it is
-now. Names of the sources, of the library and of modules stay. It is run once, right after the kit's own script; a second run changes nothing.
+FOLDER has crates/, and is this repository by default. respell.tsv, beside this file, has a line for each name: the
+name as it was, and as it is now. Names of the sources, of the library and of modules stay. It is run once, right after
+the kit's own script; a second run would take a few names for older ones.
 """
 
 import glob
@@ -52,7 +53,7 @@ def of_proofs(text, table):
 
 
 def of_sources(text, table):
-    """In a source only what no name of Rust's can be: a capital after a small letter, or a dash, as ghost items and clauses have."""
+    """In a source only what no name of Rust's can be: a capital after a small letter, or a dash."""
     ghostly = {old: new for old, new in table.items() if re.search("[A-Z]", old) or "-" in old}
     lines = []
     for line in text.split("\n"):

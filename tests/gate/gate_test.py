@@ -108,7 +108,7 @@ def edits_of_form():
         write(root, {steps.log_name(edits.STEP): "".join(lines)})
         found = {name for name, fault in edits.faults_in(root).items() if fault}
     names = {f"terms/{name}" for name in [*verdicts, "untried"]}
-    return not untried and without == names and found == names - {"terms/value", "terms/limit", "terms/alone"}
+    return not untried and without == names and found == names - {"terms/value", "terms/alone"}
 
 
 CASES = (
