@@ -1,7 +1,8 @@
 """How long lines may be: code at most 140 columns, prose at most 120, counted in characters.
 
 Prose is comment lines, docstrings, and the documents apart from table rows and code blocks.  A line of one word, a URL
-for instance, can't be broken and may be longer; so may a crate's line of crates.txt, since `rt` takes one to a crate.
+for instance, can't be broken and may be longer; so may a crate's line of crates.txt, since `rt` takes one to a crate,
+and a line of docs/PORT.md that begins with a commit's whole name, since those are never rewritten.
 """
 
 import ast
@@ -13,6 +14,7 @@ COMMENT = {".rt": "//", ".antt": "--", ".py": "#", ".txt": "#", "show": "#", "Ma
 # The statements are written by a program; their proofs are one `refl` each in nested pairs, and `rt fmt` would lay each
 # pair out one level deeper than the one before.
 GENERATED = re.compile(r"crates/worked/(?:specs|proofs)/Model\w*\.antt")
+COMMIT_LINE = re.compile(r"\w+: [0-9a-f]{40}\b")
 LIST_ITEM = re.compile(r"(?:[-*+]|\d+\.) +")
 
 
@@ -33,6 +35,8 @@ def too_long_lines(name, lines):
 
 def can_be_broken(line, comment):
     """Whether there is a blank between two words, behind the comment's sign or the list item's."""
+    if COMMIT_LINE.match(line):
+        return False
     text = line.strip().removeprefix(comment).lstrip() if comment else LIST_ITEM.sub("", line.strip(), count=1)
     return " " in text.strip()
 
