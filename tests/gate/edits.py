@@ -4,8 +4,8 @@ Usage: python3 -B -m tests.gate.edits
 
 `rt ci` has a line for each edit in its log. An edit that is refused only because a proof names something that isn't
 there any more would be refused with the right value too, so it shows nothing; `rt` says so, and passes it. One that is
-refused by a limit of the prover alone, or a bad one, which can't be applied or read, shows nothing either. The last line printed is 'N passed, M failed', one count for each
-edit.
+refused by a limit of the prover alone, or a bad one, which can't be applied or read, shows nothing either. The last
+line printed is 'N passed, M failed', one count for each edit.
 """
 
 import re

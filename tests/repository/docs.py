@@ -1,9 +1,10 @@
 """The documents name only what is there.
 
 Every name in a document's inline code stands somewhere in the repository outside the documents, every path in it is
-there, and every edit that the trace cites is one that the gate tries, and the other way round. README's listings are
-the text of programs that the gate proves and runs, and `first_use` has nothing that README doesn't list. What the claim
-imports from the rules is what docs/DECISIONS.md lists as shared.
+there (but for the pages of the port, which have older names too), and every edit that the trace cites is one that the
+gate tries, and the other way round. README's listings are the text of programs that the gate proves and runs, and
+`first_use` has nothing that README doesn't list. What the claim imports from the rules is what docs/DECISIONS.md lists
+as shared.
 
 Usage: python3 -B -m tests.repository.docs
 
@@ -17,7 +18,8 @@ import sys
 from tests import ROOT
 from tests.gate import tally
 
-DOCUMENTS = ("README.md", *(f"docs/{path.name}" for path in sorted((ROOT / "docs").glob("*.md"))))
+OF_THEN = re.compile(r"PORT(-NAMES)?\.md")  # what the port changed: names as they were, beside those of today
+DOCUMENTS = ("README.md", *(f"docs/{path.name}" for path in sorted((ROOT / "docs").glob("*.md")) if not OF_THEN.fullmatch(path.name)))
 TEXTS = ("crates/**/*.rt", "crates/**/*.antt", "crates/*/std*", "crates/*/must-fail/*", "tests/**/*.py", "demo/*", "crates.txt",
          "Makefile")
 INLINE_CODE = re.compile(r"`([^`\n]+)`")
