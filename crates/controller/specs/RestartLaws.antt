@@ -26,7 +26,7 @@ use Rattle.controller.specs.Valid.{Valid}
 use Rattle.controller.specs.ValidLaws.{passed, by_verdict_lem, start_readable}
 use Rattle.controller.specs.declared.Controller.{Controller}
 
--- ---- the tests ascend, so the lowest number wins (`lowest-wins`)
+-- ---- the tests ascend, so the lowest number wins (`lowest_wins`)
 
 pub restart_ascends : (image : List ℕ) → Ascending by_number (restart_tests image)
 unfolding restart_tests

@@ -164,7 +164,7 @@ access_told {c = c} l w n r e =
 
 -- ---- a write by someone without the right
 
--- what `accessOr` says in each case, of two answers to the value at once; each case has what the ones before it leave
+-- what `access_or` says in each case, of two answers to the value at once; each case has what the ones before it leave
 pub by_access : (P : Option ℕ → Option ℕ → Type 0) (pins : ℕ) (w : Writer) (n : ℕ) (a b : Option ℕ) →
     ((eqb n 0 || ltb 32 n) ≡ true → P (some 4) (some 4)) → (is_shut_out pins w ≡ true → P (some 19) (some 19)) →
     (is_shut_out pins w ≡ false → is_of n w ≡ false → P (some 20) (some 20)) →

@@ -1,5 +1,5 @@
 -- Document 02, request 6, over again: who has the right to write a parameter, told by the parameter's number and by the
--- pin byte that the list tells (`lastPins`, Count.antt). Shared with the rules are the writers and the bits of a byte.
+-- pin byte that the list tells (`last_pins`, Count.antt). Shared with the rules are the writers and the bits of a byte.
 use Rattle.std.specs.Prelude.{◌≡◌, Bool, true, false, not, ◌&&◌, ◌||◌, List, ℕ, eqb, ltb, if◌then◌else◌}
 use Rattle.std.proofs.Math.Option.{Option, some}
 use Rattle.signals.specs.Bits.{bit}
@@ -41,11 +41,11 @@ has_right pins w n = is_of n w && not (is_shut_out pins w)
 -- document 02's: "19 when the computer writes with its pin at 0, right after 4. 20 when the writer hasn't that
 -- parameter, right after 19, and both before 5."; where none of these applies, what is said of the value
 unfoldable pub access_or : (pins : ℕ) → Writer → (number : ℕ) → Option ℕ → Option ℕ
-access_or pins w n ofValue =
+access_or pins w n of_value =
     if eqb n 0 || ltb 32 n then some 4 else
     if is_shut_out pins w then some 19 else
     if not (is_of n w) then some 20 else
-    if ltb 25 n then some 5 else ofValue
+    if ltb 25 n then some 5 else of_value
 
 -- so someone without the right gets one of these two, of a number that has a parameter
 abbrev pub number_without : (pins : ℕ) → Writer → ℕ

@@ -2,7 +2,7 @@
 // line, the terminal's reply or `? N NAME`, a refusal's number and name, until the end of the input. The controller is
 // fresh with SW 0 before the first line, and the operator is there. Two lines are the program's own: `who WRITER` says
 // who types from then on (who.rt), and `pins N` makes one scan with these pins (plant.rt). A line longer than 300 bytes
-// has no form that the terminal knows, and neither has its beginning, by which it is answered (`long-line`,
+// has no form that the terminal knows, and neither has its beginning, by which it is answered (`long_line`,
 // specs/LongLines.antt): `? 17 no mnemonic` or `? 18 no value`.
 #![tactic(auto)]
 

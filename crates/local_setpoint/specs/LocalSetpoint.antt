@@ -13,7 +13,7 @@ use Rattle.parameters.specs.declared.Parameters.{Parameters}
 
 -- ---- step 4
 
--- "one of them moves .. by .., the result then limited to"; "Raise and Lower together do nothing": `adjustmentOf`
+-- "one of them moves .. by .., the result then limited to"; "Raise and Lower together do nothing": `adjustment_of`
 abbrev pub moved : Adjustment → ℤ → ℤ → ℤ → ℤ → ℤ
 moved Raise by low high v = limited low high (v +ℤ by)
 moved Lower by low high v = limited low high (v -ℤ by)

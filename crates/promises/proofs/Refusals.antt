@@ -85,7 +85,7 @@ save_ascends : (buffer : List ℕ) → Ascending by_number (save_tests buffer)
 unfolding save_tests
 save_ascends buffer = (tt, tt)
 
--- ---- the tests of a write stand in the order of `writeOrder`
+-- ---- the tests of a write stand in the order of `write_order`
 
 -- of numbers that the order has, by their places
 before : (a b : ℕ) → ltb (place_in write_order a) (place_in write_order b) ≡ true → place_in write_order a < place_in write_order b

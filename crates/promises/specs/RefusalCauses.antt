@@ -79,7 +79,7 @@ value_refusal c n v =
     if eqb n 20 then (if setpoint_refused c then some 8 else none) else
     if eqb n 24 then word_refusal c (nat_abs v) else none
 
--- what is refused whatever the value, by the writer, the number and the stored pins (`accessOr`, guarantee), and after
+-- what is refused whatever the value, by the writer, the number and the stored pins (`access_or`, guarantee), and after
 -- it what is refused for the value
 abbrev pub write_refusal : Core → Writer → ℕ → ℤ → Option ℕ
 write_refusal c w n v = access_or c.conditions.pins w n (value_refusal c n v)

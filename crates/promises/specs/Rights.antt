@@ -1,7 +1,7 @@
 -- Document 02, request 6: what a host is told of a right, over the contracts of `Writer::may_write` and
 -- `Controller::write_access`; and that the engineer's write is the write of before this request. Which writes are
 -- refused for want of a right is told in RefusalCauses.antt, and that they change nothing, over every list, in
--- `without-right` of demand 3 (guarantee).
+-- `without_right` of demand 3 (guarantee).
 use Rattle.std.specs.Prelude.{◌≡◌, Bool, ℕ, ◌≤◌, ℤ}
 use Rattle.std.proofs.Math.Option.{none}
 use Rattle.signals.specs.Refusals.{refused_by}
@@ -37,8 +37,8 @@ pub record Foretold (d : Controller) (w : Writer) (n : ℕ) (told : Verdict) : T
   pub free : reply_of_verdict told ≡ acceptance → (v : ℤ) (r : CallResult) (k : ℕ) → WriteEnsures d w n v r →
       reply_of_verdict r.verdict ≡ number k → (6 ≤ k) × (k ≤ 11)
 
--- of any controller, reached by calls or not; there is such an answer (`access-exists`). A write of a valid one has a
--- result (`write-exists`)
+-- of any controller, reached by calls or not; there is such an answer (`access_exists`). A write of a valid one has a
+-- result (`write_exists`)
 abbrev pub AccessForetells : Type 0
 AccessForetells = (d : Controller) (w : Writer) (n : ℕ) (told : Verdict) → AccessEnsures d w n told → Foretold d w n told
 

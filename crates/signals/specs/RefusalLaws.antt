@@ -50,7 +50,7 @@ above_holds rank n m [] a h = elim h [ ]
 some_is : (m n : ℕ) → some m ≡ some n → m ≡ n
 some_is m n e = cc
 
--- the number that `refusedBy` gives has the lowest rank of those whose tests hold
+-- the number that `refused_by` gives has the lowest rank of those whose tests hold
 pub lowest_wins : (rank : ℕ → ℕ) (ts : List (Bool × ℕ)) → Ascending rank ts → (n : ℕ) → refused_by ts ≡ some n →
     (m : ℕ) → Holds m ts → rank n ≤ rank m
 unfolding refused_by
@@ -69,7 +69,7 @@ abbrev pub AllFrom : ℕ → ℕ → List (Bool × ℕ) → Type 0
 AllFrom least most [] = Unit {0}
 AllFrom least most (t ∷ ts) = (least ≤ t.1) × (t.1 ≤ most) × AllFrom least most ts
 
--- so the one that `refusedBy` gives does
+-- so the one that `refused_by` gives does
 pub refused_from : (least most : ℕ) (ts : List (Bool × ℕ)) → AllFrom least most ts → (k : ℕ) → refused_by ts ≡ some k →
     (least ≤ k) × (k ≤ most)
 unfolding refused_by

@@ -49,7 +49,7 @@ pub data Displayed (n : ℕ) : ℤ → List ℕ → Type 0 where
 -- ---- the reply
 
 -- "The reply is the mnemonic, > and the present value": present is what a read of the controller answers then; there is
--- one (`read-exists`)
+-- one (`read_exists`)
 pub record Replied (c : Controller) (n : ℕ) (buffer : List ℕ) (r : LineResult) (after : List ℕ) : Type 0 where
   pub value : ℤ
   pub text : List ℕ
@@ -69,7 +69,7 @@ pub record RefusedWith (k : ℕ) (c : Controller) (buffer : List ℕ) (r : LineR
   pub bytes : after ≡ buffer
 
 -- a line by which a writer writes v to the parameter n does what that writer's write does: its controller, and its
--- refusal or the reply with what is present after it; there is a result of it (`write-exists`)
+-- refusal or the reply with what is present after it; there is a result of it (`write_exists`)
 pub data Written (c : Controller) (w : Writer) (n : ℕ) (v : ℤ) (buffer : List ℕ) (r : LineResult) (after : List ℕ) : Type 0 where
   refused_write : {k : ℕ} → ((q : CallResult) → WriteEnsures c w n v q → reply_of_verdict q.verdict ≡ calls.number k) →
       RefusedWith k c buffer r after → Written c w n v buffer r after

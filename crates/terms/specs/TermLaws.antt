@@ -157,7 +157,7 @@ pub derivative_parts : (t : Tuning) (d : ℤ) →
 unfolding derivative_term
 derivative_parts t d = rw (turned_sign, times_is, from_sign-times, from_sign-times)
 
--- ---- every exact term has a positive denominator, so `term-near` speaks of it
+-- ---- every exact term has a positive denominator, so `term_near` speaks of it
 
 module _ (t : Tuning) (tuned : TuningRange t) where
   pub proportional_positive : (change : ℤ) → Positive (proportional_term t change)

@@ -1,4 +1,4 @@
--- `scaling::roots::entry` meets its contract. The prover itself takes a match of at most 512 arms, so this one is
+-- `scaling::roots::entry` meets its contract. The prover says that the match has too many arms for it, so this one is
 -- walked here, by induction over the arms. The table is read off the code (`entries`), and the arms made of what was
 -- read are the code's (`same`); the rule is tested at all entries at once (`tested`), which the checker computes.
 use mathlib.Core.Path.{◌≡◌, refl, sym, subst}
