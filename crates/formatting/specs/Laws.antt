@@ -57,21 +57,16 @@ append_front bytes out after end h e =
 
 -- ---- a loop over the bytes of a slice, each of which appends what f gives of it
 
--- what the bytes not yet passed append to the buffer as it is now is what all of them append to it as it was
-pub record Appending (f : List ℕ → List ℕ) (bytes out₀ : List ℕ) (used : ℕ) (out : List ℕ) (end i : ℕ) : Type 0 where
-  pub inside : i ≤ length bytes
-  pub size : length out ≡ length out₀
-  pub whole : append_all (buffer out end) (f (drop i bytes)) ≡ append_all (buffer out₀ used) (f bytes)
-
+-- what the bytes not yet passed append to the buffer as it is now, p, is what all of them append to it as it was, o
 module _ (f : List ℕ → List ℕ) (none : f [] ≡ []) (more : (b : ℕ) (bs : List ℕ) → f (b ∷ bs) ≡ f (b ∷ []) ++ f bs)
-    (bytes out₀ : List ℕ) (used : ℕ) (out : List ℕ) (end i : ℕ) (a : Appending f bytes out₀ used out end i) where
-  pub appending_turn : (out' : List ℕ) (end' : ℕ) → i < length bytes → length out' ≡ length out
-      → buffer out' end' ≡ append_all (buffer out end) (f (get_or bytes i 0 ∷ [])) → Appending f bytes out₀ used out' end' (i + 1)
-  appending_turn out' end' h l e =
-      let s : append_all (buffer out end) (f (drop i bytes)) ≡ append_all (buffer out' end') (f (drop (suc i) bytes)) =
-      rw (drop-cons bytes i 0 h, more (get_or bytes i 0) (drop (suc i) bytes), e) (append_append (buffer out end) _ _) in
-      record { inside = omega arith; size = l ∙ a.size; whole = rw add-one (sym s ∙ a.whole) }
+    (bytes : List ℕ) (i : ℕ) (o p : Buffer) (whole : append_all p (f (drop i bytes)) ≡ append_all o (f bytes)) where
+  pub appending_turn : (q : Buffer) → i < length bytes → q ≡ append_all p (f (get_or bytes i 0 ∷ []))
+      → append_all q (f (drop (i + 1) bytes)) ≡ append_all o (f bytes)
+  appending_turn q h e =
+      let s : append_all p (f (drop i bytes)) ≡ append_all q (f (drop (suc i) bytes)) =
+      rw (drop-cons bytes i 0 h, more (get_or bytes i 0) (drop (suc i) bytes), e) (append_append p _ _) in
+      rw add-one (sym s ∙ whole)
 
-  pub appending_ends : length bytes ≤ i → buffer out end ≡ append_all (buffer out₀ used) (f bytes)
+  pub appending_ends : length bytes ≤ i → p ≡ append_all o (f bytes)
   unfolding append_all
-  appending_ends h = rw (drop_of_length-le bytes {i = i} h, none) at a.whole
+  appending_ends h = rw (drop_of_length-le bytes {i = i} h, none) at whole
