@@ -6,13 +6,13 @@ use Rattle.sheet_lines.proofs.print.append_extreme.Goals as goal
 
 pub returns-in-None : goal.returns-in-None
 unfolding extreme_text
-returns-in-None c =
-    let none_of = text_of 4 c.append_bytes.ensures (omega arith) in
-    let all = text_then c.append_name-end.ensures none_of in
+returns-in-None g c =
+    let none_of = text_of 4 c.push_all.ensures (omega arith) in
+    let all = text_then c.append_name.ensures none_of in
     rw c.in-None.is (text_most all (omega arith))
 
 pub returns-in-First : goal.returns-in-First
 unfolding extreme_text
-returns-in-First c =
-    let all = text_then c.append_name-end.ensures c.append_occurrence.ensures in
+returns-in-First g c =
+    let all = text_then c.append_name.ensures c.append_occurrence.ensures in
     rw c.in-First.is (text_most all (omega arith))
