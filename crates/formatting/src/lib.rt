@@ -2,7 +2,7 @@
 // out, so no call has a condition, and the contracts state every byte.
 #![tactic(auto)]
 
-ghost use Rattle.std.specs.Prelude.{◌≡◌, [], ◌∷◌, ◌≤◌, ◌<◌, replicate};
+ghost use Rattle.std.specs.Prelude.{◌≡◌, [], ◌∷◌, ◌≤◌, ◌<◌, take, replicate};
 ghost use Rattle.numerals.specs.Numerals.{last_digits, digits, decimal, hexadecimal, hexadecimal_word};
 ghost use Rattle.formatting.specs.Buffer.{buffer, append_all, filled, written, emptied};
 
@@ -123,4 +123,11 @@ impl<const N: usize> Text<N> {
             self.push_digits(16, 2, *byte as u64);
         }
     }
+}
+
+// The first bytes of a slice, so many, or all where there are fewer. The contract rules out one byte more.
+pub fn front(bytes: &[u8], count: usize) -> &[u8]
+    ensures { result.now ≡ take count bytes.now }
+{
+    bytes.get(..count).unwrap_or(bytes)
 }
