@@ -1,9 +1,9 @@
 -- Laws of the output buffer.
 use Rattle.std.specs.Prelude.{◌≡◌, refl, List, [], ◌∷◌, ◌++◌, ℕ, suc, ◌+◌, ◌≤◌, ◌<◌, length, set, take, drop, get_or}
-use Rattle.std.proofs.Common.{sym, ap, ◌∙◌, add-one, add-zero, add-suc, suc-add, arith, length-set, length-append, take-append-drop}
+use Rattle.std.proofs.Common.{sym, ap, ◌∙◌, add-one, add-zero, zero-add, add-suc, suc-add, arith, length-set, length-append, take-append-drop}
 use Rattle.std.proofs.Common.{drop_of_length-le, drop-cons, take-suc-set, drop-set-lt, lt-ltb}
 use Rattle.std.proofs.Math.Seq.{take-append_seam, append_snoc}
-use Rattle.formatting.specs.Buffer.{Buffer, buffer, append, append_all}
+use Rattle.formatting.specs.Buffer.{Buffer, buffer, append, append_all, filled, written}
 
 -- bytes behind bytes
 pub append_append : (o : Buffer) (xs ys : List ℕ) → append_all o (xs ++ ys) ≡ append_all (append_all o xs) ys
@@ -45,15 +45,11 @@ append_room (b ∷ bs) out used h =
     rw (replaced_more used b bs out l) (ap (buffer (replaced used (b ∷ bs) out)) (omega arith)))
 
 -- in front of a buffer of which nothing was used, the bytes stand by themselves
-pub append_front : (bytes out after : List ℕ) (end : ℕ) → length bytes ≤ length out → buffer after end ≡ append_all (buffer out 0) bytes
-    → (end ≤ length after) × (take end after ≡ bytes)
+pub append_front : (bytes out : List ℕ) (after : Buffer) → length bytes ≤ length out → after ≡ append_all (buffer out 0) bytes
+    → (filled after ≡ length bytes) × (written after ≡ bytes)
 unfolding replaced
-append_front bytes out after end h e =
-    let r = e ∙ append_room bytes out 0 (omega arith) in
-    let a : after ≡ bytes ++ drop (0 + length bytes) out = cc in
-    let n : end ≡ 0 + length bytes = cc in
-    let l : end ≡ length bytes = omega arith in
-    rw (a, l) (simp length-append (omega arith), take-append_seam bytes _)
+append_front bytes out after h e =
+    rw (e, append_room bytes out 0 (omega arith), zero-add (length bytes)) (refl, take-append_seam bytes _)
 
 -- ---- a loop over the bytes of a slice, each of which appends what f gives of it
 

@@ -13,8 +13,8 @@ use Rattle.numerals.specs.DigitLaws.{digits_length}
 use Rattle.numerals.specs.Numerals.{decimal, hexadecimal_word}
 use Rattle.numerals.specs.Shortest.{decimal_few}
 use Rattle.signals.specs.Refusals.{refused_by}
-use Rattle.formatting.specs.Buffer.{buffer, append_all}
-use Rattle.formatting.specs.Laws.{replaced, append_room}
+use Rattle.formatting.specs.Buffer.{Buffer, buffer, append_all, filled, written}
+use Rattle.formatting.specs.Laws.{append_front}
 use Rattle.parameters.specs.LegalLaws.{value_most}
 use Rattle.parameters.specs.RuleLaws.{is_known}
 use Rattle.parameters.specs.Table.{is_from}
@@ -122,18 +122,13 @@ module _ (n : ℕ) (v : ℤ) (least : 1 ≤ n) (most : n ≤ 32) where
   unfolding reply_text
   reply_bytes = ap (λ (m : List ℕ). m ++ (62 ∷ value_text n v)) (both_letters (mnemonic n) (mnemonic_length n least most))
 
-  -- appended to a buffer of which nothing was used
-  pub reply_written : (out after : List ℕ) (end : ℕ) → (is_word n ≡ false → nat_abs v ≤ 19998) → 9 ≤ length out →
-      buffer after end ≡ append_all (buffer out 0) (get_or (mnemonic n) 0 0 ∷ get_or (mnemonic n) 1 0 ∷ 62 ∷ value_text n v) →
-      (end ≡ length (reply_text n v)) × (after ≡ reply_text n v ++ drop (length (reply_text n v)) out)
-  unfolding replaced
-  reply_written out after end few room e =
-      let text = reply_text n v in
-      let fits : 0 + length text ≤ length out = omega (arith, reply_length n v least most few) in
-      let whole = e ∙ ap (append_all (buffer out 0)) reply_bytes ∙ append_room text out 0 fits in
-      let bytes : after ≡ text ++ drop (0 + length text) out = cc in
-      let count : end ≡ 0 + length text = cc in
-      (omega arith, bytes ∙ ap (λ (k : ℕ). text ++ drop k out) (zero-add (length text)))
+  -- written where nothing was
+  pub reply_written : (out : List ℕ) (after : Buffer) → (is_word n ≡ false → nat_abs v ≤ 19998) → 9 ≤ length out →
+      after ≡ append_all (buffer out 0) (get_or (mnemonic n) 0 0 ∷ get_or (mnemonic n) 1 0 ∷ 62 ∷ value_text n v) →
+      (filled after ≡ length (reply_text n v)) × (written after ≡ reply_text n v)
+  reply_written out after few room e =
+      append_front
+      (reply_text n v) out after (omega (arith, reply_length n v least most few)) (e ∙ ap (append_all (buffer out 0)) reply_bytes)
 
 -- ---- the number of a command that a line has
 
