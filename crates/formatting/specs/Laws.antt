@@ -1,6 +1,6 @@
 -- Laws of the output buffer.
 use Rattle.std.specs.Prelude.{◌≡◌, refl, List, [], ◌∷◌, ◌++◌, ℕ, suc, ◌+◌, ◌≤◌, ◌<◌, length, set, take, drop, get_or}
-use Rattle.std.proofs.Common.{sym, ap, ◌∙◌, add-one, add-zero, zero-add, add-suc, suc-add, arith, length-set, length-append, take-append-drop}
+use Rattle.std.proofs.Common.{sym, ap, ◌∙◌, add-one, add-zero, zero-add, add-suc, suc-add, arith, length-set, take-append-drop}
 use Rattle.std.proofs.Common.{drop_of_length-le, drop-cons, take-suc-set, drop-set-lt, lt-ltb}
 use Rattle.std.proofs.Math.Seq.{take-append_seam, append_snoc}
 use Rattle.formatting.specs.Buffer.{Buffer, buffer, append, append_all, filled, written}

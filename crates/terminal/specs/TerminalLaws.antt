@@ -1,7 +1,7 @@
 -- Laws of what comes of a line: a read of a named parameter, the length of a reply; the next controller is valid.
-use Rattle.std.specs.Prelude.{◌≡◌, true, false, ℕ, ◌+◌, ◌≤◌, eqb, leb, ltb, ℤ, pos, nat_abs, get_or}
+use Rattle.std.specs.Prelude.{◌≡◌, true, false, ℕ, ◌≤◌, eqb, leb, ltb, ℤ, pos, nat_abs, get_or}
 use Rattle.std.proofs.Math.Path.{refl, ap}
-use Rattle.std.proofs.Common.{sym, subst, ◌∙◌, zero-add, length-append, eqb-true, leb-true}
+use Rattle.std.proofs.Common.{sym, subst, ◌∙◌, length-append, eqb-true, leb-true}
 use mathlib.Core.List.{List, [], ◌∷◌, ◌++◌}
 use Rattle.std.proofs.Math.Option.{Option, some, none}
 use native.Mathlib.Omega.{arith}
