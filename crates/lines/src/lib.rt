@@ -11,11 +11,18 @@ use formatting::Text;
 use std::io::{Read, Write};
 use std::marker::Model;
 
+// A line feed ends a line, and no other byte.
+fn ends_line(byte: u8) -> bool
+    ensures { result ≡ eqb byte 10 }
+{
+    byte == b'\n'
+}
+
 // Where the first line feed stands, if there is one.
 fn feed(bytes: &[u8]) -> Option<usize>
     ensures { result ≡ position (λ b. eqb b 10) bytes.now }
 {
-    bytes.iter().position(|byte| *byte == b'\n')
+    bytes.iter().position(|byte| ends_line(*byte))
 }
 
 // Where reading stands: bytes `at` to `end` of the last read are unread, and `more` says whether the input goes on.
