@@ -11,6 +11,8 @@ use formatting::Text;
 use std::io::{Read, Write};
 use std::marker::Model;
 
+pub mod answering;
+
 // A line feed ends a line, and no other byte.
 fn ends_line(byte: u8) -> bool
     ensures { result ≡ eqb byte 10 }
