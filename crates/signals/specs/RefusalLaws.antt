@@ -5,7 +5,7 @@ use Rattle.std.proofs.Common.{ap, arith}
 use Rattle.std.proofs.Math.Option.{some}
 use Rattle.signals.specs.Refusals.{first_of, refused_by, scan_tests}
 use Rattle.signals.specs.declared.Input.{Input}
-use Rattle.signals.specs.declared.clock.ClockReading.{ClockReading}
+use Rattle.signals.specs.Clock.{ClockReading}
 
 -- ---- tests of one list behind those of another
 
