@@ -6,7 +6,7 @@ ghost use Rattle.std.specs.Prelude.{◌≡◌, ◌+◌, ◌<◌, ◌≤◌, ◌+
 ghost use Rattle.signals.specs.Refusals.{number_in, refused_by};
 ghost use Rattle.fields.specs.Fields.{tag_of, length_of, field_bytes, fields_from, sum_of, with_sumcheck, save_tests, saved_in};
 
-use signals::{Refusal, Verdict};
+use signals::Refusal;
 
 pub mod decoding;
 
@@ -100,15 +100,15 @@ fn encode(values: [u16; FIELD_COUNT], buffer: &mut [u8])
 // Saves the values of all 28 fields. The contract gives the verdict and every byte of the buffer, so it
 // rules out a refusal of 137 bytes, an image that is encoded elsewhere, a byte behind it that changes,
 // and a short buffer that doesn't stay.
-pub fn save(values: [u16; FIELD_COUNT], buffer: &mut [u8]) -> Verdict
+pub fn save(values: [u16; FIELD_COUNT], buffer: &mut [u8]) -> Result<(), Refusal>
     ensures { (number_in result ≡ refused_by (save_tests buffer.old))
         × (buffer.new ≡ saved_in (fields_from 0 values) buffer.old) }
 {
     if buffer.len() < IMAGE_LENGTH {
-        return Verdict::Refused(Refusal::ShortBuffer);
+        return Err(Refusal::ShortBuffer);
     }
     encode(values, buffer);
-    Verdict::Accepted
+    Ok(())
 }
 
 // The sum of all values before the sumcheck. Wrapping 16-bit addition is the sum modulo 65,536: the

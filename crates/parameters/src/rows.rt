@@ -5,7 +5,7 @@ ghost use Rattle.parameters.specs.Table.{value};
 ghost use Rattle.parameters.specs.Legal.{unknown_refusal, read_only_refusal, is_within, in_order, ordered, in_range, pair_in_order};
 
 use crate::{Parameters, Rule};
-use signals::Verdict;
+use signals::Refusal;
 
 fn is_within(low: i64, high: i64, v: i64) -> bool
     ensures { result ≡ is_within low high v }
@@ -37,30 +37,22 @@ fn ordered(p: Parameters, high: u64, low: u64, strict: bool, number: u64, v: i64
 
 impl Rule {
     // The refusal of a number that has no parameter. The contract rules out one for any other row.
-    pub fn unknown_verdict(self) -> Verdict
+    pub fn unknown_verdict(self) -> Result<(), Refusal>
         ensures { number_in result ≡ unknown_refusal self }
     {
         match self {
-            Rule::Unknown(refusal) => Verdict::Refused(refusal),
-            Rule::ReadOnly(_) => Verdict::Accepted,
-            Rule::Word(_, _) => Verdict::Accepted,
-            Rule::Free(_, _) => Verdict::Accepted,
-            Rule::Pair(_, _, _, _, _) => Verdict::Accepted,
-            Rule::Between(_, _) => Verdict::Accepted,
+            Rule::Unknown(refusal) => Err(refusal),
+            _ => Ok(()),
         }
     }
 
     // The refusal of a parameter that can't be written. The contract rules out one for any other row.
-    pub fn read_only_verdict(self) -> Verdict
+    pub fn read_only_verdict(self) -> Result<(), Refusal>
         ensures { number_in result ≡ read_only_refusal self }
     {
         match self {
-            Rule::Unknown(_) => Verdict::Accepted,
-            Rule::ReadOnly(refusal) => Verdict::Refused(refusal),
-            Rule::Word(_, _) => Verdict::Accepted,
-            Rule::Free(_, _) => Verdict::Accepted,
-            Rule::Pair(_, _, _, _, _) => Verdict::Accepted,
-            Rule::Between(_, _) => Verdict::Accepted,
+            Rule::ReadOnly(refusal) => Err(refusal),
+            _ => Ok(()),
         }
     }
 

@@ -9,7 +9,7 @@ ghost use Rattle.settings.specs.Settings.{request_number, fault_number, user_bit
 
 use modes::Request;
 use parameters::Parameters;
-use signals::Verdict;
+use signals::Refusal;
 use words::UserBits;
 
 pub mod decoding;
@@ -104,7 +104,7 @@ impl Settings {
     }
 
     // Encodes the image in the caller's buffer. The contract gives the verdict and every byte of the buffer.
-    pub fn save(self, buffer: &mut [u8]) -> Verdict
+    pub fn save(self, buffer: &mut [u8]) -> Result<(), Refusal>
         requires { Legal self.parameters }
         ensures { (number_in result ≡ refused_by (save_tests buffer.old))
             × (buffer.new ≡ saved_in (image_of self) buffer.old) }

@@ -6,7 +6,7 @@ ghost use Rattle.words.specs.Written.{power_written, user_bits_written, exactly_
 
 use crate::{UserBits, bits};
 use modes::{Conditions, Request};
-use signals::{Refusal, Verdict};
+use signals::Refusal;
 
 // The request that a word with exactly one of its three bits set asks for.
 fn request_of(word: u16) -> Request
@@ -104,7 +104,7 @@ fn cause_remains(c: Conditions, word: u16) -> bool
 
 // Whether MD takes this word. The contract rules out a refusal for another cause, one that is forgotten, and a higher
 // number where a lower one applies.
-pub fn md_verdict(c: Conditions, word: u16) -> Verdict
+pub fn md_verdict(c: Conditions, word: u16) -> Result<(), Refusal>
     ensures { number_in result ≡ refused_by (md_tests c word) }
 {
     let auto = signals::bit(word, bits::AUTO);
@@ -113,13 +113,13 @@ pub fn md_verdict(c: Conditions, word: u16) -> Verdict
     let pins = signals::pins_of(c.pins);
     let remains = cause_remains(c, word);
     if !one {
-        return Verdict::Refused(Refusal::RequestBits);
+        return Err(Refusal::RequestBits);
     }
     if remote & !pins.remote {
-        return Verdict::Refused(Refusal::RemotePin);
+        return Err(Refusal::RemotePin);
     }
     if (auto | remote) & remains {
-        return Verdict::Refused(Refusal::Cause);
+        return Err(Refusal::Cause);
     }
-    Verdict::Accepted
+    Ok(())
 }
