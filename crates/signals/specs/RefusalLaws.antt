@@ -1,11 +1,11 @@
 -- Which of the tests that hold gives the number of a refusal: the first in the order of the list. Where the tests are
 -- listed by ascending numbers that is the lowest number of all that hold, "Within a group the lowest number wins."
-use Rattle.std.specs.Prelude.{◌≡◌, refl, Bool, true, false, List, [], ◌∷◌, ◌++◌, ℕ, ◌≤◌, ◌<◌, if◌then◌else◌}
-use Rattle.std.proofs.Common.{ap, arith}
+use Rattle.std.specs.Prelude.{◌≡◌, refl, Bool, true, false, List, [], ◌∷◌, ◌++◌, ℕ, ◌≤◌, ◌<◌, Result, Err, if◌then◌else◌}
+use Rattle.std.proofs.Common.{ap, ◌∙◌, arith}
 use Rattle.std.specs.Result.{IsErrAnd}
 use Rattle.std.proofs.Math.Option.{some}
 use Rattle.std.proofs.lemmas.Result.{err_from_is_err_and}
-use Rattle.signals.specs.Refusals.{Verdict, number_of, number_in, first_of, refused_by, scan_tests}
+use Rattle.signals.specs.Refusals.{first_of, refused_by, scan_tests}
 use Rattle.signals.specs.declared.Input.{Input}
 use Rattle.signals.specs.declared.Refusal.{Refusal}
 use Rattle.signals.specs.Clock.{ClockReading}
@@ -22,10 +22,10 @@ refused_append (t ∷ ts) us = go t.0 (refused_append ts us)
     go true e = refl
     go false e = e
 
--- ---- what `?` hands on: the number of the refusal that it met
+-- ---- what `?` hands on: the refusal that it met
 
-pub handed_on : (r : Verdict) (refusal : Refusal) → IsErrAnd r (λ e. e ≡ refusal) → number_in r ≡ some (number_of refusal)
-handed_on r refusal h = let e = err_from_is_err_and r h in rw (e.1, e.2) refl
+pub handed_on : {T : Type 0} (r : Result T Refusal) (refusal : Refusal) → IsErrAnd r (λ e. e ≡ refusal) → r ≡ Err refusal
+handed_on r refusal h = let e = err_from_is_err_and r h in e.1 ∙ ap Err e.2
 
 -- ---- an order of refusals: each number has a rank
 

@@ -2,10 +2,10 @@
 use mathlib.Core.Bool.{Bool}
 use mathlib.Core.List.{List, ◌++◌}
 use mathlib.Core.Option.{Option, some, none}
-use mathlib.Core.Path.{◌≡◌, refl, sym, ◌∙◌}
+use mathlib.Core.Path.{◌≡◌, refl, sym, ap, ◌∙◌}
 use Prim.Native.Nat.{ℕ}
 use Rattle.signals.specs.RefusalLaws.{handed_on, refused_append}
-use Rattle.signals.specs.Refusals.{first_of, refused_by}
+use Rattle.signals.specs.Refusals.{number_in, first_of, refused_by}
 use Rattle.parameters.specs.Legal.{unknown_refusal, read_only_refusal}
 use Rattle.parameters.specs.declared.Rule.{Rule}
 use Rattle.rights.specs.Rights.{named, pin_tests, right_tests, access_tests}
@@ -32,17 +32,17 @@ in_order_lem rule writer pins number =
 
 pub returns-in_err-unknown_verdict : goal.returns-in_err-unknown_verdict
 returns-in_err-unknown_verdict c =
-    handed_on _ _ c.from_residual.ensures.1 ∙
+    ap number_in (handed_on _ _ c.from_residual.ensures.1) ∙
     rw (in_order_lem c.args.rule c.args.writer c.args.pins c.args.number, ← c.in_err-unknown_verdict.ensures) refl
 
 pub returns-in_err-pin_verdict : goal.returns-in_err-pin_verdict
 returns-in_err-pin_verdict c =
-    handed_on _ _ c.from_residual-in_err-pin_verdict.ensures.1 ∙
+    ap number_in (handed_on _ _ c.from_residual-in_err-pin_verdict.ensures.1) ∙
     rw (in_order_lem c.args.rule c.args.writer c.args.pins c.args.number, ← c.in_ok-unknown_verdict.ensures, ← c.in_err-pin_verdict.ensures) refl
 
 pub returns-in_err-right_verdict : goal.returns-in_err-right_verdict
 returns-in_err-right_verdict c =
-    handed_on _ _ c.from_residual-in_err-right_verdict.ensures.1 ∙
+    ap number_in (handed_on _ _ c.from_residual-in_err-right_verdict.ensures.1) ∙
     rw (in_order_lem c.args.rule c.args.writer c.args.pins c.args.number, ← c.in_ok-unknown_verdict.ensures, ← c.in_ok-pin_verdict.ensures,
       ← c.in_err-right_verdict.ensures) refl
 
