@@ -1,4 +1,5 @@
 -- A call is refused for its listed causes, and for no other.
+use Rattle.signals.specs.Clock.{ClockReading}
 use Rattle.std.specs.Prelude.{if◌then◌else◌}
 use mathlib.Core.Path.{◌≡◌, refl, sym, ap, subst, ◌∙◌}
 use mathlib.Core.Bool.{Bool, true, false, not, ◌&&◌, ◌||◌}
@@ -19,7 +20,6 @@ use Rattle.signals.specs.Refusals.{number_of, refused_by, scan_tests}
 use Rattle.signals.specs.Signals.{switches_of, pins_of}
 use Rattle.signals.specs.declared.Input.{Input}
 use Rattle.signals.specs.declared.Refusal.{Refusal}
-use Rattle.signals.specs.declared.clock.ClockReading.{ClockReading}
 use Rattle.modes.specs.Modes.{counted, sets_setpoint}
 use Rattle.modes.specs.declared.Mode.{Mode}
 use Rattle.modes.specs.declared.Mode.TheVariants.{Hold, Track, Forced, Manual, Auto, Remote, Ratio, Fallback}

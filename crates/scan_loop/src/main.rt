@@ -6,11 +6,10 @@
 ghost use Rattle.controller.specs.Valid.{Valid};
 ghost use Rattle.sheet.specs.Valid.{Valid as ValidSheet};
 
-use controller::{Answer, Controller, ReadAnswer};
+use controller::Controller;
 use rights::Writer;
 use sheet::Sheet;
-use signals::clock::ClockReading;
-use signals::{Input, Verdict};
+use signals::Input;
 
 #[derive(Clone, Copy)]
 struct Dryer {
@@ -21,8 +20,8 @@ struct Dryer {
 // When the next scan is due: 36 ms after the last one, or at once. A real host reads its own clock.
 fn due(controller: Controller) -> u64 {
     match controller.last_reading() {
-        ClockReading::At(last) => std::num::wrapping_add_u64(last, 36),
-        ClockReading::None => 0,
+        Some(last) => std::num::wrapping_add_u64(last, 36),
+        None => 0,
     }
 }
 
@@ -45,7 +44,7 @@ fn scanned(dryer: Dryer) -> Dryer
     let controller = r.controller;
     let answer = r.answer;
     match answer {
-        Answer::Accepted(values) => {
+        Ok(values) => {
             let e = sheet.enter(values);
             let entered = e.sheet;
             Dryer {
@@ -53,7 +52,7 @@ fn scanned(dryer: Dryer) -> Dryer
                 sheet: entered,
             }
         }
-        Answer::Refused(refusal) => Dryer { controller, sheet },
+        Err(_) => Dryer { controller, sheet },
     }
 }
 
@@ -64,13 +63,13 @@ fn adjusted(controller: Controller) -> Controller
 {
     let access = controller.write_access(Writer::Operator, parameters::SL);
     match access {
-        Verdict::Accepted => {
+        Ok(()) => {
             let w = controller.write(Writer::Operator, parameters::SL, 650);
             let mut reply = [0u8; terminal::REPLY_LENGTH];
             let t = terminal::answer(w.controller, Writer::Engineer, b"TI>10", &mut reply);
             t.controller
         }
-        Verdict::Refused(refusal) => controller,
+        Err(_) => controller,
     }
 }
 
@@ -80,7 +79,7 @@ fn restarted(controller: Controller) -> Controller
     ensures { Valid result }
 {
     let mut image = [0u8; fields::IMAGE_LENGTH];
-    controller.save(&mut image);
+    let _ = controller.save(&mut image);
     let back = controller.restart(&image);
     back.controller
 }
@@ -130,8 +129,8 @@ fn main(rt: HostRuntime) {
     let dryer = dry(100);
     let controller = dryer.controller;
     match controller.read(parameters::OP) {
-        ReadAnswer::Value(op) => print(&rt, integers::magnitude(integers::wide(op))),
-        ReadAnswer::Refused(refusal) => print(&rt, refusal.number() as u64),
+        Ok(op) => print(&rt, integers::magnitude(integers::wide(op))),
+        Err(refusal) => print(&rt, u8::from(refusal) as u64),
     }
     let sheet = dryer.sheet;
     print(&rt, sheet.scans() as u64);

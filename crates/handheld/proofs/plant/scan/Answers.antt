@@ -1,6 +1,6 @@
 -- `handheld::plant::scan` meets its contract.
+use Rattle.signals.specs.Clock.{ClockReading}
 use mathlib.Core.Path.{◌≡◌, sym, ap, ◌∙◌}
-use Rattle.signals.specs.declared.clock.ClockReading.{ClockReading}
 use Rattle.controller.specs.Answers.{Reply, Response, reply_of, response_of}
 use Rattle.controller.specs.Scan.{scan}
 use Rattle.handheld.specs.Plant.{scan_input, outcome_by, scan_outcome}
