@@ -72,7 +72,7 @@ fn type_line(rt: &impl Print, controller: Controller) -> Controller
     let answer = t.answer;
     match answer {
         Ok(length) => print::front(rt, &reply, length), // XP>500; the bytes behind it stay
-        LineErr(refusal) => print::refusal(rt, refusal), // nothing has changed, in the controller or the buffer
+        Err(refusal) => print::refusal(rt, refusal), // nothing has changed, in the controller or the buffer
     }
     t.controller // the write is made
 }

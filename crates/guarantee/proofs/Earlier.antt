@@ -1,8 +1,8 @@
 -- What the exact controller remembers of earlier scans is what the accepted calls of the list tell.
-use Rattle.signals.specs.Clock.{ClockReading}
 use Rattle.std.specs.Prelude.{if◌then◌else◌}
 use mathlib.Core.Path.{◌≡◌, refl, ap, ◌∙◌}
 use Prim.Native.Nat.{ℕ}
+use Rattle.signals.specs.Clock.{ClockReading}
 use Rattle.signals.specs.Refusals.{refused_by, scan_tests}
 use Rattle.signals.specs.Signals.{is_open}
 use Rattle.setpoints.specs.declared.Readings.{Readings}

@@ -1,7 +1,7 @@
 -- Document 02, request 2, over again: what a reading is beside the last accepted one. Sums here have any size, so
 -- nothing turns over at the end of 64 bits.
-use Rattle.signals.specs.Clock.{ClockReading}
 use Rattle.std.specs.Prelude.{Bool, false, ℕ, ◌+◌, ltb, if◌then◌else◌, None, Some}
+use Rattle.signals.specs.Clock.{ClockReading}
 use Rattle.signals.specs.declared.Input.{Input}
 use Rattle.outputs.specs.declared.History.{History}
 use Rattle.outputs.specs.declared.History.TheVariants.{Nothing}

@@ -2,8 +2,8 @@
 -- clock, the stored pin byte, what is remembered of earlier scans, and demand 3's n, the automatic scans since the
 -- output was last set outright. "In demand 3 the conditions of step 3, the accepted automatic scans and the outright
 -- settings are read from the exact controller."
-use Rattle.signals.specs.Clock.{ClockReading}
 use Rattle.std.specs.Prelude.{◌≡◌, Bool, true, false, not, ◌&&◌, ◌||◌, ℕ, ◌+◌, ℤ, if◌then◌else◌, None, Some}
+use Rattle.signals.specs.Clock.{ClockReading}
 use Rattle.signals.specs.Bits.{bit}
 use Rattle.signals.specs.declared.Input.{Input}
 use Rattle.rights.specs.declared.Writer.{Writer}

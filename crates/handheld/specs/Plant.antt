@@ -1,9 +1,9 @@
 -- What comes of a line that is the terminal's, or brings the plant's pins, `pins N`.
-use Rattle.signals.specs.Clock.{ClockReading}
 use Rattle.std.specs.Prelude.{List, ◌++◌, ℕ, ◌+◌, ◌-◌, ◌^◌, leb, ltb, length, take, drop, if◌then◌else◌, None, Some}
 use Rattle.numerals.specs.Parsed.{number_of}
 use Rattle.numerals.specs.declared.ParsedNumber.{ParsedNumber}
 use Rattle.numerals.specs.declared.ParsedNumber.TheVariants.{Number, Malformed}
+use Rattle.signals.specs.Clock.{ClockReading}
 use Rattle.text.specs.Arguments.{natural_in}
 use Rattle.text.specs.Words.{same_bytes}
 use Rattle.formatting.specs.Ascii.{ascii}

@@ -75,7 +75,7 @@ fn append_refusal(out: &mut [u8], used: usize, refusal: Refusal) -> usize
     ensures { buffer out.new result ≡ append_all (buffer out.old used) (refusal_text (number_of refusal)) }
 {
     let sign = formatting::append_bytes(out, used, b"? ");
-    let number = formatting::append_decimal(out, sign, u64::from(u8::from(refusal)));
+    let number = formatting::append_decimal(out, sign, u8::from(refusal) as u64);
     let blank = formatting::append_byte(out, number, b' ');
     append_name(out, blank, refusal)
 }

@@ -1,6 +1,5 @@
 -- Document 02, request 1: "a sheet .., fed by one accepted scan's answer after another". Which answers these are over
 -- every list of calls, told by the exact controller; what a sheet makes of them is `Always` (sheet_guarantee).
-use Rattle.controller.specs.Answers.{Answer}
 use Rattle.std.specs.Prelude.{◌≡◌, not, List, ℕ, ℤ, Err, Ok}
 use Rattle.std.proofs.Math.Option.{some}
 use Rattle.std.proofs.Math.Option as option
@@ -9,6 +8,7 @@ use Rattle.signals.specs.declared.Input.{Input}
 use Rattle.answers.specs.declared.ScanValues.{ScanValues}
 use Rattle.sheet.specs.declared.Entry.{Entry}
 use Rattle.sheet.specs.declared.Sheet.{Sheet}
+use Rattle.controller.specs.Answers.{Answer}
 use Rattle.sheet_guarantee.specs.Claim.{SheetClaim}
 use Rattle.sheet_guarantee.specs.Linked as sheets
 use Rattle.sheet_guarantee.specs.Meaning as answers

@@ -1,5 +1,4 @@
 -- A call is refused for its listed causes, and for no other.
-use Rattle.signals.specs.Clock.{ClockReading}
 use Rattle.std.specs.Prelude.{if◌then◌else◌}
 use mathlib.Core.Path.{◌≡◌, refl, sym, ap, subst, ◌∙◌}
 use mathlib.Core.Bool.{Bool, true, false, not, ◌&&◌, ◌||◌}
@@ -15,6 +14,7 @@ use Rattle.integers.specs.Choice.{both, never}
 use Rattle.integers.specs.Operations as operations
 use Rattle.integers.specs.Parts.{integers, apart}
 use Rattle.integers.specs.Listed.{listed, listed_same}
+use Rattle.signals.specs.Clock.{ClockReading}
 use Rattle.signals.specs.Bits.{bit}
 use Rattle.signals.specs.Refusals.{number_of, refused_by, scan_tests}
 use Rattle.signals.specs.Signals.{switches_of, pins_of}

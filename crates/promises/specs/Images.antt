@@ -1,11 +1,11 @@
 -- What is promised of saved images, as docs/GUARANTEE.md has it, over the contracts of `Controller::save` and
 -- `Controller::restart`. Bytes are told by their places. Shared with the rules are the types of the state, the value
 -- of a parameter, and `limited`.
-use Rattle.signals.specs.Refusals.{Verdict}
 use Rattle.std.specs.Prelude.{◌≡◌, true, false, List, ◌++◌, ℕ, ◌+◌, ◌-◌, ◌*◌, ◌≤◌, ◌<◌, ℤ, pos, nat_abs, ◌*ℤ◌, length, get_or, take, drop}
 use Rattle.std.specs.Prelude.{if◌then◌else◌}
 use Rattle.std.specs.Int.Signed.{lt_z}
 use Rattle.integers.specs.Limit.{limited}
+use Rattle.signals.specs.Refusals.{Verdict}
 use Rattle.signals.specs.Bits.{bit}
 use Rattle.modes.specs.declared.Request.{Request}
 use Rattle.modes.specs.declared.Request.TheVariants.{Manual, Auto, Remote}

@@ -2,10 +2,10 @@
 -- which number, told by the input's numbers and bits, the writer, the parameter's number, the value and the state, in
 -- the papers' order and apart from the rules' lists of tests. Restarts.antt tells it of restarts, and `SameSave`
 -- (guarantee) of saves. Shared are the types of the state, the bits of a word and the value of a parameter.
-use Rattle.signals.specs.Clock.{ClockReading}
 use Rattle.std.specs.Prelude.{◌≡◌, Bool, not, ◌&&◌, ◌||◌, List, [], ◌∷◌, ℕ, ◌+◌, ltb, leb, eqb, ℤ, nat_abs, if◌then◌else◌, Err}
 use Rattle.std.proofs.Math.Option.{Option, some, none}
 use Rattle.std.specs.Int.Signed.{le_z}
+use Rattle.signals.specs.Clock.{ClockReading}
 use Rattle.signals.specs.Bits.{bit}
 use Rattle.signals.specs.declared.Input.{Input}
 use Rattle.signals.specs.declared.Refusal.{Refusal}

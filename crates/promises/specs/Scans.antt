@@ -2,7 +2,6 @@
 -- input, the numbers of parameters and the mode that the conditions give. Quotients are told by how near they are.
 -- The stored output is told by StoredOutputs.antt, and what is remembered by the list (guarantee). Shared with the
 -- rules are the types of the state, the bits of a word, the value of a parameter, and `limited`.
-use Rattle.controller.specs.Answers.{Answer}
 use Rattle.std.specs.Prelude.{◌≡◌, true, false, not, ◌&&◌, ◌||◌, ℕ, ◌+◌, ◌*◌, ◌%◌, ◌≤◌, ◌<◌, min, leb, ℤ, pos, neg_ℤ, nat_abs, ◌+ℤ◌, ◌-ℤ◌}
 use Rattle.std.specs.Prelude.{◌*ℤ◌, if◌then◌else◌, Ok, Some}
 use Rattle.std.proofs.Math.Option.{some, none}
@@ -14,6 +13,7 @@ use Rattle.modes.specs.declared.Mode.TheVariants.{Remote, Ratio}
 use Rattle.modes.specs.declared.Request.TheVariants as request
 use Rattle.parameters.specs.Table.{value}
 use Rattle.answers.specs.declared.ScanValues.{ScanValues}
+use Rattle.controller.specs.Answers.{Answer}
 use Rattle.controller.specs.Valid.{Valid}
 use Rattle.controller.specs.declared.Controller.{Controller}
 use Rattle.controller.specs.declared.Core.{Core}

@@ -1,6 +1,6 @@
 -- The lines that answer commands, as bytes.
-use Rattle.signals.specs.Clock.{ClockReading}
 use Rattle.std.specs.Prelude.{◌≡◌, refl, List, ◌++◌, ℕ, ℤ, pos, take, None, Some}
+use Rattle.signals.specs.Clock.{ClockReading}
 use Rattle.modes.specs.declared.Mode.TheVariants.{Auto}
 use Rattle.answers.specs.declared.ScanValues.{ScanValues}
 use Rattle.sheet.specs.declared.Sheet.{Sheet}

@@ -1,8 +1,8 @@
 -- How long the line of a reply is: it stands whole in the output, where no more than 64,000 of 65,536 bytes are used.
-use Rattle.signals.specs.Clock.{ClockReading}
 use Rattle.std.specs.Prelude.{List, ◌≡◌, ℕ, ◌+◌, ◌≤◌, ◌<◌, ℤ, pos, negsuc, nat_abs, length, take, None, Some}
 use Rattle.std.proofs.Common.{arith, length-append, length-take}
 use Rattle.std.specs.Int.Signed.{mag}
+use Rattle.signals.specs.Clock.{ClockReading}
 use Rattle.answers.specs.declared.ScanValues.{ScanValues}
 use Rattle.sheet.specs.declared.Sheet.{Sheet}
 use Rattle.numerals.specs.DigitLaws.{hexadecimal_length}

@@ -1,7 +1,7 @@
 -- Calls of a reference model that was made apart from the rules, stated of the rules; proofs/ModelCalls.antt proves
 -- them. Made by tests/statements/calls.py, which the gate compares with this file.
-use Rattle.signals.specs.Clock.{ClockReading}
 use Rattle.std.specs.Prelude.{Bool, true, false, List, [], ◌∷◌, ◌≡◌, ℕ, ℤ, pos, neg_ℤ, replicate, None, Some}
+use Rattle.signals.specs.Clock.{ClockReading}
 use Rattle.signals.specs.Refusals.{refused_by}
 use Rattle.signals.specs.declared.Input.{Input}
 use Rattle.fields.specs.Fields.{save_tests, saved_in}
