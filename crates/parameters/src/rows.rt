@@ -7,20 +7,18 @@ ghost use Rattle.parameters.specs.Legal.{unknown_refusal, read_only_refusal, is_
 use crate::{Parameters, Rule};
 use signals::Verdict;
 
+#[tactic(auto, using(integers::specs::Machine::read_back))]
 fn is_within(low: i64, high: i64, v: i64) -> bool
     ensures { result ≡ is_within low high v }
 {
-    integers::not_above(low, v) & integers::not_above(v, high)
+    (low <= v) & (v <= high)
 }
 
+#[tactic(auto, using(integers::specs::Machine::read_back))]
 fn in_order(strict: bool, low: i64, high: i64) -> bool
     ensures { result ≡ in_order strict low high }
 {
-    if strict {
-        integers::less(low, high)
-    } else {
-        integers::not_above(low, high)
-    }
+    if strict { low < high } else { low <= high }
 }
 
 // A value for the upper one of a pair is tested against the stored value of the lower one, and any other against that
