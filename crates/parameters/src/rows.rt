@@ -67,8 +67,7 @@ impl Rule {
         ensures { result ≡ in_range self (value p) v }
     {
         match self {
-            Rule::Unknown(_) => true,
-            Rule::ReadOnly(_) => true,
+            Rule::Unknown(_) | Rule::ReadOnly(_) => true,
             Rule::Word(least, most) => is_within(least, most, v),
             Rule::Free(least, most) => is_within(least, most, v),
             Rule::Pair(least, most, _, _, _) => is_within(least, most, v),
@@ -82,12 +81,8 @@ impl Rule {
         ensures { result ≡ pair_in_order self (value p) number v }
     {
         match self {
-            Rule::Unknown(_) => true,
-            Rule::ReadOnly(_) => true,
-            Rule::Word(_, _) => true,
-            Rule::Free(_, _) => true,
             Rule::Pair(_, _, high, low, strict) => ordered(p, high, low, strict, number, v),
-            Rule::Between(_, _) => true,
+            _ => true,
         }
     }
 }

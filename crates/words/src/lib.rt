@@ -54,12 +54,9 @@ fn mode_bit(mode: Mode) -> u16
     match mode {
         Mode::Hold => bits::HOLD,
         Mode::Track => bits::TRACK,
-        Mode::Forced => bits::MANUAL,
-        Mode::Manual => bits::MANUAL,
-        Mode::Auto => bits::AUTO,
-        Mode::Fallback => bits::AUTO,
-        Mode::Remote => bits::REMOTE,
-        Mode::Ratio => bits::REMOTE,
+        Mode::Forced | Mode::Manual => bits::MANUAL,
+        Mode::Auto | Mode::Fallback => bits::AUTO,
+        Mode::Remote | Mode::Ratio => bits::REMOTE,
     }
 }
 
@@ -67,20 +64,14 @@ fn mode_bit(mode: Mode) -> u16
 fn ds_bit_5(mode: Mode) -> bool
     ensures { result ≡ ds_bit5 mode }
 {
-    match mode {
-        Mode::Hold | Mode::Manual | Mode::Forced => false,
-        _ => true,
-    }
+    !matches!(mode, Mode::Hold | Mode::Manual | Mode::Forced)
 }
 
 // The same of bit 4.
 fn ds_bit_4(mode: Mode) -> bool
     ensures { result ≡ ds_bit4 mode }
 {
-    match mode {
-        Mode::Remote | Mode::Ratio => false,
-        _ => true,
-    }
+    !matches!(mode, Mode::Remote | Mode::Ratio)
 }
 
 // MD bits 15 to 8.
