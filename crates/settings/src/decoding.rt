@@ -56,14 +56,7 @@ fn parameter_in(values: [u16; fields::FIELD_COUNT], number: usize) -> i64
 pub fn parameters_in(values: [u16; fields::FIELD_COUNT]) -> Parameters
     ensures { result ≡ parameters_in values }
 {
-    let mut decoded: [i64; parameters::VALUE_COUNT] = [0; parameters::VALUE_COUNT];
-    let mut number: usize = 0;
-    while number < parameters::VALUE_COUNT {
-        let v = parameter_in(values, number);
-        decoded[number] = v;
-        number += 1;
-    }
-    Parameters::of(decoded)
+    Parameters::of(std::array::from_fn(|number| parameter_in(values, number)))
 }
 
 // The contract rules out a setting that is taken from another one's field.
