@@ -63,6 +63,12 @@ module _ {A : Type 0} (f : ℕ → A) where
   pub filled_all : (many : ℕ) (out : List A) (place : ℕ) → Filled many many out place → many ≤ place → out ≡ listed f 0 many
   filled_all many out place r h = sym (take_all many out (omega (arith, r.long))) ∙ filled_front many many out place r h
 
+-- without the last
+pub listed_front : {A : Type 0} (f : ℕ → A) (first many : ℕ) → take many (listed f first (suc many)) ≡ listed f first many
+unfolding listed
+listed_front f first zero = refl
+listed_front {A} f first (suc many) = ap (λ (l : List A). f first ∷ l) (listed_front f (suc first) many)
+
 -- a list that has f of each place at it
 pub listed_by : {A : Type 0} (f : ℕ → A) (first : ℕ) (xs : List A) →
     ((place : ℕ) (d : A) → place < length xs → get_or xs place d ≡ f (first + place)) → xs ≡ listed f first (length xs)
