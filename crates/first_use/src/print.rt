@@ -40,7 +40,7 @@ pub fn verdict(rt: &impl Print, verdict: Verdict) {
 
 pub fn answer(rt: &impl Print, label: &[u8], answer: ReadAnswer) {
     match answer {
-        ReadAnswer::Value(value) => decimal(rt, label, integers::wide(value)),
+        ReadAnswer::Value(value) => decimal(rt, label, i64::from(value)),
         ReadAnswer::Refused(why) => refusal(rt, why),
     }
 }
