@@ -38,7 +38,7 @@ pub fn verdict(rt: &impl Print, verdict: Result<(), Refusal>) {
 
 pub fn answer(rt: &impl Print, label: &[u8], answer: Result<i32, Refusal>) {
     match answer {
-        Ok(value) => decimal(rt, label, integers::wide(value)),
+        Ok(value) => decimal(rt, label, i64::from(value)),
         Err(why) => refusal(rt, why),
     }
 }

@@ -7,20 +7,18 @@ ghost use Rattle.parameters.specs.Legal.{unknown_refusal, read_only_refusal, is_
 use crate::{Parameters, Rule};
 use signals::Refusal;
 
+#[tactic(auto, using(integers::specs::Machine::read_back))]
 fn is_within(low: i64, high: i64, v: i64) -> bool
     ensures { result ≡ is_within low high v }
 {
-    integers::not_above(low, v) & integers::not_above(v, high)
+    (low <= v) & (v <= high)
 }
 
+#[tactic(auto, using(integers::specs::Machine::read_back))]
 fn in_order(strict: bool, low: i64, high: i64) -> bool
     ensures { result ≡ in_order strict low high }
 {
-    if strict {
-        integers::less(low, high)
-    } else {
-        integers::not_above(low, high)
-    }
+    if strict { low < high } else { low <= high }
 }
 
 // A value for the upper one of a pair is tested against the stored value of the lower one, and any other against that
@@ -61,8 +59,7 @@ impl Rule {
         ensures { result ≡ in_range self (value p) v }
     {
         match self {
-            Rule::Unknown(_) => true,
-            Rule::ReadOnly(_) => true,
+            Rule::Unknown(_) | Rule::ReadOnly(_) => true,
             Rule::Word(least, most) => is_within(least, most, v),
             Rule::Free(least, most) => is_within(least, most, v),
             Rule::Pair(least, most, _, _, _) => is_within(least, most, v),
@@ -76,12 +73,8 @@ impl Rule {
         ensures { result ≡ pair_in_order self (value p) number v }
     {
         match self {
-            Rule::Unknown(_) => true,
-            Rule::ReadOnly(_) => true,
-            Rule::Word(_, _) => true,
-            Rule::Free(_, _) => true,
             Rule::Pair(_, _, high, low, strict) => ordered(p, high, low, strict, number, v),
-            Rule::Between(_, _) => true,
+            _ => true,
         }
     }
 }

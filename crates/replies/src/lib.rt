@@ -64,7 +64,7 @@ fn append_answer(out: &mut [u8], used: usize, values: ScanValues) -> usize
     let mode = values.mode;
     let word = sheet_lines::mode::append_mode(out, blank, mode);
     let end = formatting::append_byte(out, word, b' ');
-    formatting::append_signed(out, end, integers::wide(values.pv))
+    formatting::append_signed(out, end, i64::from(values.pv))
 }
 
 // A refusal and its number.
@@ -80,7 +80,7 @@ fn append_value(out: &mut [u8], used: usize, v: i32) -> usize
     ensures { buffer out.new result ≡ append_all (buffer out.old used) (value_text v) }
 {
     let name = formatting::append_bytes(out, used, b"value ");
-    formatting::append_signed(out, name, integers::wide(v))
+    formatting::append_signed(out, name, i64::from(v))
 }
 
 // A reading of the clock. The contract rules out a number where there is no reading.

@@ -39,8 +39,8 @@ fn sum_bound(bound: Bound, scans: u32, here: Occurrence, other: Occurrence) -> i
     requires { Bounded bound scans here other × (scans ≤ 4294967295) }
     ensures { result ≡ sum_bound bound scans here other }
 {
-    let all = integers::times(integers::wide(here.pv), (scans - 1) as u64);
-    let sum = integers::sum(all, integers::wide(other.pv));
+    let all = integers::times(i64::from(here.pv), (scans - 1) as u64);
+    let sum = integers::sum(all, i64::from(other.pv));
     let earlier = scans_before(here.number, other.number);
     match bound {
         Bound::Greatest => integers::sum(sum, integers::signed(true, earlier as u64)),
@@ -59,8 +59,8 @@ fn in_order(greatest: Occurrence, least: Occurrence) -> bool
 {
     let at = greatest.number;
     let other = least.number;
-    let high = integers::wide(greatest.pv);
-    let low = integers::wide(least.pv);
+    let high = i64::from(greatest.pv);
+    let low = i64::from(least.pv);
     if integers::less(low, high) {
         let next = integers::plus(low, 1);
         return (at != other) & ((at == 1) | (other == 1) | integers::less(next, high));

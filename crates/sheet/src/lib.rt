@@ -165,7 +165,7 @@ impl SheetValues {
             greatest: extreme_after(Bound::Greatest, greatest, pv, number),
             least: extreme_after(Bound::Least, least, pv, number),
             alarms: alarms_after(self.alarms, answer.ds),
-            sumpv: integers::sum(self.sumpv, integers::wide(pv)),
+            sumpv: integers::sum(self.sumpv, i64::from(pv)),
             sumop: integers::sum(self.sumop, answer.op as i64),
         }
     }

@@ -17,7 +17,7 @@ use Rattle.sheet.specs.declared.Bound.TheVariants.{Greatest, Least}
 use Rattle.sheet.specs.declared.Extreme.{Extreme}
 use Rattle.sheet.specs.declared.SheetValues.{SheetValues}
 use borrow.Author.Rules.{rules}
-use Rattle.sheet.proofs.SheetValues.with.Goals.{After-modes-1, After-wide, Start}
+use Rattle.sheet.proofs.SheetValues.with.Goals.{After-modes-1, After-from, Start}
 use Rattle.sheet.proofs.SheetValues.with.Goals as goal
 
 -- the signed values, as they are read
@@ -43,10 +43,10 @@ few : (c : After-modes-1) → c.place-k.result < 8
 few c = rw c.place-k.ensures (place_few c.args.answer.mode)
 
 -- the PV in 64 bits, and OP
-pv_is : (c : After-wide) →
-    to_z w64 (of_z w64 c.wide.result) ≡ c.args.answer.pv
+pv_is : (c : After-from) →
+    to_z w64 (of_z w64 c.from.result) ≡ c.args.answer.pv
 pv_is c =
-    back w64 c.wide.result c.wide.type_inv ∙ c.wide.ensures ∙
+    back w64 c.from.result c.from.type_inv ∙ c.from.ensures ∙
     pv_read c.before.before.before.before.before.before.before.before.before
 
 op_is : (c : Start) → to_z w64 c.args.answer.op ≡ pos c.args.answer.op
@@ -76,7 +76,7 @@ alarms_after-requires c = (fitting (goal.at.alarms_after-requires c).Start).alar
 
 pub sum-requires : goal.sum-requires
 sum-requires c =
-    rw (sumpv_read (goal.at.sum-requires c).Start, pv_is (goal.at.sum-requires c).After-wide) (fitting (goal.at.sum-requires c).Start).pv
+    rw (sumpv_read (goal.at.sum-requires c).Start, pv_is (goal.at.sum-requires c).After-from) (fitting (goal.at.sum-requires c).Start).pv
 
 pub sum-requires-2 : goal.sum-requires-2
 sum-requires-2 c =
@@ -93,7 +93,7 @@ returns c =
     (rw pv at c.extreme_after-2.ensures)
     c.alarms_after.ensures
     (back w64 c.sum.result c.sum.type_inv ∙
-    rw (sumpv_read (goal.at.returns c).Start, pv_is (goal.at.returns c).After-wide) at c.sum.ensures)
+    rw (sumpv_read (goal.at.returns c).Start, pv_is (goal.at.returns c).After-from) at c.sum.ensures)
     (back w64 c.sum-2.result c.sum-2.type_inv ∙
     rw (sumop_read (goal.at.returns c).Start, op_is (goal.at.returns c).Start) at c.sum-2.ensures) in
     (e, rw e (taken_valid v a c.requires.1 c.requires.0 (answerable (goal.at.returns c).Start)))

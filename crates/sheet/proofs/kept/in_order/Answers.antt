@@ -10,7 +10,7 @@ use Rattle.integers.specs.Machine.{back}
 use Rattle.integers.specs.Operations.{number, known}
 use Rattle.sheet.specs.Valid.{in_order}
 use borrow.Author.Rules.{rules}
-use Rattle.sheet.proofs.kept.in_order.Goals.{After-wide-high, After-wide-low, Start}
+use Rattle.sheet.proofs.kept.in_order.Goals.{After-from-high, After-from-low, Start}
 use Rattle.sheet.proofs.kept.in_order.Goals as goal
 
 greatest_held : (c : Start) → mag c.args.greatest.pv < 2147483648
@@ -23,31 +23,31 @@ size : (c : Start) → nat_abs c.args.least.pv ≤ 1000000000000
 size c = let least = c.args.least.pv in omega (arith, known least, number least, least_held c)
 
 -- the PVs in 64 bits
-greatest_is : (c : After-wide-high) → to_z w64 (of_z w64 c.wide-high.result) ≡ c.args.greatest.pv
+greatest_is : (c : After-from-high) → to_z w64 (of_z w64 c.from-high.result) ≡ c.args.greatest.pv
 greatest_is c =
-    back w64 c.wide-high.result c.wide-high.type_inv ∙ c.wide-high.ensures ∙
+    back w64 c.from-high.result c.from-high.type_inv ∙ c.from-high.ensures ∙
     back w32 c.args.greatest.pv (greatest_held c.before.before)
 
-least_is : (c : After-wide-low) → to_z w64 (of_z w64 c.wide-low.result) ≡ c.args.least.pv
+least_is : (c : After-from-low) → to_z w64 (of_z w64 c.from-low.result) ≡ c.args.least.pv
 least_is c =
-    back w64 c.wide-low.result c.wide-low.type_inv ∙ c.wide-low.ensures ∙
+    back w64 c.from-low.result c.from-low.type_inv ∙ c.from-low.ensures ∙
     back w32 c.args.least.pv (least_held c.before.before.before.before)
 
 pub returns-then-less : goal.returns-then-less
 unfolding in_order
 returns-then-less c =
     let next = back w64 c.plus-next.result c.plus-next.type_inv ∙
-    rw (least_is (goal.at.returns-then-less c).After-wide-low) at c.plus-next.ensures in
-    let is = rw (least_is (goal.at.returns-then-less c).After-wide-low, greatest_is (goal.at.returns-then-less c).After-wide-high) at
+    rw (least_is (goal.at.returns-then-less c).After-from-low) at c.plus-next.ensures in
+    let is = rw (least_is (goal.at.returns-then-less c).After-from-low, greatest_is (goal.at.returns-then-less c).After-from-high) at
     c.less.ensures in
-    rw (rw (next, greatest_is (goal.at.returns-then-less c).After-wide-high) at c.less-then-less.ensures, sym is ∙ c.if-less.true) refl
+    rw (rw (next, greatest_is (goal.at.returns-then-less c).After-from-high) at c.less-then-less.ensures, sym is ∙ c.if-less.true) refl
 
 pub returns : goal.returns
 unfolding in_order
 returns c =
-    let is = rw (least_is (goal.at.returns c).After-wide-low, greatest_is (goal.at.returns c).After-wide-high) at c.less.ensures in
+    let is = rw (least_is (goal.at.returns c).After-from-low, greatest_is (goal.at.returns c).After-from-high) at c.less.ensures in
     rw (
-      rw (least_is (goal.at.returns c).After-wide-low, greatest_is (goal.at.returns c).After-wide-high) at c.not_above.ensures,
+      rw (least_is (goal.at.returns c).After-from-low, greatest_is (goal.at.returns c).After-from-high) at c.not_above.ensures,
       sym is ∙
           c.if-less.false,
     ) refl

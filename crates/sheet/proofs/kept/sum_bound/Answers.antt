@@ -19,19 +19,19 @@ use Rattle.sheet.proofs.kept.sum_bound.Goals as goal
 held : (z : ℤ) → SFits w32 z → to_z w32 (of_z w32 z) ≡ z
 held z f = back w32 z f.sfits
 
-here_is : (c : After-sum-sum) → to_z w64 (of_z w64 c.wide.result) ≡ c.args.here.pv
+here_is : (c : After-sum-sum) → to_z w64 (of_z w64 c.from.result) ≡ c.args.here.pv
 here_is c =
     let pv : SFits w32 c.args.here.pv = search rules in
-    back w64 c.wide.result c.wide.type_inv ∙ c.wide.ensures ∙ held c.args.here.pv pv
+    back w64 c.from.result c.from.type_inv ∙ c.from.ensures ∙ held c.args.here.pv pv
 
 product_is : (c : After-sum-sum) →
     to_z w64 (of_z w64 c.times-all.result) ≡ c.args.here.pv *ℤ pos (c.args.scans - 1)
 product_is c = back w64 c.times-all.result c.times-all.type_inv ∙ (rw (here_is c) at c.times-all.ensures)
 
-other_is : (c : After-sum-sum) → to_z w64 (of_z w64 c.wide-2.result) ≡ c.args.other.pv
+other_is : (c : After-sum-sum) → to_z w64 (of_z w64 c.from-2.result) ≡ c.args.other.pv
 other_is c =
     let pv : SFits w32 c.args.other.pv = search rules in
-    back w64 c.wide-2.result c.wide-2.type_inv ∙ c.wide-2.ensures ∙ held c.args.other.pv pv
+    back w64 c.from-2.result c.from-2.type_inv ∙ c.from-2.ensures ∙ held c.args.other.pv pv
 
 sum_is : (c : After-sum-sum) → to_z w64 (of_z w64 c.sum-sum.result) ≡ (c.args.here.pv *ℤ pos (c.args.scans - 1)) +ℤ c.args.other.pv
 sum_is c =
