@@ -137,6 +137,6 @@ fits v a e few h =
     record {
       pv = omega (arith, sum_size v.sumpv a.pv, pv-size, held_size a.pv h.pv);
       op = omega (arith, integers, sum v.sumop (pos a.op), p.op_least, p.op_most, h.op, number (v.sumop +ℤ pos a.op));
-      mode = omega (arith, count_most v.modes (place_of a.mode) (omega (arith, place_few a.mode, p.size)), p.counts);
+      mode = omega (arith, count_most v.modes (place_of a.mode), p.counts);
       alarms = omega (arith, p.alarms);
     }
