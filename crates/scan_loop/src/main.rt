@@ -1,10 +1,9 @@
 // A host's loop, in which every call that returns a controller or a sheet is made; both stand in a struct. What is done
-// in a turn stands in functions whose contracts say that both are Valid before and after it. They need no proof file;
-// the loop alone has one (proofs/dry/Invariants.antt).
+// in a turn stands in functions whose contracts say that the controller is Valid before and after it; of a sheet its type
+// says so. They need no proof file; the loop alone has one (proofs/dry/Invariants.antt).
 #![tactic(auto)]
 
 ghost use Rattle.controller.specs.Valid.{Valid};
-ghost use Rattle.sheet.specs.Valid.{Valid as ValidSheet};
 
 use controller::{Answer, Controller, ReadAnswer};
 use rights::Writer;
@@ -28,11 +27,10 @@ fn due(controller: Controller) -> u64 {
 
 // A scan, and its answer entered in the sheet.
 fn scanned(dryer: Dryer) -> Dryer
-    requires { Valid dryer.controller × ValidSheet dryer.sheet }
-    ensures { Valid result.controller × ValidSheet result.sheet }
+    requires { Valid dryer.controller }
+    ensures { Valid result.controller }
 {
     let before = dryer.controller;
-    let sheet = dryer.sheet;
     let r = before.scan(Input {
         pins: 0x80,
         sample1: 5000,
@@ -45,15 +43,14 @@ fn scanned(dryer: Dryer) -> Dryer
     let controller = r.controller;
     let answer = r.answer;
     match answer {
-        Answer::Accepted(values) => {
-            let e = sheet.enter(values);
-            let entered = e.sheet;
-            Dryer {
-                controller,
-                sheet: entered,
-            }
-        }
-        Answer::Refused(refusal) => Dryer { controller, sheet },
+        Answer::Accepted(values) => Dryer {
+            controller,
+            sheet: dryer.sheet.enter(values).sheet,
+        },
+        Answer::Refused(refusal) => Dryer {
+            controller,
+            ..dryer
+        },
     }
 }
 
@@ -99,21 +96,23 @@ fn after_power(controller: Controller, turn: u64) -> Controller
 
 // What is done in a turn.
 fn turned(dryer: Dryer, turn: u64) -> Dryer
-    requires { Valid dryer.controller × ValidSheet dryer.sheet }
-    ensures { Valid result.controller × ValidSheet result.sheet }
+    requires { Valid dryer.controller }
+    ensures { Valid result.controller }
 {
     let after = scanned(dryer);
-    let sheet = after.sheet;
-    let controller = after_power(adjusted(after.controller), turn);
-    Dryer { controller, sheet }
+    Dryer {
+        controller: after_power(adjusted(after.controller), turn),
+        ..after
+    }
 }
 
 fn dry(turns: u64) -> Dryer
-    ensures { Valid result.controller × ValidSheet result.sheet }
+    ensures { Valid result.controller }
 {
-    let controller = Controller::fresh(0);
-    let sheet = Sheet::empty();
-    let mut dryer = Dryer { controller, sheet };
+    let mut dryer = Dryer {
+        controller: Controller::fresh(0),
+        sheet: Sheet::empty(),
+    };
     for turn in 0..turns {
         dryer = turned(dryer, turn);
     }
@@ -128,11 +127,9 @@ fn print(rt: &impl Print, number: u64) {
 // OP and the scans of the sheet after a hundred turns.
 fn main(rt: HostRuntime) {
     let dryer = dry(100);
-    let controller = dryer.controller;
-    match controller.read(parameters::OP) {
+    match dryer.controller.read(parameters::OP) {
         ReadAnswer::Value(op) => print(&rt, integers::magnitude(integers::wide(op))),
         ReadAnswer::Refused(refusal) => print(&rt, refusal.number() as u64),
     }
-    let sheet = dryer.sheet;
-    print(&rt, sheet.scans() as u64);
+    print(&rt, dryer.sheet.scans() as u64);
 }

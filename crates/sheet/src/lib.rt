@@ -48,7 +48,8 @@ pub struct Sheet {
     values: SheetValues,
 }
 
-// A contract sees the values alone. They are always those that some list of answers gives.
+// A contract sees the values alone. They are always those that some list of answers gives, so every sheet can take the
+// next call.
 impl Model for Sheet {
     ghost use Rattle.std.specs.Prelude.{◌≡◌, true};
     ghost use Rattle.sheet.specs.Contents.{Contents};
