@@ -53,14 +53,14 @@ fn keep_sheet(rt: &impl Print, values: ScanValues) {
     print::word(rt, b"MD", values.md);
     print::word(rt, b"DS", values.ds);
     let empty = Sheet::empty();
-    let e = empty.enter(values); // the next sheet, and Entry::Taken or Entry::Full
+    let e = empty.enter(values); // the next sheet, and Ok(()) or Err(Full)
     let lot = e.sheet;
     let mean = lot.mean_pv(); // mean.sum over mean.count
     print::decimal(rt, b"sum of PV", mean.sum);
     let kept = lot.values(); // plain numbers, to be kept over a power cut
-    let k = Sheet::kept(kept); // k.validity tells whether the numbers can be a sheet's
-    let again = k.sheet;
-    print::decimal(rt, b"scans", again.scans() as i64);
+    if let Some(again) = Sheet::kept(kept) {
+        print::decimal(rt, b"scans", again.scans() as i64); // None where the numbers can't be a sheet's
+    }
 }
 
 fn type_line(rt: &impl Print, controller: Controller) -> Controller

@@ -6,7 +6,7 @@ use Rattle.std.proofs.Math.Option as option
 use Rattle.signals.specs.Bits.{bit}
 use Rattle.signals.specs.declared.Input.{Input}
 use Rattle.answers.specs.declared.ScanValues.{ScanValues}
-use Rattle.sheet.specs.declared.Entry.{Entry}
+use Rattle.sheet.specs.Sheet.{Entry}
 use Rattle.sheet.specs.declared.Sheet.{Sheet}
 use Rattle.controller.specs.Answers.{Answer}
 use Rattle.sheet_guarantee.specs.Claim.{SheetClaim}

@@ -1,10 +1,9 @@
 // A host's loop, in which every call that returns a controller or a sheet is made; both stand in a struct. What is done
-// in a turn stands in functions whose contracts say that both are Valid before and after it. They need no proof file;
-// the loop alone has one (proofs/dry/Invariants.antt).
+// in a turn stands in functions whose contracts say that the controller is Valid before and after it; of a sheet its type
+// says so. They need no proof file; the loop alone has one (proofs/dry/Invariants.antt).
 #![tactic(auto)]
 
 ghost use Rattle.controller.specs.Valid.{Valid};
-ghost use Rattle.sheet.specs.Valid.{Valid as ValidSheet};
 
 use controller::Controller;
 use rights::Writer;
@@ -27,11 +26,10 @@ fn due(controller: Controller) -> u64 {
 
 // A scan, and its answer entered in the sheet.
 fn scanned(dryer: Dryer) -> Dryer
-    requires { Valid dryer.controller × ValidSheet dryer.sheet }
-    ensures { Valid result.controller × ValidSheet result.sheet }
+    requires { Valid dryer.controller }
+    ensures { Valid result.controller }
 {
     let before = dryer.controller;
-    let sheet = dryer.sheet;
     let r = before.scan(Input {
         pins: 0x80,
         sample1: 5000,
@@ -44,15 +42,14 @@ fn scanned(dryer: Dryer) -> Dryer
     let controller = r.controller;
     let answer = r.answer;
     match answer {
-        Ok(values) => {
-            let e = sheet.enter(values);
-            let entered = e.sheet;
-            Dryer {
-                controller,
-                sheet: entered,
-            }
-        }
-        Err(_) => Dryer { controller, sheet },
+        Ok(values) => Dryer {
+            controller,
+            sheet: dryer.sheet.enter(values).sheet,
+        },
+        Err(_) => Dryer {
+            controller,
+            ..dryer
+        },
     }
 }
 
@@ -98,21 +95,23 @@ fn after_power(controller: Controller, turn: u64) -> Controller
 
 // What is done in a turn.
 fn turned(dryer: Dryer, turn: u64) -> Dryer
-    requires { Valid dryer.controller × ValidSheet dryer.sheet }
-    ensures { Valid result.controller × ValidSheet result.sheet }
+    requires { Valid dryer.controller }
+    ensures { Valid result.controller }
 {
     let after = scanned(dryer);
-    let sheet = after.sheet;
-    let controller = after_power(adjusted(after.controller), turn);
-    Dryer { controller, sheet }
+    Dryer {
+        controller: after_power(adjusted(after.controller), turn),
+        ..after
+    }
 }
 
 fn dry(turns: u64) -> Dryer
-    ensures { Valid result.controller × ValidSheet result.sheet }
+    ensures { Valid result.controller }
 {
-    let controller = Controller::fresh(0);
-    let sheet = Sheet::empty();
-    let mut dryer = Dryer { controller, sheet };
+    let mut dryer = Dryer {
+        controller: Controller::fresh(0),
+        sheet: Sheet::empty(),
+    };
     for turn in 0..turns {
         dryer = turned(dryer, turn);
     }
@@ -127,11 +126,9 @@ fn print(rt: &impl Print, number: u64) {
 // OP and the scans of the sheet after a hundred turns.
 fn main(rt: HostRuntime) {
     let dryer = dry(100);
-    let controller = dryer.controller;
-    match controller.read(parameters::OP) {
-        Ok(op) => print(&rt, integers::magnitude(integers::wide(op))),
-        Err(refusal) => print(&rt, u8::from(refusal) as u64),
+    match dryer.controller.read(parameters::OP) {
+        Ok(op) => print(&rt, u64::from(op.unsigned_abs())),
+        Err(refusal) => print(&rt, u64::from(u8::from(refusal))),
     }
-    let sheet = dryer.sheet;
-    print(&rt, sheet.scans() as u64);
+    print(&rt, dryer.sheet.scans() as u64);
 }
