@@ -99,10 +99,10 @@ impl<const N: usize> Text<N> {
     pub fn push_signed(&mut self, number: i64)
         ensures { self.new ≡ append_all self.old (decimal number) }
     {
-        if integers::negative(number) {
+        if number < 0 {
             self.push(b'-');
         }
-        self.push_decimal(integers::magnitude(number));
+        self.push_decimal(number.unsigned_abs());
     }
 
     // A word in four hexadecimal digits, its low 16 bits. The contract rules out small letters and a digit too few or

@@ -10,7 +10,6 @@ ghost use Rattle.replies.specs.Replies.{line_text, reply_text, reply_line};
 use answers::ScanValues;
 use formatting::Text;
 use sheet::Sheet;
-use signals::clock::ClockReading;
 
 #[derive(Clone, Copy)]
 pub enum Reply {
@@ -19,7 +18,7 @@ pub enum Reply {
     // of an accepted scan
     Answer(ScanValues),
     // the last accepted reading of the clock
-    Clock(ClockReading),
+    Clock(Option<u64>),
     // the image that was saved in the buffer beside
     Image,
     // the terminal's reply, so many bytes at the front of the buffer beside
@@ -64,7 +63,7 @@ fn append_answer<const N: usize>(out: &mut Text<N>, values: ScanValues)
     out.push(b' ');
     out.push_all(sheet_lines::mode::word(values.mode));
     out.push(b' ');
-    out.push_signed(integers::wide(values.pv));
+    out.push_signed(i64::from(values.pv));
 }
 
 // A refusal and its number.
@@ -80,16 +79,16 @@ fn append_value<const N: usize>(out: &mut Text<N>, v: i32)
     ensures { out.new ≡ append_all out.old (value_text v) }
 {
     out.push_all(b"value ");
-    out.push_signed(integers::wide(v));
+    out.push_signed(i64::from(v));
 }
 
 // A reading of the clock. The contract rules out a number where there is no reading.
-fn append_clock<const N: usize>(out: &mut Text<N>, reading: ClockReading)
+fn append_clock<const N: usize>(out: &mut Text<N>, reading: Option<u64>)
     ensures { (out.new ≡ append_all out.old (clock_text reading)) × ReadingRange reading }
 {
     match reading {
-        ClockReading::None => out.push_all(b"clock none"),
-        ClockReading::At(milliseconds) => {
+        None => out.push_all(b"clock none"),
+        Some(milliseconds) => {
             out.push_all(b"clock");
             append_spaced(out, milliseconds);
         }

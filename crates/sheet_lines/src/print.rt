@@ -7,7 +7,7 @@ ghost use Rattle.sheet_lines.specs.SheetText.{count_text, counts_text, sheet_tex
 
 use formatting::Text;
 use modes::Mode;
-use sheet::{Extreme, Occurrence, Sheet};
+use sheet::{Occurrence, Sheet};
 
 // A blank, a name and an equals sign.
 fn append_name<const N: usize>(out: &mut Text<N>, name: &[u8])
@@ -38,19 +38,19 @@ fn append_sum<const N: usize>(out: &mut Text<N>, name: &[u8], sum: i64)
 fn append_occurrence<const N: usize>(out: &mut Text<N>, first: Occurrence)
     ensures { TextAppended out.old out.new (occurrence_text first) 22 }
 {
-    out.push_signed(integers::wide(first.pv));
+    out.push_signed(i64::from(first.pv));
     out.push(b'@');
     out.push_decimal(first.number as u64);
 }
 
 // The greatest or the least PV, with its name.
-fn append_extreme<const N: usize>(out: &mut Text<N>, name: &[u8], extreme: Extreme)
+fn append_extreme<const N: usize>(out: &mut Text<N>, name: &[u8], extreme: Option<Occurrence>)
     ensures { TextAppended out.old out.new (extreme_text name.now extreme) (length name.now + 24) }
 {
     append_name(out, name);
     match extreme {
-        Extreme::None => out.push_all(b"none"),
-        Extreme::First(first) => append_occurrence(out, first),
+        None => out.push_all(b"none"),
+        Some(first) => append_occurrence(out, first),
     }
 }
 

@@ -12,7 +12,7 @@ fn append_value<const N: usize>(out: &mut Text<N>, number: u64, value: i64)
     ensures { out.new ≡ append_all out.old (value_text number value) }
 {
     if crate::command::is_word(number) {
-        out.push_word(integers::magnitude(value));
+        out.push_word(value.unsigned_abs());
     } else {
         out.push_signed(value);
     }
@@ -27,7 +27,7 @@ fn whole(number: u64, value: i32) -> Text<REPLY_LENGTH>
     text.push(crate::mnemonic::letter(number, 0));
     text.push(crate::mnemonic::letter(number, 1));
     text.push(b'>');
-    append_value(&mut text, number, integers::wide(value));
+    append_value(&mut text, number, i64::from(value));
     text
 }
 

@@ -17,7 +17,7 @@ returns g c =
     let to-blank = then o _ _ c.append_words.ensures.0 c.push.ensures in
     let to-gap = then o _ _ (then o _ _ to-blank word) c.push-2.ensures in
     let fits = c.struct_told-1.given.1.1.1.1.1.0.1 in
-    let pv_is = back w64 c.wide.result c.wide.type_inv ∙ c.wide.ensures ∙ back w32 c.args.values.pv fits in (
+    let pv_is = back w64 c.from.result c.from.type_inv ∙ c.from.ensures ∙ back w32 c.args.values.pv fits in (
       then o _ _ to-gap (c.push_signed.ensures ∙ ap (append_all _) (ap decimal pv_is)),
       record { words = c.append_words.ensures.1; pv = value_most c.args.values.pv fits },
     )

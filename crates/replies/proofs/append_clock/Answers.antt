@@ -10,8 +10,8 @@ returns-in-None g c =
     let e = c.in-None.is in
     (rw e c.push_all.ensures, rw e tt)
 
-pub returns-in-At : goal.returns-in-At
+pub returns-in-Some : goal.returns-in-Some
 unfolding clock_text
-returns-in-At g c =
-    let e = c.in-At.is in
-    (rw e (then c.args.out.now _ _ c.push_all-in-At.ensures c.append_spaced.ensures), rw e (search rules))
+returns-in-Some g c =
+    let e = c.in-Some.is in
+    (rw e (then c.args.out.now _ _ c.push_all-in-Some.ensures c.append_spaced.ensures), rw e (search rules))

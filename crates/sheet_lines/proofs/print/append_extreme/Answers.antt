@@ -11,8 +11,8 @@ returns-in-None g c =
     let all = text_then c.append_name.ensures none_of in
     rw c.in-None.is (text_most all (omega arith))
 
-pub returns-in-First : goal.returns-in-First
+pub returns-in-Some : goal.returns-in-Some
 unfolding extreme_text
-returns-in-First g c =
+returns-in-Some g c =
     let all = text_then c.append_name.ensures c.append_occurrence.ensures in
-    rw c.in-First.is (text_most all (omega arith))
+    rw c.in-Some.is (text_most all (omega arith))

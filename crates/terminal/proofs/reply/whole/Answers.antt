@@ -15,8 +15,8 @@ returns c =
     let o = buffer (replicate 9 0) 0 in
     let first = rw (c.letter.ensures, c.new-text.ensures) at c.push.ensures in
     let second = rw c.letter-2.ensures at c.push-2.ensures in
-    let value_is : to_z w64 (of_z w64 c.wide.result) ≡ c.args.value =
-    back w64 c.wide.result c.wide.type_inv ∙ c.wide.ensures ∙ to_z-of_z c.ranges.value in
+    let value_is : to_z w64 (of_z w64 c.from.result) ≡ c.args.value =
+    back w64 c.from.result c.from.type_inv ∙ c.from.ensures ∙ to_z-of_z c.ranges.value in
     let displayed = rw value_is at c.append_value.ensures in
     let whole = then o _ _ (then o _ _ (then o _ _ first second) c.push-3.ensures) displayed in
     let number = c.args.number in
