@@ -4,3 +4,4 @@ pub mod HexadecimalLaws
 pub mod HexadecimalRead
 pub mod Arguments
 pub mod ArgumentsLaws
+pub mod RangeLaws

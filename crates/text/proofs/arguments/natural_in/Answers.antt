@@ -1,61 +1,21 @@
 -- `text::arguments::natural_in` meets its contract. What the calls read back of the value is the value.
-use mathlib.Core.Path.{◌≡◌, sym, ◌∙◌}
-use mathlib.Core.Bool.{false}
-use native.Mathlib.Omega.{arith}
-use lib.IntN.{nat_abs}
-use borrow.Author.Tests.{lt-ltb, le-ltb}
+use mathlib.Core.Path.{◌∙◌}
 use mir.Facts.{to_z-of_z}
-use Rattle.integers.specs.Sign.{is_negative}
-use Rattle.text.specs.Arguments.{natural_in}
-use Rattle.text.proofs.arguments.natural_in.Goals.{Else-negative}
+use Rattle.text.specs.RangeLaws.{below_zero, in_range, out_of_range}
 use Rattle.text.proofs.arguments.natural_in.Goals as goal
 
-pub returns-then-negative : goal.returns-then-negative
-unfolding natural_in
-returns-then-negative c =
-    (simp (simp (to_z-of_z c.ranges.value) at (sym c.negative.ensures ∙ c.if-negative.true)), omega arith, omega arith)
+pub returns-in_err-number-clause-value : goal.returns-in_err-number-clause-value
+returns-in_err-number-clause-value c =
+    c.from_residual.ensures ∙
+    below_zero _ c.args.value c.args.least c.args.most c.ranges.value (simp (to_z-of_z c.ranges.value) at c.try_from.ensures)
+    c.in_err-number.ensures.value
 
-module _ (c : Else-negative) where
-  not_negative : is_negative c.args.value ≡ false
-  not_negative = simp (to_z-of_z c.ranges.value) at (sym c.negative.ensures ∙ c.if-negative.false)
+pub returns-then-number-least-clause-value : goal.returns-then-number-least-clause-value
+returns-then-number-least-clause-value c =
+    out_of_range _ c.args.value c.args.least c.args.most _ (simp (to_z-of_z c.ranges.value) at c.try_from.ensures)
+    c.in_ok-number.ensures.value c.then-number-least.either
 
-  size : c.magnitude-size.result ≡ nat_abs c.args.value
-  size = simp (to_z-of_z c.ranges.value) at c.magnitude-size.ensures
-
-pub returns-then-size-least : goal.returns-then-size-least
-unfolding natural_in
-returns-then-size-least c = (
-  simp (
-    not_negative (goal.at.returns-then-size-least c).Else-negative,
-    ← size (goal.at.returns-then-size-least c).Else-negative,
-    lt-ltb _ _ c.if-size-least.true,
-  ),
-  omega arith,
-  omega arith,
-)
-
-pub returns-then-most-size : goal.returns-then-most-size
-unfolding natural_in
-returns-then-most-size c = (
-  simp (
-    not_negative (goal.at.returns-then-most-size c).Else-negative,
-    ← size (goal.at.returns-then-most-size c).Else-negative,
-    le-ltb _ _ c.if-size-least.false,
-    lt-ltb _ _ c.if-most-size.true,
-  ),
-  omega arith,
-  omega arith,
-)
-
-pub returns : goal.returns
-unfolding natural_in
-returns c = (
-  simp (
-    not_negative (goal.at.returns c).Else-negative,
-    ← size (goal.at.returns c).Else-negative,
-    le-ltb _ _ c.if-size-least.false,
-    le-ltb _ _ c.if-most-size.false,
-  ),
-  omega arith,
-  omega arith,
-)
+pub returns-clause-value : goal.returns-clause-value
+returns-clause-value c =
+    in_range _ c.args.value c.args.least c.args.most _ (simp (to_z-of_z c.ranges.value) at c.try_from.ensures)
+    c.in_ok-number.ensures.value c.if-number-least.false c.if-most-number.false
