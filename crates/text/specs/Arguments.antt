@@ -41,6 +41,11 @@ arguments_from line at =
 abbrev pub argument : List ℤ → ℕ → ℤ
 argument values i = get_or values i (pos 0)
 
+-- what follows of a value, where there is one
+abbrev pub given : {A B : Type 0} → Option A → (A → Option B) → Option B
+given None f = None
+given (Some a) f = f a
+
 -- an integer as a natural number from least to most
 unfoldable pub natural_in : ℤ → ℕ → ℕ → Option ℕ
 natural_in value least most =
