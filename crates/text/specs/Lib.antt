@@ -4,4 +4,3 @@ pub mod HexadecimalLaws
 pub mod HexadecimalRead
 pub mod Arguments
 pub mod ArgumentsLaws
-pub mod RangeLaws

@@ -44,6 +44,7 @@ pub fn parse(line: &[u8], start: usize) -> Option<Arguments>
 
 // The number, from least to most. The contract rules out a value beyond the range, whatever was given, and one within
 // it that is refused.
+#[tactic(auto, unfolding(crate::specs::Arguments::natural_in))]
 pub fn natural_in(value: i64, least: u64, most: u64) -> Option<u64>
     ensures value { result ≡ natural_in value least most }
     ensures range { IfSome result (λ n. (least ≤ n) × (n ≤ most)) }
@@ -57,6 +58,7 @@ pub fn natural_in(value: i64, least: u64, most: u64) -> Option<u64>
 
 // The number, where 32 bits hold it. The contract rules out a value of 32 bits that is refused, and another number in
 // its place.
+#[tactic(auto, unfolding(crate::specs::Arguments::integer_in))]
 pub fn integer_in(value: i64) -> Option<i32>
     ensures { result ≡ integer_in value }
 {

@@ -3,6 +3,7 @@ ghost use Rattle.std.specs.Prelude.{◌≡◌, true, ◌++◌, ◌*◌, ◌≤�
 ghost use Rattle.text.specs.Hexadecimal.{capital, hexadecimal_value, all_digits, is_dash, pair, pairs, bytes_of, count_in, bytes_in};
 
 // The capital of a small letter that is a digit; another byte as it is.
+#[tactic(auto, unfolding(crate::specs::Hexadecimal::capital))]
 fn capital(b: u8) -> u8
     ensures { result ≡ capital b }
 {
@@ -34,6 +35,7 @@ fn all_digits(word: &[u8]) -> bool
     word.iter().all(|b| is_digit(*b))
 }
 
+#[tactic(auto, unfolding(crate::specs::Hexadecimal::is_dash))]
 fn is_dash(word: &[u8]) -> bool
     ensures { result ≡ is_dash word.now }
 {

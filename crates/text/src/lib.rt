@@ -35,6 +35,7 @@ fn run_end(line: &[u8], at: usize, blank: bool) -> usize
 
 // The first word at or behind a place; an empty one where there is none. The contract rules out a word cut short or one
 // with a blank in it.
+#[tactic(auto, unfolding(crate::specs::Words::word_at))]
 pub fn word(line: &[u8], at: usize) -> Span
     ensures value { result ≡ word_at line.now at }
     ensures at_le_from { (at ≤ result.from) × (result.from ≤ result.to) × (result.to ≤ max at (length line.now)) }
@@ -46,6 +47,7 @@ pub fn word(line: &[u8], at: usize) -> Span
 
 // The only word at or behind a place; an empty one where there is none, or a second one. The contract rules out the
 // first of two words.
+#[tactic(auto, unfolding(crate::specs::Words::only_word))]
 pub fn only_word(line: &[u8], at: usize) -> Span
     ensures value { result ≡ only_word line.now at }
     ensures at_le_from { (at ≤ result.from) × (result.from ≤ result.to) × (result.to ≤ max at (length line.now)) }
@@ -71,6 +73,7 @@ pub fn after_words(line: &[u8], start: usize, count: usize) -> usize
 }
 
 // Whether two words are the same. The contract rules out a word that is taken for a longer one.
+#[tactic(auto, using(crate::specs::Words::same_pointwise))]
 pub fn same(a: &[u8], b: &[u8]) -> bool
     ensures { result ≡ same_bytes a.now b.now }
 {
