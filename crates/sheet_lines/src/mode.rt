@@ -41,9 +41,8 @@ pub fn append_mode(out: &mut [u8], used: usize, mode: Mode) -> usize
 }
 
 // The mode whose word it is. The contract rules out a word that is taken for another mode's, or that none has.
-#[tactic(auto, unfolding(crate::specs::ModeWords::mode_of), using(text::specs::Words::same_pointwise))]
 pub fn parse(word: &[u8]) -> Option<Mode>
     ensures { result ≡ mode_of word.now }
 {
-    MODES.into_iter().find(|mode| word == word_of(*mode))
+    MODES.iter().find(|mode| word == word_of(**mode)).copied()
 }
