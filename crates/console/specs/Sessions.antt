@@ -1,6 +1,5 @@
 -- What a run of the console holds from line to line, and what each command does to it.
 use Rattle.std.specs.Prelude.{List, ℕ}
-use Rattle.sheet.specs.Valid as sheet
 use Rattle.controller.specs.State.{fresh_controller}
 use Rattle.controller.specs.Valid as controller
 use Rattle.commands.specs.declared.Command.{Command}
@@ -18,7 +17,6 @@ use Rattle.console.specs.declared.session.SessionStep.{SessionStep}
 -- one that every command may take
 pub record ValidSession (s : Session) : Type 0 where
   pub controller : controller.Valid s.controller
-  pub sheet : sheet.Valid s.sheet.sheet
 
 -- before the first line
 unfoldable pub first_session : Session

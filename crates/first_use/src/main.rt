@@ -5,11 +5,10 @@
 ghost use Rattle.controller.specs.Valid.{Valid};
 
 use answers::ScanValues;
-use controller::{Answer, Controller};
+use controller::Controller;
 use rights::Writer;
 use sheet::Sheet;
 use signals::Input;
-use terminal::LineAnswer;
 
 mod print;
 
@@ -27,16 +26,16 @@ fn main(rt: HostRuntime) {
     let second = r.controller; // the controller for the next call
     let answer = r.answer;
     match answer {
-        Answer::Accepted(values) => keep_sheet(&rt, values), // md 1002h, ds 913Fh, op 0, electrical 0, mode Auto, pv 500
-        Answer::Refused(refusal) => print::refusal(&rt, refusal),
+        Ok(values) => keep_sheet(&rt, values), // md 1002h, ds 913Fh, op 0, electrical 0, mode Auto, pv 500
+        Err(refusal) => print::refusal(&rt, refusal),
     }
-    let last = second.last_reading(); // ClockReading::At(1000); ClockReading::None before the first scan
+    let last = second.last_reading(); // Some(1000); None before the first scan
     print::reading(&rt, last);
     let may = second.write_access(Writer::Operator, parameters::XP); // refused with 20: offer no field for editing
     print::verdict(&rt, may);
     let w = second.write(Writer::Operator, parameters::SL, 650);
     let third = w.controller;
-    let written = w.verdict; // Verdict::Accepted, or Verdict::Refused(refusal)
+    let written = w.verdict; // Ok(()), or Err(refusal)
     print::verdict(&rt, written);
     let fourth = type_line(&rt, third);
     print::answer(&rt, b"SL", fourth.read(parameters::SL)); // 650
@@ -54,14 +53,14 @@ fn keep_sheet(rt: &impl Print, values: ScanValues) {
     print::word(rt, b"MD", values.md);
     print::word(rt, b"DS", values.ds);
     let empty = Sheet::empty();
-    let e = empty.enter(values); // the next sheet, and Entry::Taken or Entry::Full
+    let e = empty.enter(values); // the next sheet, and Ok(()) or Err(Full)
     let lot = e.sheet;
     let mean = lot.mean_pv(); // mean.sum over mean.count
     print::decimal(rt, b"sum of PV", mean.sum);
     let kept = lot.values(); // plain numbers, to be kept over a power cut
-    let k = Sheet::kept(kept); // k.validity tells whether the numbers can be a sheet's
-    let again = k.sheet;
-    print::decimal(rt, b"scans", again.scans() as i64);
+    if let Some(again) = Sheet::kept(kept) {
+        print::decimal(rt, b"scans", again.scans() as i64); // None where the numbers can't be a sheet's
+    }
 }
 
 fn type_line(rt: &impl Print, controller: Controller) -> Controller
@@ -72,8 +71,8 @@ fn type_line(rt: &impl Print, controller: Controller) -> Controller
     let t = terminal::answer(controller, Writer::Engineer, b"XP>500", &mut reply);
     let answer = t.answer;
     match answer {
-        LineAnswer::Reply(length) => print::front(rt, &reply, length), // XP>500; the bytes behind it stay
-        LineAnswer::Refused(refusal) => print::refusal(rt, refusal), // nothing has changed, in the controller or the buffer
+        Ok(length) => print::front(rt, &reply, length), // XP>500; the bytes behind it stay
+        Err(refusal) => print::refusal(rt, refusal), // nothing has changed, in the controller or the buffer
     }
     t.controller // the write is made
 }

@@ -1,16 +1,14 @@
 // A host's loop, in which every call that returns a controller or a sheet is made; both stand in a struct. What is done
-// in a turn stands in functions whose contracts say that both are Valid before and after it. They need no proof file;
-// the loop alone has one (proofs/dry/Invariants.antt).
+// in a turn stands in functions whose contracts say that the controller is Valid before and after it; of a sheet its type
+// says so. They need no proof file; the loop alone has one (proofs/dry/Invariants.antt).
 #![tactic(auto)]
 
 ghost use Rattle.controller.specs.Valid.{Valid};
-ghost use Rattle.sheet.specs.Valid.{Valid as ValidSheet};
 
-use controller::{Answer, Controller, ReadAnswer};
+use controller::Controller;
 use rights::Writer;
 use sheet::Sheet;
-use signals::clock::ClockReading;
-use signals::{Input, Verdict};
+use signals::Input;
 
 #[derive(Clone, Copy)]
 struct Dryer {
@@ -21,18 +19,17 @@ struct Dryer {
 // When the next scan is due: 36 ms after the last one, or at once. A real host reads its own clock.
 fn due(controller: Controller) -> u64 {
     match controller.last_reading() {
-        ClockReading::At(last) => std::num::wrapping_add_u64(last, 36),
-        ClockReading::None => 0,
+        Some(last) => std::num::wrapping_add_u64(last, 36),
+        None => 0,
     }
 }
 
 // A scan, and its answer entered in the sheet.
 fn scanned(dryer: Dryer) -> Dryer
-    requires { Valid dryer.controller × ValidSheet dryer.sheet }
-    ensures { Valid result.controller × ValidSheet result.sheet }
+    requires { Valid dryer.controller }
+    ensures { Valid result.controller }
 {
     let before = dryer.controller;
-    let sheet = dryer.sheet;
     let r = before.scan(Input {
         pins: 0x80,
         sample1: 5000,
@@ -45,15 +42,14 @@ fn scanned(dryer: Dryer) -> Dryer
     let controller = r.controller;
     let answer = r.answer;
     match answer {
-        Answer::Accepted(values) => {
-            let e = sheet.enter(values);
-            let entered = e.sheet;
-            Dryer {
-                controller,
-                sheet: entered,
-            }
-        }
-        Answer::Refused(refusal) => Dryer { controller, sheet },
+        Ok(values) => Dryer {
+            controller,
+            sheet: dryer.sheet.enter(values).sheet,
+        },
+        Err(_) => Dryer {
+            controller,
+            ..dryer
+        },
     }
 }
 
@@ -64,13 +60,13 @@ fn adjusted(controller: Controller) -> Controller
 {
     let access = controller.write_access(Writer::Operator, parameters::SL);
     match access {
-        Verdict::Accepted => {
+        Ok(()) => {
             let w = controller.write(Writer::Operator, parameters::SL, 650);
             let mut reply = [0u8; terminal::REPLY_LENGTH];
             let t = terminal::answer(w.controller, Writer::Engineer, b"TI>10", &mut reply);
             t.controller
         }
-        Verdict::Refused(refusal) => controller,
+        Err(_) => controller,
     }
 }
 
@@ -80,7 +76,7 @@ fn restarted(controller: Controller) -> Controller
     ensures { Valid result }
 {
     let mut image = [0u8; fields::IMAGE_LENGTH];
-    controller.save(&mut image);
+    let _ = controller.save(&mut image);
     let back = controller.restart(&image);
     back.controller
 }
@@ -99,21 +95,23 @@ fn after_power(controller: Controller, turn: u64) -> Controller
 
 // What is done in a turn.
 fn turned(dryer: Dryer, turn: u64) -> Dryer
-    requires { Valid dryer.controller × ValidSheet dryer.sheet }
-    ensures { Valid result.controller × ValidSheet result.sheet }
+    requires { Valid dryer.controller }
+    ensures { Valid result.controller }
 {
     let after = scanned(dryer);
-    let sheet = after.sheet;
-    let controller = after_power(adjusted(after.controller), turn);
-    Dryer { controller, sheet }
+    Dryer {
+        controller: after_power(adjusted(after.controller), turn),
+        ..after
+    }
 }
 
 fn dry(turns: u64) -> Dryer
-    ensures { Valid result.controller × ValidSheet result.sheet }
+    ensures { Valid result.controller }
 {
-    let controller = Controller::fresh(0);
-    let sheet = Sheet::empty();
-    let mut dryer = Dryer { controller, sheet };
+    let mut dryer = Dryer {
+        controller: Controller::fresh(0),
+        sheet: Sheet::empty(),
+    };
     for turn in 0..turns {
         dryer = turned(dryer, turn);
     }
@@ -128,11 +126,9 @@ fn print(rt: &impl Print, number: u64) {
 // OP and the scans of the sheet after a hundred turns.
 fn main(rt: HostRuntime) {
     let dryer = dry(100);
-    let controller = dryer.controller;
-    match controller.read(parameters::OP) {
-        ReadAnswer::Value(op) => print(&rt, integers::magnitude(integers::wide(op))),
-        ReadAnswer::Refused(refusal) => print(&rt, refusal.number() as u64),
+    match dryer.controller.read(parameters::OP) {
+        Ok(op) => print(&rt, u64::from(op.unsigned_abs())),
+        Err(refusal) => print(&rt, u64::from(u8::from(refusal))),
     }
-    let sheet = dryer.sheet;
-    print(&rt, sheet.scans() as u64);
+    print(&rt, dryer.sheet.scans() as u64);
 }

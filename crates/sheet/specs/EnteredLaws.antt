@@ -1,4 +1,5 @@
 -- An empty sheet is valid, entering keeps a sheet valid, and so no value of it can pass its type.
+use Rattle.std.specs.Prelude.{Option, None, Some, sum as total}
 use Rattle.std.specs.Prelude.{◌≡◌, refl, true, ◌&&◌, ℕ, zero, suc, ◌+◌, ◌*◌, ◌≤◌, ◌<◌, eqb, leb, ℤ, pos, nat_abs, ◌+ℤ◌, length, get_or}
 use Rattle.std.specs.Prelude.{◌≤ℤ◌}
 use Rattle.std.proofs.Common.{ap, ◌∙◌, arith, length-set, leb-true, leb-false, le-leb, eqb-true, eq-eqb}
@@ -9,12 +10,11 @@ use Rattle.integers.specs.Parts.{integers, apart}
 use Rattle.answers.specs.declared.ScanValues.{ScanValues}
 use Rattle.sheet.specs.Sheet.{place_of, counted, has_alarm, alarms_after, empty_sheet, taken, entered}
 use Rattle.sheet.specs.SumLaws.{Held, sum_fits, held_size}
-use Rattle.sheet.specs.Valid.{scans_before, are_extremes, total, is_sum_op, is_valid, Valid}
+use Rattle.sheet.specs.Valid.{scans_before, are_extremes, is_sum_op, is_valid, Valid}
 use Rattle.sheet.specs.TotalLaws.{place_few, count_most, total_more}
 use Rattle.sheet.specs.ValidLaws.{possible_of, no_scan, extremes_after}
 use Rattle.sheet.specs.declared.EnterResult.{EnterResult}
-use Rattle.sheet.specs.declared.Extreme.{Extreme}
-use Rattle.sheet.specs.declared.Extreme.TheVariants.{None, First}
+use Rattle.sheet.specs.declared.Occurrence.{Occurrence}
 use Rattle.sheet.specs.declared.Sheet.{Sheet}
 use Rattle.sheet.specs.declared.SheetValues.{SheetValues}
 
@@ -77,7 +77,7 @@ parts_valid v p =
 -- ---- an empty sheet
 
 pub empty_valid : Valid empty_sheet
-unfolding empty_sheet is_valid total
+unfolding empty_sheet is_valid
 empty_valid = record { tested = refl }
 
 -- ---- one answer more
@@ -110,15 +110,15 @@ entered_valid s a v h =
 
 -- ---- nothing passes its type
 
-sum_most : (scans : ℕ) (g l : Extreme) (s : ℤ) → are_extremes scans g l s ≡ true → nat_abs s ≤ 2147483648 * scans
+sum_most : (scans : ℕ) (g l : Option Occurrence) (s : ℤ) → are_extremes scans g l s ≡ true → nat_abs s ≤ 2147483648 * scans
 sum_most scans None None s e =
     let a = both (eqb scans 0 && le_z (pos 0) s) (le_z s (pos 0)) e in
     let b = both (eqb scans 0) (le_z (pos 0) s) a.0 in
     omega (arith, integers, number s, apart s, a.1, b.1)
-sum_most scans None (First l) s e = never e
-sum_most scans (First g) None s e = never e
-sum_most zero (First g) (First l) s e = absurd (no_scan g l s e)
-sum_most (suc more) (First g) (First l) s e =
+sum_most scans None (Some l) s e = never e
+sum_most scans (Some g) None s e = never e
+sum_most zero (Some g) (Some l) s e = absurd (no_scan g l s e)
+sum_most (suc more) (Some g) (Some l) s e =
     let p = possible_of more g l s e in
     sum_fits g.pv l.pv s more (scans_before g.number l.number) (scans_before l.number g.number)
     p.here_held p.other_held p.sum_here p.sum_other

@@ -1,3 +1,4 @@
+pub mod Contents
 pub mod Sheet
 pub mod Valid
 pub mod TotalLaws

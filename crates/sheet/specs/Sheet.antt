@@ -1,5 +1,6 @@
 -- Document 02, request 1: an empty sheet, and what a sheet holds after one more answer. What it comes to over a list of
 -- answers is said apart (sheet_guarantee/specs/Meaning.antt).
+use Rattle.std.specs.Prelude.{Option, None, Some, Result, Ok, Err, ⊤}
 use Rattle.std.specs.Prelude.{Bool, not, ◌||◌, List, [], ◌∷◌, ℕ, ◌+◌, leb, ℤ, pos, ◌+ℤ◌, get_or, set, if◌then◌else◌}
 use Rattle.std.specs.Int.Signed.{lt_z}
 use Rattle.signals.specs.Bits.{bit}
@@ -9,9 +10,8 @@ use Rattle.answers.specs.declared.ScanValues.{ScanValues}
 use Rattle.sheet.specs.declared.Bound.{Bound}
 use Rattle.sheet.specs.declared.Bound.TheVariants.{Greatest, Least}
 use Rattle.sheet.specs.declared.EnterResult.{EnterResult}
-use Rattle.sheet.specs.declared.Entry.TheVariants.{Taken, Full}
-use Rattle.sheet.specs.declared.Extreme.{Extreme}
-use Rattle.sheet.specs.declared.Extreme.TheVariants.{None, First}
+use Rattle.sheet.specs.declared.Full.{Full}
+use Rattle.sheet.specs.declared.Occurrence.{Occurrence}
 use Rattle.sheet.specs.declared.Sheet.{Sheet}
 use Rattle.sheet.specs.declared.SheetValues.{SheetValues}
 
@@ -41,10 +41,10 @@ is_beyond Greatest pv other = lt_z other pv
 is_beyond Least pv other = lt_z pv other
 
 -- after a scan with this PV and number: an equal PV leaves the number, since the earlier one came first
-abbrev pub extreme_after : Bound → Extreme → ℤ → ℕ → Extreme
-extreme_after bound None pv number = First (record { pv = pv; number = number })
-extreme_after bound (First first) pv number =
-    First (if is_beyond bound pv first.pv then record { pv = pv; number = number } else first)
+abbrev pub extreme_after : Bound → Option Occurrence → ℤ → ℕ → Option Occurrence
+extreme_after bound None pv number = Some (record { pv = pv; number = number })
+extreme_after bound (Some first) pv number =
+    Some (if is_beyond bound pv first.pv then record { pv = pv; number = number } else first)
 
 -- ---- "scans with either alarm or both": DS bit 1 is 0 for the low alarm, bit 0 for the high one
 
@@ -84,8 +84,12 @@ taken v a =
       sumop = v.sumop +ℤ pos a.op;
     }
 
+-- what entering an answer says: that it was taken, or full
+abbrev pub Entry : Type 0
+Entry = Result ⊤ Full
+
 -- "A sheet holds up to 4,294,967,295 scans; the next one leaves it as it was and says full."
 unfoldable pub entered : Sheet → ScanValues → EnterResult
 entered s a =
-    if leb 4294967295 s.values.scans then record { sheet = s; entry = Full } else
-    record { sheet = record { values = taken s.values a }; entry = Taken }
+    if leb 4294967295 s.values.scans then record { sheet = s; entry = Err (record {}) } else
+    record { sheet = record { values = taken s.values a }; entry = Ok tt }

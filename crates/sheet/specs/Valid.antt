@@ -1,19 +1,15 @@
 -- Which values are those of a sheet: those that some list of answers gives, of any values that an answer's types hold.
 -- A host keeps sheets over a power cut, and what it brings back is tested by this. Nothing that is valid can pass its
 -- type when one more answer is entered.
-use Rattle.std.specs.Prelude.{◌≡◌, Bool, true, false, not, ◌&&◌, ◌||◌, List, [], ◌∷◌, ℕ, ◌+◌, ◌-◌, ◌*◌, eqb, leb, ltb, ℤ, pos, neg_ℤ, ◌+ℤ◌}
+use Rattle.std.specs.Prelude.{Option, None, Some, sum}
+use Rattle.std.specs.Prelude.{◌≡◌, Bool, true, false, not, ◌&&◌, ◌||◌, ℕ, ◌-◌, ◌*◌, eqb, leb, ltb, ℤ, pos, neg_ℤ, ◌+ℤ◌}
 use Rattle.std.specs.Prelude.{◌-ℤ◌, ◌*ℤ◌, length, if◌then◌else◌}
 use Rattle.std.specs.Int.Signed.{le_z, lt_z}
-use Rattle.sheet.specs.Sheet.{empty_sheet}
 use Rattle.sheet.specs.declared.Bound.{Bound}
 use Rattle.sheet.specs.declared.Bound.TheVariants.{Greatest, Least}
-use Rattle.sheet.specs.declared.Extreme.{Extreme}
-use Rattle.sheet.specs.declared.Extreme.TheVariants.{None, First}
 use Rattle.sheet.specs.declared.Occurrence.{Occurrence}
 use Rattle.sheet.specs.declared.Sheet.{Sheet}
 use Rattle.sheet.specs.declared.SheetValues.{SheetValues}
-use Rattle.sheet.specs.declared.KeptResult.{KeptResult}
-use Rattle.sheet.specs.declared.Validity.TheVariants as validity
 
 -- ---- PV
 
@@ -50,18 +46,13 @@ is_possible scans greatest least sum =
     (le_z (sum_bound Least scans least greatest) sum && le_z sum (sum_bound Greatest scans greatest least))
 
 -- "none on an empty sheet"
-abbrev pub are_extremes : ℕ → Extreme → Extreme → ℤ → Bool
+abbrev pub are_extremes : ℕ → Option Occurrence → Option Occurrence → ℤ → Bool
 are_extremes scans None None sum = eqb scans 0 && le_z (pos 0) sum && le_z sum (pos 0)
-are_extremes scans None (First least) sum = false
-are_extremes scans (First greatest) None sum = false
-are_extremes scans (First greatest) (First least) sum = is_possible scans greatest least sum
+are_extremes scans None (Some least) sum = false
+are_extremes scans (Some greatest) None sum = false
+are_extremes scans (Some greatest) (Some least) sum = is_possible scans greatest least sum
 
 -- ---- the other values
-
--- the sum of the counts
-unfoldable pub total : List ℕ → ℕ
-total [] = 0
-total (n ∷ ns) = n + total ns
 
 -- an answer's OP has 16 bits
 abbrev pub is_sum_op : ℕ → ℤ → Bool
@@ -69,14 +60,12 @@ is_sum_op scans sum = le_z (pos 0) sum && le_z sum (pos (65535 * scans))
 
 unfoldable pub is_valid : SheetValues → Bool
 is_valid v =
-    leb v.scans 4294967295 && eqb (length v.modes) 8 && eqb (total v.modes) v.scans && leb v.alarms v.scans &&
+    leb v.scans 4294967295 && eqb (length v.modes) 8 && eqb (sum v.modes) v.scans && leb v.alarms v.scans &&
     are_extremes v.scans v.greatest v.least v.sumpv && is_sum_op v.scans v.sumop
 
 pub record Valid (s : Sheet) : Type 0 where
   pub tested : is_valid s.values ≡ true
 
--- what isn't valid is refused, and an empty sheet stands in its place
-unfoldable pub kept_sheet : SheetValues → KeptResult
-kept_sheet v =
-    if is_valid v then record { sheet = record { values = v }; validity = validity.Valid } else
-    record { sheet = empty_sheet; validity = validity.Invalid }
+-- what isn't valid is refused
+unfoldable pub kept_sheet : SheetValues → Option Sheet
+kept_sheet v = if is_valid v then Some (record { values = v }) else None

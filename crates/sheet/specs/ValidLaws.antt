@@ -1,8 +1,9 @@
 -- The tests of extremes and sum, read as laws; and extremes and sum after one more scan.
-use Rattle.std.specs.Prelude.{◌⊎◌, ◌≡◌, refl, Bool, true, false, not, ◌&&◌, ◌||◌, ℕ, zero, suc, ◌+◌, ◌≤◌, eqb, leb, ℤ, pos, neg_ℤ, ◌+ℤ◌}
+use Rattle.std.specs.Prelude.{Option, None, Some}
+use Rattle.std.specs.Prelude.{◌⊎◌, ◌≡◌, refl, Bool, true, false, not, ◌&&◌, ◌||◌, ℕ, zero, suc, ◌+◌, ◌≤◌, ◌<◌, eqb, leb, ℤ, pos, neg_ℤ, ◌+ℤ◌}
 use Rattle.std.specs.Prelude.{◌-ℤ◌, ◌*ℤ◌, ◌≤ℤ◌, if◌then◌else◌}
 use Rattle.std.proofs.Common.{inl, inr, ⊎_elim, sym, ap, subst, arith, leb-true, le-leb, eqb-true, eq-eqb, ne_eqb}
-use Rattle.std.specs.Int.Signed.{le_z, lt_z}
+use Rattle.std.specs.Int.Signed.{mag, le_z, lt_z}
 use Rattle.std.proofs.lemmas.Bool.{eqb-false}
 use Rattle.integers.specs.Choice.{both, never}
 use Rattle.integers.specs.Operations.{sum, difference, product}
@@ -10,12 +11,10 @@ use Rattle.integers.specs.Parts.{integers}
 use Rattle.sheet.specs.ExtremeLaws.{FirstScan, at_here, at_other, between, Order, different, equal, order_turned}
 use Rattle.sheet.specs.ExtremeLaws.{Bounded, Possible, within_both, beyond, turned}
 use Rattle.sheet.specs.Sheet.{extreme_after}
-use Rattle.sheet.specs.SumLaws.{reach, Held}
+use Rattle.sheet.specs.SumLaws.{reach, Held, held_by}
 use Rattle.sheet.specs.Valid.{is_occurrence, in_order, scans_before, sum_bound, is_possible, are_extremes}
 use Rattle.sheet.specs.declared.Bound.{Bound}
 use Rattle.sheet.specs.declared.Bound.TheVariants.{Greatest, Least}
-use Rattle.sheet.specs.declared.Extreme.{Extreme}
-use Rattle.sheet.specs.declared.Extreme.TheVariants.{None, First}
 use Rattle.sheet.specs.declared.Occurrence.{Occurrence}
 
 -- ---- the tests, read
@@ -57,13 +56,14 @@ is_not : (t : Bool) → not t ≡ true → t ≡ false
 is_not true e = never e
 is_not false e = refl
 
-pub occurrence_by : (scans : ℕ) (first : Occurrence) → Held first.pv →
-    leb 1 first.number && leb first.number scans ≡ is_occurrence scans first
+pub occurrence_by : (scans : ℕ) (first : Occurrence) → mag first.pv < 2147483648 →
+    is_occurrence scans first ≡ leb 1 first.number && leb first.number scans
 unfolding is_occurrence
-occurrence_by scans first h =
+occurrence_by scans first f =
+    let h = held_by first.pv f in
     let least : le_z (neg_ℤ (pos 2147483648)) first.pv ≡ true = omega (arith, integers, h.least) in
     let most : le_z first.pv (pos 2147483647) ≡ true = omega (arith, integers, h.most) in
-    rw (least, most) (sym (all_true (leb 1 first.number && leb first.number scans)))
+    rw (least, most) (all_true (leb 1 first.number && leb first.number scans))
   where
     all_true : (t : Bool) → t && true && true ≡ t
     all_true true = refl
@@ -123,18 +123,20 @@ order_is g l (equal e n m) =
 -- ---- extremes and sum
 
 -- extremes that are in order have bounds of the sum
-pub bounded_both : (scans : ℕ) (g l : Occurrence) → is_occurrence scans g && is_occurrence scans l && in_order g l ≡ true →
-    Bounded Greatest scans g l × Bounded Least scans l g
-bounded_both scans g l e =
-    let a = both (is_occurrence scans g && is_occurrence scans l) (in_order g l) e in
-    let b = both (is_occurrence scans g) (is_occurrence scans l) a.0 in
-    let n = numbered scans g b.0 in
-    let m = numbered scans l b.1 in
-    let o = order_of g l a.1 in
-    let turned-order = order_turned Greatest g l o in (
-      record { from = n.from; to = n.to; other_from = m.from; held = n.held; other_held = m.held; order = o },
-      record { from = m.from; to = m.to; other_from = n.from; held = m.held; other_held = n.held; order = turned-order },
-    )
+pub bounded_greatest : (scans : ℕ) (g l : Occurrence) → is_occurrence scans g ≡ true → is_occurrence scans l ≡ true →
+    in_order g l ≡ true → Bounded Greatest scans g l
+bounded_greatest scans g l e f order =
+    let n = numbered scans g e in
+    let m = numbered scans l f in
+    record { from = n.from; to = n.to; other_from = m.from; held = n.held; other_held = m.held; order = order_of g l order }
+
+pub bounded_least : (scans : ℕ) (g l : Occurrence) → is_occurrence scans g ≡ true → is_occurrence scans l ≡ true →
+    in_order g l ≡ true → Bounded Least scans l g
+bounded_least scans g l e f order =
+    let n = numbered scans g e in
+    let m = numbered scans l f in
+    let turned-order = order_turned Greatest g l (order_of g l order) in
+    record { from = m.from; to = m.to; other_from = n.from; held = m.held; other_held = n.held; order = turned-order }
 
 bound_is : (b : Bound) (more : ℕ) (here other : Occurrence) →
     sum_bound b (suc more) here other ≡ reach b here.pv other.pv more (scans_before here.number other.number)
@@ -232,10 +234,10 @@ no_scan g l s e =
     omega (arith, n.from, n.to)
 
 -- with so many scans, numbered as the latest
-abbrev pub Extended : Extreme → Extreme → ℤ → ℤ → ℕ → Type 0
+abbrev pub Extended : Option Occurrence → Option Occurrence → ℤ → ℤ → ℕ → Type 0
 Extended g l s x n = are_extremes n (extreme_after Greatest g x n) (extreme_after Least l x n) (s +ℤ x) ≡ true
 
-pub extremes_after : (scans : ℕ) (g l : Extreme) (s x : ℤ) → are_extremes scans g l s ≡ true → Held x → Extended g l s x (scans + 1)
+pub extremes_after : (scans : ℕ) (g l : Option Occurrence) (s x : ℤ) → are_extremes scans g l s ≡ true → Held x → Extended g l s x (scans + 1)
 extremes_after scans None None s x e h =
     let a = both (eqb scans 0 && le_z (pos 0) s) (le_z s (pos 0)) e in
     let b = both (eqb scans 0) (le_z (pos 0) s) a.0 in
@@ -243,10 +245,10 @@ extremes_after scans None None s x e h =
     let one : scans + 1 ≡ 1 = ap (λ (n : ℕ). n + 1) (eqb-true scans 0 b.0) in
     subst (Extended None None s x) (sym one)
     (subst (λ (z : ℤ). Extended None None z x 1) (sym nothing) (possible_is 0 _ _ (pos 0 +ℤ x) (first_possible x h)))
-extremes_after scans None (First l) s x e h = never e
-extremes_after scans (First g) None s x e h = never e
-extremes_after zero (First g) (First l) s x e h = absurd (no_scan g l s e)
-extremes_after (suc more) (First g) (First l) s x e h =
+extremes_after scans None (Some l) s x e h = never e
+extremes_after scans (Some g) None s x e h = never e
+extremes_after zero (Some g) (Some l) s x e h = absurd (no_scan g l s e)
+extremes_after (suc more) (Some g) (Some l) s x e h =
     let two : suc (suc more) ≡ suc more + 1 = omega arith in
-    subst (Extended (First g) (First l) s x) two
+    subst (Extended (Some g) (Some l) s x) two
     (possible_is (suc more) _ _ (s +ℤ x) (possible_after more g l s x (possible_of more g l s e) h))

@@ -9,6 +9,7 @@ ghost use Rattle.sheet.specs.Valid.{is_valid, Valid};
 
 use answers::ScanValues;
 use modes::Mode;
+use std::marker::Model;
 
 mod kept;
 mod values;
@@ -20,13 +21,6 @@ pub struct Occurrence {
     pub number: u32,
 }
 
-// "the greatest and least PV with the number of the scan where each came first (none on an empty sheet)"
-#[derive(Clone, Copy)]
-pub enum Extreme {
-    None,
-    First(Occurrence),
-}
-
 // Which of the two extremes.
 #[derive(Clone, Copy)]
 pub enum Bound {
@@ -34,14 +28,15 @@ pub enum Bound {
     Least,
 }
 
-// All that a sheet holds, for a host that keeps it: how many scans; how many in each mode, in the priority order; the
-// extremes of PV; how many with either alarm or both; the sums of PV and of OP.
+// All that a sheet holds, for a host that keeps it: how many scans; how many in each mode, in the priority order; "the
+// greatest and least PV with the number of the scan where each came first (none on an empty sheet)"; how many with
+// either alarm or both; the sums of PV and of OP.
 #[derive(Clone, Copy)]
 pub struct SheetValues {
     pub scans: u32,
     pub modes: [u32; 8],
-    pub greatest: Extreme,
-    pub least: Extreme,
+    pub greatest: Option<Occurrence>,
+    pub least: Option<Occurrence>,
     pub alarms: u32,
     pub sumpv: i64,
     pub sumop: i64,
@@ -53,17 +48,32 @@ pub struct Sheet {
     values: SheetValues,
 }
 
-#[derive(Clone, Copy)]
-pub enum Entry {
-    Taken,
-    Full,
+// A contract sees the values alone. They are always those that some list of answers gives, so every sheet can take the
+// next call.
+impl Model for Sheet {
+    ghost use Rattle.std.specs.Prelude.{◌≡◌, true};
+    ghost use Rattle.sheet.specs.Contents.{Contents};
+
+    ghost Value = { Contents };
+
+    ghost use Rattle.sheet.specs.Valid.{is_valid};
+
+    ghost view = { λ s. record { values = s.values } };
+
+    ghost invariant = { λ s. is_valid s.values ≡ true };
+
+    ghost inverse = { λ s. record { values = s.values } };
 }
+
+// "A sheet holds up to 4,294,967,295 scans; the next one leaves it as it was and says full."
+#[derive(Clone, Copy)]
+pub struct Full;
 
 // What entering an answer returns.
 #[derive(Clone, Copy)]
 pub struct EnterResult {
     pub sheet: Sheet,
-    pub entry: Entry,
+    pub entry: Result<(), Full>,
 }
 
 // "Means are handed out as a sum and a count, never divided."
@@ -73,36 +83,11 @@ pub struct Mean {
     pub count: u32,
 }
 
-#[derive(Clone, Copy)]
-pub enum Validity {
-    Valid,
-    Invalid,
-}
-
-// What a host gets for values that it kept: the sheet, or an empty one beside the refusal.
-#[derive(Clone, Copy)]
-pub struct KeptResult {
-    pub sheet: Sheet,
-    pub validity: Validity,
-}
-
-// "A sheet holds up to 4,294,967,295 scans"
-const MOST_SCANS: u32 = u32::MAX;
-
 // Where the count of a mode stands. The contract rules out two modes that are counted as one, and another order.
 fn place(mode: Mode) -> usize
     ensures { result ≡ place_of mode }
 {
-    match mode {
-        Mode::Hold => 0,
-        Mode::Track => 1,
-        Mode::Forced => 2,
-        Mode::Manual => 3,
-        Mode::Auto => 4,
-        Mode::Remote => 5,
-        Mode::Ratio => 6,
-        Mode::Fallback => 7,
-    }
+    mode as usize
 }
 
 // Whether a PV lies beyond another. The contract rules out an equal one.
@@ -116,18 +101,17 @@ fn is_beyond(bound: Bound, pv: i32, other: i32) -> bool
 }
 
 // An extreme after one more scan. The contract rules out that a later equal PV moves the number.
-fn extreme_after(bound: Bound, extreme: Extreme, pv: i32, number: u32) -> Extreme
+fn extreme_after(
+    bound: Bound,
+    extreme: Option<Occurrence>,
+    pv: i32,
+    number: u32,
+) -> Option<Occurrence>
     ensures { result ≡ extreme_after bound extreme pv number }
 {
     match extreme {
-        Extreme::None => Extreme::First(Occurrence { pv, number }),
-        Extreme::First(first) => {
-            if is_beyond(bound, pv, first.pv) {
-                Extreme::First(Occurrence { pv, number })
-            } else {
-                Extreme::First(first)
-            }
-        }
+        Some(first) if !is_beyond(bound, pv, first.pv) => extreme,
+        _ => Some(Occurrence { pv, number }),
     }
 }
 
@@ -135,9 +119,10 @@ fn extreme_after(bound: Bound, extreme: Extreme, pv: i32, number: u32) -> Extrem
 fn has_alarm(ds: u16) -> bool
     ensures { result ≡ has_alarm ds }
 {
-    !signals::bit(ds, 0) | !signals::bit(ds, 1)
+    !signals::bit(ds, 0) || !signals::bit(ds, 1)
 }
 
+#[tactic(auto, unfolding(crate::specs::Sheet::alarms_after))]
 fn alarms_after(alarms: u32, ds: u16) -> u32
     requires { alarms < 4294967295 }
     ensures { result ≡ alarms_after alarms ds }
@@ -152,27 +137,23 @@ impl SheetValues {
         ensures { (result ≡ taken self answer) × (is_valid result ≡ true) }
     {
         let number = self.scans + 1;
-        let pv = answer.pv;
-        let mode = answer.mode;
-        let k = place(mode);
         let mut modes = self.modes;
-        modes[k] += 1;
-        let greatest = self.greatest;
-        let least = self.least;
+        modes[place(answer.mode)] += 1;
         SheetValues {
             scans: number,
             modes,
-            greatest: extreme_after(Bound::Greatest, greatest, pv, number),
-            least: extreme_after(Bound::Least, least, pv, number),
+            greatest: extreme_after(Bound::Greatest, self.greatest, answer.pv, number),
+            least: extreme_after(Bound::Least, self.least, answer.pv, number),
             alarms: alarms_after(self.alarms, answer.ds),
-            sumpv: integers::sum(self.sumpv, integers::wide(pv)),
-            sumop: integers::sum(self.sumop, answer.op as i64),
+            sumpv: self.sumpv + answer.pv as i64,
+            sumop: self.sumop + answer.op as i64,
         }
     }
 }
 
 impl Sheet {
     // A sheet that no answer was entered in.
+    #[tactic(auto, unfolding(crate::specs::Sheet::empty_sheet), using(crate::specs::EnteredLaws::empty_valid))]
     pub fn empty() -> Sheet
         ensures { (result ≡ empty_sheet) × Valid result }
     {
@@ -180,8 +161,8 @@ impl Sheet {
             values: SheetValues {
                 scans: 0,
                 modes: [0; 8],
-                greatest: Extreme::None,
-                least: Extreme::None,
+                greatest: None,
+                least: None,
                 alarms: 0,
                 sumpv: 0,
                 sumop: 0,
@@ -192,22 +173,21 @@ impl Sheet {
     // Enters the answer of one accepted scan: the next sheet, and whether it was taken. The contract gives the whole
     // sheet, so it rules out a full sheet of which anything moves, and another value of the answer that is summed; and
     // a sheet that the next call could not take.
+    #[tactic(auto, unfolding(crate::specs::Sheet::entered))]
     pub fn enter(self, answer: ScanValues) -> EnterResult
-        requires { Valid self }
         ensures { (result ≡ entered self answer) × Valid result.sheet }
     {
-        let values = self.values;
-        if values.scans < MOST_SCANS {
+        if self.values.scans < u32::MAX {
             return EnterResult {
                 sheet: Sheet {
-                    values: values.with(answer),
+                    values: self.values.with(answer),
                 },
-                entry: Entry::Taken,
+                entry: Ok(()),
             };
         }
         EnterResult {
             sheet: self,
-            entry: Entry::Full,
+            entry: Err(Full),
         }
     }
 }

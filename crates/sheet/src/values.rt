@@ -2,7 +2,7 @@
 ghost use Rattle.std.specs.Prelude.{◌≡◌};
 ghost use Rattle.sheet.specs.Sheet.{scans_in};
 
-use crate::{Extreme, Mean, Sheet, SheetValues};
+use crate::{Mean, Occurrence, Sheet, SheetValues};
 use modes::Mode;
 
 impl Sheet {
@@ -16,71 +16,61 @@ impl Sheet {
     pub fn scans(self) -> u32
         ensures { result ≡ self.values.scans }
     {
-        let values = self.values;
-        values.scans
+        self.values.scans
     }
 
+    #[tactic(auto, unfolding(crate::specs::Sheet::scans_in))]
     pub fn scans_in(self, mode: Mode) -> u32
         ensures { result ≡ scans_in self.values mode }
     {
-        let values = self.values;
-        let modes = values.modes;
-        let k = crate::place(mode);
-        modes[k]
+        self.values.modes[crate::place(mode)]
     }
 
-    pub fn greatest(self) -> Extreme
+    pub fn greatest(self) -> Option<Occurrence>
         ensures { result ≡ self.values.greatest }
     {
-        let values = self.values;
-        values.greatest
+        self.values.greatest
     }
 
-    pub fn least(self) -> Extreme
+    pub fn least(self) -> Option<Occurrence>
         ensures { result ≡ self.values.least }
     {
-        let values = self.values;
-        values.least
+        self.values.least
     }
 
     pub fn scans_with_alarm(self) -> u32
         ensures { result ≡ self.values.alarms }
     {
-        let values = self.values;
-        values.alarms
+        self.values.alarms
     }
 
     pub fn sum_pv(self) -> i64
         ensures { result ≡ self.values.sumpv }
     {
-        let values = self.values;
-        values.sumpv
+        self.values.sumpv
     }
 
     pub fn sum_op(self) -> i64
         ensures { result ≡ self.values.sumop }
     {
-        let values = self.values;
-        values.sumop
+        self.values.sumop
     }
 
     pub fn mean_pv(self) -> Mean
         ensures { result ≡ record { sum = self.values.sumpv; count = self.values.scans } }
     {
-        let values = self.values;
         Mean {
-            sum: values.sumpv,
-            count: values.scans,
+            sum: self.values.sumpv,
+            count: self.values.scans,
         }
     }
 
     pub fn mean_op(self) -> Mean
         ensures { result ≡ record { sum = self.values.sumop; count = self.values.scans } }
     {
-        let values = self.values;
         Mean {
-            sum: values.sumop,
-            count: values.scans,
+            sum: self.values.sumop,
+            count: self.values.scans,
         }
     }
 }

@@ -1,4 +1,5 @@
 -- Kept values are taken exactly if some list of answers gives them.
+use Rattle.std.specs.Prelude.{Option, None, Some}
 use mathlib.Core.Path.{◌≡◌, refl, sym, ap, subst, ◌∙◌}
 use mathlib.Core.Bool.{Bool, true, false, ◌&&◌}
 use Prim.Native.Nat.{ℕ, zero, suc, ◌+◌, ◌≤◌}
@@ -20,13 +21,9 @@ use Rattle.sheet.specs.TotalLaws.{count_most}
 use Rattle.sheet.specs.ValidLaws.{possible_of, no_scan}
 use Rattle.sheet.specs.declared.Bound.{Bound}
 use Rattle.sheet.specs.declared.Bound.TheVariants.{Greatest, Least}
-use Rattle.sheet.specs.declared.Extreme.{Extreme}
-use Rattle.sheet.specs.declared.Extreme.TheVariants.{None, First}
 use Rattle.sheet.specs.declared.Occurrence.{Occurrence}
 use Rattle.sheet.specs.declared.SheetValues.{SheetValues}
-use Rattle.sheet.specs.declared.KeptResult.{KeptResult}
-use Rattle.sheet.specs.declared.Validity.{Validity}
-use Rattle.sheet.specs.declared.Validity.TheVariants.{Valid, Invalid}
+use Rattle.sheet.specs.declared.Sheet.{Sheet}
 use Rattle.sheet_guarantee.specs.Claim.{Possible, KeptExactly}
 use Rattle.sheet_guarantee.specs.Meaning.{Answers, none, ◌then◌, many, Numbered, latest, earlier, rank}
 use Rattle.sheet_guarantee.specs.Meaning.{NotBeyond, IsFirst, IsExtreme, of_none, of_some}
@@ -109,7 +106,7 @@ module _ (v : SheetValues) (p : Parts v) where
   op = nat_abs v.sumop
 
   -- a sheet with scans
-  filled : (more : ℕ) (g l : Occurrence) → v.scans ≡ suc more → v.greatest ≡ First g → v.least ≡ First l →
+  filled : (more : ℕ) (g l : Occurrence) → v.scans ≡ suc more → v.greatest ≡ Some g → v.least ≡ Some l →
       laws.Possible Greatest more g l v.sumpv → Possible v
   unfolding op
   filled more g l k d e q =
@@ -158,16 +155,16 @@ module _ (v : SheetValues) (p : Parts v) where
         };
       }
 
-  by_extremes : (scans : ℕ) (g l : Extreme) (s : ℤ) → v.scans ≡ scans → v.greatest ≡ g → v.least ≡ l → v.sumpv ≡ s →
+  by_extremes : (scans : ℕ) (g l : Option Occurrence) (s : ℤ) → v.scans ≡ scans → v.greatest ≡ g → v.least ≡ l → v.sumpv ≡ s →
       are_extremes scans g l s ≡ true → Possible v
   by_extremes scans None None s k d e q t =
       let a = both (eqb scans 0 && le_z (pos 0) s) (le_z s (pos 0)) t in
       let b = both (eqb scans 0) (le_z (pos 0) s) a.0 in
       empty (k ∙ eqb-true scans 0 b.0) d e (q ∙ omega (arith, integers, a.1, b.1))
-  by_extremes scans None (First l) s k d e q t = never t
-  by_extremes scans (First g) None s k d e q t = never t
-  by_extremes zero (First g) (First l) s k d e q t = absurd (no_scan g l s t)
-  by_extremes (suc more) (First g) (First l) s k d e q t =
+  by_extremes scans None (Some l) s k d e q t = never t
+  by_extremes scans (Some g) None s k d e q t = never t
+  by_extremes zero (Some g) (Some l) s k d e q t = absurd (no_scan g l s t)
+  by_extremes (suc more) (Some g) (Some l) s k d e q t =
       filled more g l k d e (subst (laws.Possible Greatest more g l) (sym q) (possible_of more g l s t))
 
   pub some_answers : Possible v
@@ -175,21 +172,15 @@ module _ (v : SheetValues) (p : Parts v) where
 
 -- ---- over the contract
 
-differs : Invalid ≡ Valid → ⊥
-differs e = let z : ◌≡◌ {A = Bool} false true = ap is_valid_lem e in never z
-  where
-    is_valid_lem : Validity → Bool
-    is_valid_lem Valid = true
-    is_valid_lem Invalid = false
-
-abbrev Exactly : SheetValues → KeptResult → Type 0
-Exactly v r = (r.validity ≡ Valid → Possible v × (r.sheet.values ≡ v)) × (Possible v → r.validity ≡ Valid)
+abbrev Exactly : SheetValues → Option Sheet → Type 0
+Exactly v r = ((s : Sheet) → r ≡ Some s → Possible v × (s.values ≡ v)) × (Possible v → r ≡ Some (record { values = v }))
 
 exactly : (v : SheetValues) → Exactly v (kept_sheet v)
 unfolding kept_sheet
 exactly v =
-    by_cases (Exactly v) (is_valid v) _ _ (λ e. (λ q. (some_answers v (parts v e), refl), λ p. refl))
-    (λ e. (λ q. absurd (differs q), λ p. never (sym e ∙ possible_valid v p)))
+    by_cases (Exactly v) (is_valid v) _ _
+    (λ e. (λ s q. let same : record { values = v } ≡ s = cc in (some_answers v (parts v e), ap (λ (s : Sheet). s.values) (sym same)), λ p. refl))
+    (λ e. (λ s q. cc, λ p. never (sym e ∙ possible_valid v p)))
 
 pub kept_exactly : KeptExactly
 kept_exactly v r e = subst (Exactly v) (sym e.0) (exactly v)

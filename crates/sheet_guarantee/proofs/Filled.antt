@@ -1,5 +1,6 @@
 -- Answers that give the values of a valid sheet: one after another, each as far from the end as the sums allow.
-use Rattle.std.specs.Prelude.{if◌then◌else◌}
+use Rattle.std.specs.Prelude.{if◌then◌else◌, sum as total}
+use Rattle.std.proofs.lemmas.List.Sums.{sum_by-cons, sum_by-set}
 use mathlib.Core.Path.{◌≡◌, refl, sym, ap, subst, ◌∙◌}
 use mathlib.Core.Bool.{Bool, true, false, not, ◌&&◌}
 use mathlib.Core.List.{List, [], ◌∷◌}
@@ -19,7 +20,6 @@ use Rattle.modes.specs.declared.Mode.{Mode}
 use Rattle.answers.specs.declared.ScanValues.{ScanValues}
 use Rattle.sheet.specs.ExtremeLaws.{Order, order_turned}
 use Rattle.sheet.specs.SumLaws.{Held}
-use Rattle.sheet.specs.Valid.{total}
 use Rattle.sheet.specs.TotalLaws.{count_most}
 use Rattle.sheet.specs.declared.Bound.TheVariants.{Greatest, Least}
 use Rattle.sheet.specs.declared.Occurrence.{Occurrence}
@@ -39,17 +39,13 @@ record Some (ns : List ℕ) : Type 0 where
   counts : 1 ≤ get_or ns place 0
 
 some_count : (ns : List ℕ) (k : ℕ) → total ns ≡ suc k → Some ns
-unfolding total
 some_count [] k e = absurd (omega arith)
 some_count (zero ∷ ns) k e =
-    let s = some_count ns k (omega arith) in record { place = suc s.place; inside = omega (arith, s.inside); counts = s.counts }
+    let s = some_count ns k (omega (arith, sum_by-cons (λ n. n) zero ns)) in record { place = suc s.place; inside = omega (arith, s.inside); counts = s.counts }
 some_count (suc n ∷ ns) k e = record { place = 0; inside = omega arith; counts = omega arith }
 
 one_fewer : (ns : List ℕ) (k : ℕ) → k < length ns → 1 ≤ get_or ns k 0 → total (set ns k (get_or ns k 0 - 1)) + 1 ≡ total ns
-unfolding total
-one_fewer [] k h some = absurd (omega arith)
-one_fewer (n ∷ ns) zero h some = omega arith
-one_fewer (n ∷ ns) (suc k) h some = let e = one_fewer ns k (omega arith) some in omega arith
+one_fewer ns k h some = omega (arith, sum_by-set (λ n. n) ns k (get_or ns k 0 - 1) 0 h)
 
 -- ---- a PV that leaves the others room
 

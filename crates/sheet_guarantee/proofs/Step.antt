@@ -1,5 +1,5 @@
 -- One more answer taken: the sheet holds what the longer list gives.
-use Rattle.std.specs.Prelude.{if◌then◌else◌}
+use Rattle.std.specs.Prelude.{Option, None, Some, if◌then◌else◌}
 use mathlib.Core.Path.{◌≡◌, refl, sym, ap, subst, ◌∙◌}
 use mathlib.Core.Bool.{Bool, true, false, not, ◌&&◌, ◌||◌}
 use mathlib.Core.List.{List, [], ◌∷◌}
@@ -20,8 +20,6 @@ use Rattle.sheet.specs.Sheet.{place_of, counted, is_beyond, extreme_after, has_a
 use Rattle.sheet.specs.TotalLaws.{place_few}
 use Rattle.sheet.specs.declared.Bound.{Bound}
 use Rattle.sheet.specs.declared.Bound.TheVariants.{Greatest, Least}
-use Rattle.sheet.specs.declared.Extreme.{Extreme}
-use Rattle.sheet.specs.declared.Extreme.TheVariants.{None, First}
 use Rattle.sheet.specs.declared.Occurrence.{Occurrence}
 use Rattle.sheet.specs.declared.SheetValues.{SheetValues}
 use Rattle.sheet_guarantee.specs.Meaning.{Answers, none, ◌then◌, many, Numbered, latest, earlier, rank, is_alarmed}
@@ -131,12 +129,12 @@ module _ (b : Bound) (xs : Answers) (a : ScanValues) where
       (λ n x h. differs b x.pv a.pv o.pv (f.not_beyond n x h) e))
       (λ e. stays_first o f (stays_within b a.pv o.pv e))
 
-extreme_after_lem : (b : Bound) (xs : Answers) (a : ScanValues) (e : Extreme) → IsExtreme b xs e →
+extreme_after_lem : (b : Bound) (xs : Answers) (a : ScanValues) (e : Option Occurrence) → IsExtreme b xs e →
     IsExtreme b (xs then a) (extreme_after b e a.pv (many xs + 1))
 unfolding newest
 extreme_after_lem b none a None of_none =
     of_some (comes_first b none a (λ n x h. never_numbered h) (λ n x h. never_numbered h))
-extreme_after_lem b xs a (First o) (of_some f) = of_some (first_after b xs a o f)
+extreme_after_lem b xs a (Some o) (of_some f) = of_some (first_after b xs a o f)
 extreme_after_lem b (_ then _) a None x = elim x [ ]
 
 -- ---- the whole sheet
@@ -181,6 +179,6 @@ taken_gives xs v a g =
       sum_op_is = ap (λ (z : ℤ). z +ℤ pos a.op) g.sum_op_is;
     }
   where
-    extreme : (b : Bound) (e : Extreme) → IsExtreme b xs e → IsExtreme b (xs then a) (extreme_after b e a.pv (v.scans + 1))
+    extreme : (b : Bound) (e : Option Occurrence) → IsExtreme b xs e → IsExtreme b (xs then a) (extreme_after b e a.pv (v.scans + 1))
     extreme b e h =
         subst (λ (n : ℕ). IsExtreme b (xs then a) (extreme_after b e a.pv (n + 1))) (sym g.scans) (extreme_after_lem b xs a e h)

@@ -1,4 +1,5 @@
 -- A list of answers gives the values of one sheet only, and these are valid.
+use Rattle.std.specs.Prelude.{Option, None, Some}
 use mathlib.Core.Path.{◌≡◌, refl, sym, ap, subst, ◌∙◌}
 use mathlib.Core.Bool.{true}
 use mathlib.Core.List.{List, [], ◌∷◌}
@@ -16,8 +17,6 @@ use Rattle.sheet.specs.Valid.{is_valid}
 use Rattle.sheet.specs.SumLaws.{Held}
 use Rattle.sheet.specs.declared.Bound.{Bound}
 use Rattle.sheet.specs.declared.Bound.TheVariants.{Greatest, Least}
-use Rattle.sheet.specs.declared.Extreme.{Extreme}
-use Rattle.sheet.specs.declared.Extreme.TheVariants.{None, First}
 use Rattle.sheet.specs.declared.Occurrence.{Occurrence}
 use Rattle.sheet.specs.declared.SheetValues.{SheetValues}
 use Rattle.sheet_guarantee.specs.Claim.{InTypes, AllInTypes, Possible}
@@ -78,13 +77,13 @@ same_first b xs o p f g =
     same : (o p : Occurrence) → o.pv ≡ p.pv → o.number ≡ p.number → o ≡ p
     same o p e d = ap (λ (z : ℤ). record { pv = z; number = o.number }) e ∙ ap (λ (n : ℕ). record { pv = p.pv; number = n }) d
 
-same_extreme : (b : Bound) (xs : Answers) (d e : Extreme) → IsExtreme b xs d → IsExtreme b xs e → d ≡ e
+same_extreme : (b : Bound) (xs : Answers) (d e : Option Occurrence) → IsExtreme b xs d → IsExtreme b xs e → d ≡ e
 same_extreme b none None None of_none of_none = refl
-same_extreme b none None (First p) of_none (of_some g) = never_numbered g.stands
-same_extreme b none (First o) None (of_some f) of_none = never_numbered f.stands
-same_extreme b xs (First o) (First p) (of_some f) (of_some g) = ap First (same_first b xs o p f g)
+same_extreme b none None (Some p) of_none (of_some g) = never_numbered g.stands
+same_extreme b none (Some o) None (of_some f) of_none = never_numbered f.stands
+same_extreme b xs (Some o) (Some p) (of_some f) (of_some g) = ap Some (same_first b xs o p f g)
 same_extreme b (_ then _) None e x _ = elim x [ ]
-same_extreme b (_ then _) (First o) None _ x = elim x [ ]
+same_extreme b (_ then _) (Some o) None _ x = elim x [ ]
 
 -- ---- the whole
 

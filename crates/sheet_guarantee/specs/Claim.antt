@@ -1,16 +1,14 @@
 -- Document 02, request 1: what is promised of a sheet over every list of answers, by what it hands out.
+use Rattle.std.specs.Prelude.{Option, Some, Ok, Err}
 use Rattle.std.specs.Prelude.{◌≡◌, List, [], ◌∷◌, ℕ, ◌≤◌, eqb, ℤ, pos, neg_ℤ, ◌≤ℤ◌, if◌then◌else◌}
 use Rattle.modes.specs.declared.Mode.{Mode}
 use Rattle.answers.specs.declared.ScanValues.{ScanValues}
+use Rattle.sheet.specs.Sheet.{Entry}
 use Rattle.sheet.specs.declared.Bound.TheVariants.{Greatest, Least}
 use Rattle.sheet.specs.declared.EnterResult.{EnterResult}
-use Rattle.sheet.specs.declared.Entry.{Entry}
-use Rattle.sheet.specs.declared.Entry.TheVariants.{Taken, Full}
-use Rattle.sheet.specs.declared.Extreme.{Extreme}
+use Rattle.sheet.specs.declared.Occurrence.{Occurrence}
 use Rattle.sheet.specs.declared.Sheet.{Sheet}
 use Rattle.sheet.specs.declared.SheetValues.{SheetValues}
-use Rattle.sheet.specs.declared.KeptResult.{KeptResult}
-use Rattle.sheet.specs.declared.Validity.TheVariants.{Valid}
 use Rattle.sheet.specs.declared.Mean.{Mean}
 use Rattle.sheet_guarantee.specs.Linked as linked
 use Rattle.sheet_guarantee.specs.Linked.{Linked, taken_of}
@@ -21,14 +19,14 @@ use Rattle.sheet_guarantee.specs.Meaning.{Answers, none, ◌then◌, many, how_m
 pub data FullExactly : Answers → List Entry → Type 0 where
   no_entry : FullExactly none []
   and_entry : {xs : Answers} {es : List Entry} {a : ScanValues} {e : Entry} → FullExactly xs es →
-      e ≡ (if eqb (many (taken_of xs es)) 4294967295 then Full else Taken) → FullExactly (xs then a) (e ∷ es)
+      e ≡ (if eqb (many (taken_of xs es)) 4294967295 then Err (record {}) else Ok tt) → FullExactly (xs then a) (e ∷ es)
 
 -- of a sheet in which these answers were entered
 pub record Results (xs : Answers) (s : Sheet) : Type 0 where
   pub scans : (r : ℕ) → linked.ScansEnsures s r → r ≡ many xs
   pub in_mode_lem : (m : Mode) (r : ℕ) → linked.ScansInEnsures s m r → r ≡ how_many (is_in m) xs
-  pub greatest : (r : Extreme) → linked.GreatestEnsures s r → IsExtreme Greatest xs r
-  pub least : (r : Extreme) → linked.LeastEnsures s r → IsExtreme Least xs r
+  pub greatest : (r : Option Occurrence) → linked.GreatestEnsures s r → IsExtreme Greatest xs r
+  pub least : (r : Option Occurrence) → linked.LeastEnsures s r → IsExtreme Least xs r
   pub with_alarm : (r : ℕ) → linked.AlarmEnsures s r → r ≡ how_many is_alarmed xs
   pub sum_pv_is : (r : ℤ) → linked.SumPVEnsures s r → r ≡ sum_pv xs
   pub sum_op_is : (r : ℤ) → linked.SumOPEnsures s r → r ≡ pos (sum_op xs)
@@ -44,11 +42,10 @@ pub record SheetClaim (xs : Answers) (es : List Entry) (s : Sheet) : Type 0 wher
   pub full_exactly : FullExactly xs es
   pub taken_most : many (taken_of xs es) ≤ 4294967295
   -- values that were kept of it give the same sheet again
-  pub kept_again : (v : SheetValues) (r : KeptResult) → linked.ValuesEnsures s v → linked.KeptEnsures v r →
-      r ≡ record { sheet = s; validity = Valid }
+  pub kept_again : (v : SheetValues) (r : Option Sheet) → linked.ValuesEnsures s v → linked.KeptEnsures v r → r ≡ Some s
   -- "the next one leaves it as it was"
-  pub full_stays : (a : ScanValues) (r : EnterResult) → linked.EnterEnsures s a r → r.entry ≡ Full → r.sheet ≡ s
-  -- and no `requires` shuts a call out
+  pub full_stays : (a : ScanValues) (r : EnterResult) → linked.EnterEnsures s a r → r.entry ≡ Err (record {}) → r.sheet ≡ s
+  -- and neither the type nor a `requires` shuts a call out
   pub ready : linked.Ready s
 
 -- after every list of answers
@@ -86,5 +83,5 @@ pub record Possible (v : SheetValues) : Type 0 where
 
 abbrev pub KeptExactly : Type 0
 KeptExactly =
-    (v : SheetValues) (r : KeptResult) → linked.KeptEnsures v r →
-    (r.validity ≡ Valid → Possible v × (r.sheet.values ≡ v)) × (Possible v → r.validity ≡ Valid)
+    (v : SheetValues) (r : Option Sheet) → linked.KeptEnsures v r →
+    ((s : Sheet) → r ≡ Some s → Possible v × (s.values ≡ v)) × (Possible v → r ≡ Some (record { values = v }))

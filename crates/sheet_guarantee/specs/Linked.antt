@@ -1,16 +1,14 @@
 -- What the calls of a sheet return, by the contracts of the code itself: an empty sheet, each later answer entered in
 -- the sheet that was returned.
-use Rattle.std.specs.Prelude.{◌≡◌, List, [], ◌∷◌, ℕ, ℤ}
+use Rattle.std.specs.Prelude.{List, [], ◌∷◌, ℕ, ℤ, Option, Some, Ok, Err}
 use Rattle.modes.specs.declared.Mode.{Mode}
 use Rattle.answers.specs.declared.ScanValues.{ScanValues}
+use Rattle.sheet.specs.Sheet.{Entry}
+use Rattle.sheet.specs.Valid.{Valid}
 use Rattle.sheet.specs.declared.EnterResult.{EnterResult}
-use Rattle.sheet.specs.declared.Entry.{Entry}
-use Rattle.sheet.specs.declared.Entry.TheVariants.{Taken, Full}
-use Rattle.sheet.specs.declared.Extreme.{Extreme}
+use Rattle.sheet.specs.declared.Occurrence.{Occurrence}
 use Rattle.sheet.specs.declared.Sheet.{Sheet}
 use Rattle.sheet.specs.declared.SheetValues.{SheetValues}
-use Rattle.sheet.specs.declared.KeptResult.{KeptResult}
-use Rattle.sheet.specs.declared.Validity.TheVariants.{Invalid}
 use Rattle.sheet.specs.declared.Mean.{Mean}
 use Rattle.sheet.proofs.Sheet.empty.Reads as empty-reads
 use Rattle.sheet.proofs.Sheet.enter.Reads as enter-reads
@@ -34,7 +32,7 @@ EmptyEnsures r = empty-reads.Post tt tt r tt
 abbrev pub EnterEnsures : Sheet → ScanValues → EnterResult → Type 0
 EnterEnsures s a r = enter-reads.Post tt (s, (a, tt)) r (s, (a, tt))
 
-abbrev pub KeptEnsures : SheetValues → KeptResult → Type 0
+abbrev pub KeptEnsures : SheetValues → Option Sheet → Type 0
 KeptEnsures v r = kept-reads.Post tt (v, tt) r (v, tt)
 
 abbrev pub ValuesEnsures : Sheet → SheetValues → Type 0
@@ -46,10 +44,10 @@ ScansEnsures s r = scans-reads.Post tt (s, tt) r (s, tt)
 abbrev pub ScansInEnsures : Sheet → Mode → ℕ → Type 0
 ScansInEnsures s m r = scans-in-reads.Post tt (s, (m, tt)) r (s, (m, tt))
 
-abbrev pub GreatestEnsures : Sheet → Extreme → Type 0
+abbrev pub GreatestEnsures : Sheet → Option Occurrence → Type 0
 GreatestEnsures s r = greatest-reads.Post tt (s, tt) r (s, tt)
 
-abbrev pub LeastEnsures : Sheet → Extreme → Type 0
+abbrev pub LeastEnsures : Sheet → Option Occurrence → Type 0
 LeastEnsures s r = least-reads.Post tt (s, tt) r (s, tt)
 
 abbrev pub AlarmEnsures : Sheet → ℕ → Type 0
@@ -73,21 +71,21 @@ pub data Linked : Answers → List Entry → Sheet → Type 0 where
   entered : {xs : Answers} {es : List Entry} {s : Sheet} (a : ScanValues) (r : EnterResult) →
       Linked xs es s → EnterEnsures s a r → Linked (xs then a) (r.entry ∷ es) r.sheet
   -- kept by the host over a power cut, say, and taken back
-  kept : {xs : Answers} {es : List Entry} {s : Sheet} (v : SheetValues) (r : KeptResult) →
-      Linked xs es s → ValuesEnsures s v → KeptEnsures v r → Linked xs es r.sheet
-  -- values that were refused give a sheet that no answer was entered in
-  refused : (v : SheetValues) (r : KeptResult) → KeptEnsures v r → r.validity ≡ Invalid → Linked none [] r.sheet
+  kept : {xs : Answers} {es : List Entry} {s : Sheet} (v : SheetValues) (r : Sheet) →
+      Linked xs es s → ValuesEnsures s v → KeptEnsures v (Some r) → Linked xs es r
 
 -- the answers that were taken
 abbrev pub taken_of : Answers → List Entry → Answers
 taken_of none [] = none
 taken_of none (e ∷ es) = none
 taken_of (xs then a) [] = none
-taken_of (xs then a) (Taken ∷ es) = taken_of xs es then a
-taken_of (xs then a) (Full ∷ es) = taken_of xs es
+taken_of (xs then a) (Ok taken ∷ es) = taken_of xs es then a
+taken_of (xs then a) (Err full ∷ es) = taken_of xs es
 
--- the `requires` of every call holds at this sheet, whatever the arguments: no call is shut out
+-- what the type of a sheet asks holds of this one, and so does the `requires` of every call, whatever the arguments: no
+-- call is shut out
 pub record Ready (s : Sheet) : Type 0 where
+  pub valid : Valid s
   pub empty_ready : empty-reads.Pre tt tt
   pub enter_ready : (a : ScanValues) → enter-reads.Pre tt (s, (a, tt))
   pub kept_ready : (v : SheetValues) → kept-reads.Pre tt (v, tt)

@@ -1,5 +1,6 @@
 -- Document 02, request 1: what a list of answers gives, told of the list alone, apart from the step by which a sheet
 -- gets there. Shared with the step are the types, and the bits of a word.
+use Rattle.std.specs.Prelude.{Option, None, Some}
 use Rattle.std.specs.Prelude.{◌≡◌, Bool, not, ◌&&◌, ℕ, ◌+◌, ◌≤◌, eqb, ℤ, pos, ◌+ℤ◌, length, get_or, ◌≤ℤ◌, if◌then◌else◌}
 use Rattle.signals.specs.Bits.{bit}
 use Rattle.modes.specs.declared.Mode.{Mode}
@@ -7,8 +8,6 @@ use Rattle.modes.specs.declared.Mode.TheVariants.{Hold, Track, Forced, Manual, A
 use Rattle.answers.specs.declared.ScanValues.{ScanValues}
 use Rattle.sheet.specs.declared.Bound.{Bound}
 use Rattle.sheet.specs.declared.Bound.TheVariants.{Greatest, Least}
-use Rattle.sheet.specs.declared.Extreme.{Extreme}
-use Rattle.sheet.specs.declared.Extreme.TheVariants.{None, First}
 use Rattle.sheet.specs.declared.Occurrence.{Occurrence}
 use Rattle.sheet.specs.declared.SheetValues.{SheetValues}
 
@@ -75,9 +74,9 @@ pub record IsFirst (b : Bound) (xs : Answers) (first : Occurrence) : Type 0 wher
   pub not_before : (n : ℕ) (a : ScanValues) → Numbered xs n a → a.pv ≡ first.pv → first.number ≤ n
 
 -- "(none on an empty sheet)"
-pub data IsExtreme (b : Bound) : Answers → Extreme → Type 0 where
+pub data IsExtreme (b : Bound) : Answers → Option Occurrence → Type 0 where
   of_none : IsExtreme b none None
-  of_some : {xs : Answers} {first : Occurrence} → IsFirst b xs first → IsExtreme b xs (First first)
+  of_some : {xs : Answers} {first : Occurrence} → IsFirst b xs first → IsExtreme b xs (Some first)
 
 -- "all it holds equals what the list of answers taken gives"
 pub record Gives (xs : Answers) (v : SheetValues) : Type 0 where

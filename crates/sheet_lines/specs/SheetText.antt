@@ -1,10 +1,8 @@
 -- The text of a sheet in a line.
-use Rattle.std.specs.Prelude.{List, [], ◌∷◌, ◌++◌, ◌≡◌, refl, ℕ, ℤ, pos, negsuc}
+use Rattle.std.specs.Prelude.{List, [], ◌∷◌, ◌++◌, ◌≡◌, refl, ℕ, ℤ, pos, negsuc, Option, None, Some}
 use Rattle.modes.specs.declared.Mode.{Mode}
 use Rattle.modes.specs.declared.Mode.TheVariants.{Hold, Track, Forced, Manual, Auto, Remote, Ratio, Fallback}
 use Rattle.sheet.specs.Sheet.{scans_in}
-use Rattle.sheet.specs.declared.Extreme.{Extreme}
-use Rattle.sheet.specs.declared.Extreme.TheVariants.{None, First}
 use Rattle.sheet.specs.declared.Occurrence.{Occurrence}
 use Rattle.sheet.specs.declared.SheetValues.{SheetValues}
 use Rattle.numerals.specs.Numerals.{digit_byte, last_digits, places_within, places, digits, decimal}
@@ -36,9 +34,9 @@ counts_text v =
 unfoldable pub occurrence_text : Occurrence → List ℕ
 occurrence_text first = decimal first.pv ++ ascii "@" ++ digits first.number
 
-unfoldable pub extreme_text : List ℕ → Extreme → List ℕ
+unfoldable pub extreme_text : List ℕ → Option Occurrence → List ℕ
 extreme_text name None = named name ++ ascii "none"
-extreme_text name (First first) = named name ++ occurrence_text first
+extreme_text name (Some first) = named name ++ occurrence_text first
 
 unfoldable pub extremes_text : SheetValues → List ℕ
 extremes_text v = extreme_text (ascii "max") v.greatest ++ extreme_text (ascii "min") v.least
@@ -55,8 +53,8 @@ sheet_example :
     sheet_text (record {
       scans = 3;
       modes = 0 ∷ 0 ∷ 0 ∷ 2 ∷ 0 ∷ 0 ∷ 0 ∷ 1 ∷ [];
-      greatest = First (record { pv = pos 5; number = 1 });
-      least = First (record { pv = negsuc 19; number = 2 });
+      greatest = Some (record { pv = pos 5; number = 1 });
+      least = Some (record { pv = negsuc 19; number = 2 });
       alarms = 1;
       sumpv = negsuc 9;
       sumop = pos 700;

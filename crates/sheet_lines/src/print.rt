@@ -6,7 +6,7 @@ ghost use Rattle.sheet_lines.specs.SheetText.{named, number_text, sum_text, occu
 ghost use Rattle.sheet_lines.specs.SheetText.{count_text, counts_text, sheet_text};
 
 use modes::Mode;
-use sheet::{Extreme, Occurrence, Sheet};
+use sheet::{Occurrence, Sheet};
 
 // A blank, a name and an equals sign.
 fn append_name(out: &mut [u8], used: usize, name: &[u8]) -> usize
@@ -40,20 +40,20 @@ fn append_sum(out: &mut [u8], used: usize, name: &[u8], sum: i64) -> usize
 fn append_occurrence(out: &mut [u8], used: usize, first: Occurrence) -> usize
     ensures { TextAppended out.old out.new used result (occurrence_text first) 22 }
 {
-    let pv = formatting::append_signed(out, used, integers::wide(first.pv));
+    let pv = formatting::append_signed(out, used, i64::from(first.pv));
     let at = formatting::append_byte(out, pv, b'@');
     formatting::append_decimal(out, at, first.number as u64)
 }
 
 // The greatest or the least PV, with its name.
-fn append_extreme(out: &mut [u8], used: usize, name: &[u8], extreme: Extreme) -> usize
+fn append_extreme(out: &mut [u8], used: usize, name: &[u8], extreme: Option<Occurrence>) -> usize
     ensures { TextAppended out.old out.new used result (extreme_text name.now extreme)
         (length name.now + 24) }
 {
     let end = append_name(out, used, name);
     match extreme {
-        Extreme::None => formatting::append_bytes(out, end, b"none"),
-        Extreme::First(first) => append_occurrence(out, end, first),
+        None => formatting::append_bytes(out, end, b"none"),
+        Some(first) => append_occurrence(out, end, first),
     }
 }
 

@@ -1,15 +1,11 @@
 -- What a run of the console holds for the drying sheet, and what each command of the sheet does to it.
-use Rattle.std.specs.Prelude.{ℕ, ℤ, if◌then◌else◌}
+use Rattle.std.specs.Option.{option_and_then}
+use Rattle.std.specs.Prelude.{ℕ, ℤ, Option, None, Some, Ok, Err}
 use Rattle.answers.specs.declared.ScanValues.{ScanValues}
-use Rattle.sheet.specs.Sheet.{empty_sheet, entered}
+use Rattle.sheet.specs.Sheet.{Entry, empty_sheet, entered}
 use Rattle.sheet.specs.Valid.{kept_sheet}
-use Rattle.sheet.specs.declared.Entry.{Entry}
-use Rattle.sheet.specs.declared.Entry.TheVariants as entry
 use Rattle.sheet.specs.declared.EnterResult.{EnterResult}
-use Rattle.sheet.specs.declared.KeptResult.{KeptResult}
 use Rattle.sheet.specs.declared.Sheet.{Sheet}
-use Rattle.sheet.specs.declared.Validity.{Validity}
-use Rattle.sheet.specs.declared.Validity.TheVariants as validity
 use Rattle.sheet_numbers.specs.Numbers.{no_numbers, values_in, with_number}
 use Rattle.commands.specs.declared.SheetCall.{SheetCall}
 use Rattle.commands.specs.declared.SheetCall.TheVariants.{New, Last, Feed, Read, Number, Kept}
@@ -17,14 +13,12 @@ use Rattle.replies.specs.declared.Reply.{Reply}
 use Rattle.replies.specs.declared.Reply.TheVariants as reply
 use Rattle.replies.specs.declared.Reply.TheVariants.{Accepted, Value, Answer, Clock, Image, Line}
 use Rattle.replies.specs.declared.Reply.TheVariants.{WholeSheet, Full, InvalidSheet, Refused, Error}
-use Rattle.sheet_session.specs.declared.LastAnswer.{LastAnswer}
-use Rattle.sheet_session.specs.declared.LastAnswer.TheVariants as lastanswer
 use Rattle.sheet_session.specs.declared.SheetSession.{SheetSession}
 use Rattle.sheet_session.specs.declared.SheetStep.{SheetStep}
 
 -- before the first line
 unfoldable pub first_session : SheetSession
-first_session = record { sheet = empty_sheet; numbers = no_numbers; last = lastanswer.None }
+first_session = record { sheet = empty_sheet; numbers = no_numbers; last = None }
 
 -- a command that leaves everything as it was
 abbrev pub staying : SheetSession → Reply → SheetStep
@@ -33,8 +27,8 @@ staying s reply = record { session = s; reply = reply }
 -- ---- after a call of the controller: the sheet and its numbers stay
 
 -- an accepted scan's answer is the last one from then on; what isn't one leaves it
-abbrev pub last_after : LastAnswer → Reply → LastAnswer
-last_after last (Answer v) = lastanswer.Answer v
+abbrev pub last_after : Option ScanValues → Reply → Option ScanValues
+last_after last (Answer v) = Some v
 last_after last Accepted = last
 last_after last (Value v) = last
 last_after last (Clock reading) = last
@@ -56,8 +50,8 @@ abbrev pub with_sheet : SheetSession → Sheet → SheetSession
 with_sheet s sheet = record { sheet = sheet; numbers = s.numbers; last = s.last }
 
 abbrev pub reply_to_entry : Entry → Reply
-reply_to_entry entry.Taken = Accepted
-reply_to_entry entry.Full = Full
+reply_to_entry (Ok taken) = Accepted
+reply_to_entry (Err full) = Full
 
 abbrev pub after_entry : SheetSession → EnterResult → SheetStep
 after_entry s r = record { session = with_sheet s r.sheet; reply = reply_to_entry r.entry }
@@ -66,9 +60,9 @@ unfoldable pub entered_step : SheetSession → ScanValues → SheetStep
 entered_step s v = after_entry s (entered s.sheet v)
 
 -- the last one, if there is one
-abbrev pub last_step : SheetSession → LastAnswer → SheetStep
-last_step s (lastanswer.Answer v) = entered_step s v
-last_step s lastanswer.None = staying s Error
+abbrev pub last_step : SheetSession → Option ScanValues → SheetStep
+last_step s (Some v) = entered_step s v
+last_step s None = staying s Error
 
 -- ---- a kept sheet
 
@@ -81,16 +75,13 @@ number_step s place value =
     }
 
 -- the sheet that was kept, if it is a valid one
-abbrev pub kept_by : SheetSession → Sheet → Validity → SheetStep
-kept_by s sheet validity.Valid = record { session = with_sheet s sheet; reply = Accepted }
-kept_by s sheet validity.Invalid = staying s InvalidSheet
-
-abbrev pub kept_as : SheetSession → KeptResult → SheetStep
-kept_as s kept = kept_by s kept.sheet kept.validity
+abbrev pub kept_as : SheetSession → Option Sheet → SheetStep
+kept_as s (Some sheet) = record { session = with_sheet s sheet; reply = Accepted }
+kept_as s None = staying s InvalidSheet
 
 -- the numbers, each in the range of its type, are a sheet's if answers give them
 unfoldable pub kept_step : SheetSession → SheetStep
-kept_step s = let parsed = values_in s.numbers in if parsed.ok then kept_as s (kept_sheet parsed.values) else staying s InvalidSheet
+kept_step s = kept_as s (option_and_then kept_sheet (values_in s.numbers))
 
 -- ---- every command of the sheet
 

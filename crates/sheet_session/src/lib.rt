@@ -2,28 +2,21 @@
 #![tactic(auto)]
 
 ghost use Rattle.std.specs.Prelude.{◌≡◌};
-ghost use Rattle.sheet.specs.Valid.{Valid};
-ghost use Rattle.sheet_session.specs.SheetSessions.{first_session, last_after, after_reply, with_sheet, reply_to_entry, entered_step};
-ghost use Rattle.sheet_session.specs.SheetSessions.{last_step, number_step, kept_as, kept_step, sheet_step};
+ghost use Rattle.sheet_session.specs.SheetSessions.{first_session, last_after, after_reply, reply_to_entry, entered_step};
+ghost use Rattle.sheet_session.specs.SheetSessions.{last_step, number_step, kept_step, sheet_step};
 
 use answers::ScanValues;
 use commands::SheetCall;
 use replies::Reply;
-use sheet::{Entry, KeptResult, Sheet, Validity};
+use sheet::{Full, Sheet};
 
-// The answer of the last accepted scan, if there was one.
-#[derive(Clone, Copy)]
-pub enum LastAnswer {
-    None,
-    Answer(ScanValues),
-}
-
-// The sheet, the numbers of a kept one as lines set them, and the answer that is entered next.
+// The sheet, the numbers of a kept one as lines set them, and the answer of the last accepted scan, if there was one,
+// which is entered next.
 #[derive(Clone, Copy)]
 pub struct SheetSession {
     pub sheet: Sheet,
     pub numbers: [i64; 16],
-    pub last: LastAnswer,
+    pub last: Option<ScanValues>,
 }
 
 // The session after a command, and the reply to it.
@@ -34,97 +27,70 @@ pub struct SheetStep {
 }
 
 // Before the first line: an empty sheet, all numbers 0, and no answer. The contract rules out others.
+#[tactic(auto, unfolding(crate::specs::SheetSessions::first_session))]
 pub fn first() -> SheetSession
-    ensures { (result ≡ first_session) × Valid result.sheet }
+    ensures { result ≡ first_session }
 {
     SheetSession {
         sheet: Sheet::empty(),
         numbers: sheet_numbers::no_numbers(),
-        last: LastAnswer::None,
+        last: None,
     }
 }
 
 // The contract rules out that anything but an accepted scan changes the last answer.
-fn last_after(last: LastAnswer, reply: Reply) -> LastAnswer
+fn last_after(last: Option<ScanValues>, reply: Reply) -> Option<ScanValues>
     ensures { result ≡ last_after last reply }
 {
     match reply {
-        Reply::Answer(values) => LastAnswer::Answer(values),
-        Reply::Accepted => last,
-        Reply::Value(_) => last,
-        Reply::Clock(_) => last,
-        Reply::Image => last,
-        Reply::Line(_) => last,
-        Reply::WholeSheet => last,
-        Reply::Full => last,
-        Reply::InvalidSheet => last,
-        Reply::Number(_) => last,
-        Reply::Refused(_) => last,
-        Reply::Error => last,
+        Reply::Answer(values) => Some(values),
+        _ => last,
     }
 }
 
 // After a call of the controller with this reply. The contract rules out that the sheet or its numbers change.
+#[tactic(auto, unfolding(crate::specs::SheetSessions::after_reply))]
 pub fn after_reply(session: SheetSession, reply: Reply) -> SheetSession
     ensures { result ≡ after_reply session reply }
 {
-    let sheet = session.sheet;
-    let numbers = session.numbers;
-    let last = session.last;
     SheetSession {
-        sheet,
-        numbers,
-        last: last_after(last, reply),
-    }
-}
-
-// The session with another sheet.
-fn with_sheet(session: SheetSession, sheet: Sheet) -> SheetSession
-    ensures { result ≡ with_sheet session sheet }
-{
-    let numbers = session.numbers;
-    let last = session.last;
-    SheetSession {
-        sheet,
-        numbers,
-        last,
+        last: last_after(session.last, reply),
+        ..session
     }
 }
 
 // The contract rules out that a full sheet says it took an answer.
-fn reply_to_entry(entry: Entry) -> Reply
+fn reply_to_entry(entry: Result<(), Full>) -> Reply
     ensures { result ≡ reply_to_entry entry }
 {
     match entry {
-        Entry::Taken => Reply::Accepted,
-        Entry::Full => Reply::Full,
+        Ok(()) => Reply::Accepted,
+        Err(Full) => Reply::Full,
     }
 }
 
 // Enters an answer. The contract rules out a sheet that isn't handed on, and the reply of another entry.
+#[tactic(auto, unfolding(crate::specs::SheetSessions::entered_step))]
 fn enter(session: SheetSession, values: ScanValues) -> SheetStep
-    requires { Valid session.sheet }
-    ensures { (result ≡ entered_step session values) × Valid result.session.sheet }
+    ensures { result ≡ entered_step session values }
 {
-    let sheet = session.sheet;
-    let r = sheet.enter(values);
-    let next = r.sheet;
-    let entry = r.entry;
+    let entered = session.sheet.enter(values);
     SheetStep {
-        session: with_sheet(session, next),
-        reply: reply_to_entry(entry),
+        session: SheetSession {
+            sheet: entered.sheet,
+            ..session
+        },
+        reply: reply_to_entry(entered.entry),
     }
 }
 
 // Enters the answer of the last accepted scan; where there is none, that is an error.
 fn enter_last(session: SheetSession) -> SheetStep
-    requires { Valid session.sheet }
-    ensures { (result ≡ last_step session session.last) × Valid result.session.sheet }
+    ensures { result ≡ last_step session session.last }
 {
-    let last = session.last;
-    match last {
-        LastAnswer::Answer(values) => enter(session, values),
-        LastAnswer::None => SheetStep {
+    match session.last {
+        Some(values) => enter(session, values),
+        None => SheetStep {
             session,
             reply: Reply::Error,
         },
@@ -132,68 +98,49 @@ fn enter_last(session: SheetSession) -> SheetStep
 }
 
 // Sets one of the numbers of a kept sheet. The contract rules out another number's place, and a change of the sheet.
+#[tactic(auto, unfolding(crate::specs::SheetSessions::number_step))]
 fn set_number(session: SheetSession, place: usize, value: i64) -> SheetStep
     ensures { result ≡ number_step session place value }
 {
-    let sheet = session.sheet;
-    let numbers = session.numbers;
-    let last = session.last;
     SheetStep {
         session: SheetSession {
-            sheet,
-            numbers: sheet_numbers::with_number(numbers, place, value),
-            last,
+            numbers: sheet_numbers::with_number(session.numbers, place, value),
+            ..session
         },
         reply: Reply::Accepted,
     }
 }
 
-// The sheet that was kept, if it is a valid one. The contract rules out that anything of an invalid one is taken.
-fn kept_by(session: SheetSession, kept: KeptResult) -> SheetStep
-    requires { Valid session.sheet × Valid kept.sheet }
-    ensures { (result ≡ kept_as session kept) × Valid result.session.sheet }
+// Begins with the sheet whose numbers were set. The contract rules out a sheet with other numbers, and that anything of
+// an invalid one is taken.
+#[tactic(auto, unfolding(crate::specs::SheetSessions::kept_step))]
+fn keep(session: SheetSession) -> SheetStep
+    ensures { result ≡ kept_step session }
 {
-    let sheet = kept.sheet;
-    let validity = kept.validity;
-    match validity {
-        Validity::Valid => SheetStep {
-            session: with_sheet(session, sheet),
+    match sheet_numbers::values_in(session.numbers).and_then(Sheet::kept) {
+        Some(sheet) => SheetStep {
+            session: SheetSession { sheet, ..session },
             reply: Reply::Accepted,
         },
-        Validity::Invalid => SheetStep {
+        None => SheetStep {
             session,
             reply: Reply::InvalidSheet,
         },
     }
 }
 
-// Begins with the sheet whose numbers were set. The contract rules out a sheet with other numbers, and one that the
-// next command could not take.
-fn keep(session: SheetSession) -> SheetStep
-    requires { Valid session.sheet }
-    ensures { (result ≡ kept_step session) × Valid result.session.sheet }
-{
-    let numbers = session.numbers;
-    let parsed = sheet_numbers::values_in(numbers);
-    if parsed.ok {
-        let values = parsed.values;
-        return kept_by(session, Sheet::kept(values));
-    }
-    SheetStep {
-        session,
-        reply: Reply::InvalidSheet,
-    }
-}
-
 // Performs a command of the sheet. The contract gives the whole next session and the reply, so it rules out a command
 // that is taken for another.
+#[tactic(auto, unfolding(crate::specs::SheetSessions::sheet_step))]
 pub fn perform(session: SheetSession, call: SheetCall) -> SheetStep
-    requires { Valid session.sheet }
-    ensures { (result ≡ sheet_step session call) × Valid result.session.sheet }
+    ensures { result ≡ sheet_step session call }
 {
     match call {
         SheetCall::New => SheetStep {
-            session: with_sheet(session, Sheet::empty()),
+            session: SheetSession {
+                sheet: Sheet::empty(),
+                ..session
+            },
             reply: Reply::Accepted,
         },
         SheetCall::Last => enter_last(session),

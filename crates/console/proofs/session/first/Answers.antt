@@ -7,4 +7,4 @@ pub returns : goal.returns
 unfolding first_session
 returns c =
     let fresh = c.fresh.ensures in
-    (rw (fresh.0, c.first.ensures.0) refl, record { controller = fresh.1; sheet = c.first.ensures.1 })
+    (rw (fresh.0, c.first.ensures) refl, record { controller = fresh.1 })

@@ -13,7 +13,7 @@ returns-in-Call c =
     let command-is = c.in-Call.is in (
       rw (command-is, c.after_call.ensures) (ap (after_call c.args.session) c.perform-step.ensures.0),
       rw command-is c.perform-step.ensures.1,
-      rw c.after_call.ensures (record { controller = c.perform-step.ensures.2; sheet = c.requires.sheet }),
+      rw c.after_call.ensures (record { controller = c.perform-step.ensures.2 }),
     )
 
 pub returns-in-Sheet : goal.returns-in-Sheet

@@ -1,99 +1,86 @@
 -- `sheet::SheetValues::with` meets its contract.
-use mathlib.Core.Path.{◌≡◌, refl, ◌∙◌}
-use Prim.Native.Nat.{ℕ, ◌+◌, ◌<◌}
+use mathlib.Core.Path.{◌≡◌, refl}
+use Prim.Native.Nat.{◌<◌}
 use native.Mathlib.Omega.{arith}
-use lib.IntN.{ℤ, pos, ◌+ℤ◌}
-use lib.ListN.{get_or, set}
-use mir.Facts.{to_z-of_z}
+use lib.IntN.{pos, ◌+ℤ◌}
 use mir.Syntax.{w32, w64}
 use mir.Val.{SFits, to_z, of_z}
 use Rattle.integers.specs.Machine.{back, cast_back}
-use Rattle.answers.specs.declared.ScanValues.{ScanValues}
 use Rattle.sheet.specs.EnteredLaws.{Answerable, taken_valid, Fits, fits}
-use Rattle.sheet.specs.Sheet.{place_of, extreme_after, alarms_after, taken, counted}
+use Rattle.sheet.specs.Sheet.{taken, counted}
 use Rattle.sheet.specs.SumLaws.{held_by}
-use Rattle.sheet.specs.TotalLaws.{place_few}
-use Rattle.sheet.specs.declared.Bound.TheVariants.{Greatest, Least}
-use Rattle.sheet.specs.declared.Extreme.{Extreme}
-use Rattle.sheet.specs.declared.SheetValues.{SheetValues}
 use borrow.Author.Rules.{rules}
-use Rattle.sheet.proofs.SheetValues.with.Goals.{After-modes-1, After-wide, Start}
+use Rattle.sheet.proofs.SheetValues.with.Goals.{Start}
 use Rattle.sheet.proofs.SheetValues.with.Goals as goal
 
--- the signed values, as they are read
-pv_read : (c : Start) → to_z w32 (of_z w32 c.args.answer.pv) ≡ c.args.answer.pv
-pv_read c = to_z-of_z {w = w32} {z = c.args.answer.pv} (search rules)
+module _ (c : Start) where
+  pv : SFits w32 c.args.answer.pv
+  pv = search rules
 
-sumpv_read : (c : Start) → to_z w64 (of_z w64 c.args.self.sumpv) ≡ c.args.self.sumpv
-sumpv_read c = to_z-of_z {w = w64} {z = c.args.self.sumpv} (search rules)
+  sumpv : SFits w64 c.args.self.sumpv
+  sumpv = search rules
 
-sumop_read : (c : Start) → to_z w64 (of_z w64 c.args.self.sumop) ≡ c.args.self.sumop
-sumop_read c = to_z-of_z {w = w64} {z = c.args.self.sumop} (search rules)
+  sumop : SFits w64 c.args.self.sumop
+  sumop = search rules
 
-answerable : (c : Start) → Answerable c.args.answer
-answerable c =
-    let pv : SFits w32 c.args.answer.pv = search rules in
-    let op : c.args.answer.op < 65536 = search rules in
-    record { pv = held_by c.args.answer.pv pv.sfits; op = omega arith }
+  op : c.args.answer.op < 65536
+  op = search rules
 
-fitting : (c : Start) → Fits c.args.self c.args.answer
-fitting c = fits c.args.self c.args.answer c.requires.1 c.requires.0 (answerable c)
+  -- the signed values, as they are read
+  pv_read : to_z w32 (of_z w32 c.args.answer.pv) ≡ c.args.answer.pv
+  pv_read = back w32 c.args.answer.pv pv.sfits
 
-few : (c : After-modes-1) → c.place-k.result < 8
-few c = rw c.place-k.ensures (place_few c.args.answer.mode)
+  wide_pv_read : to_z w64 (of_z w64 c.args.answer.pv) ≡ c.args.answer.pv
+  wide_pv_read = back w64 c.args.answer.pv (omega (arith, pv.sfits))
 
--- the PV in 64 bits, and OP
-pv_is : (c : After-wide) →
-    to_z w64 (of_z w64 c.wide.result) ≡ c.args.answer.pv
-pv_is c =
-    back w64 c.wide.result c.wide.type_inv ∙ c.wide.ensures ∙
-    pv_read c.before.before.before.before.before.before.before.before.before
+  op_read : to_z w64 c.args.answer.op ≡ pos c.args.answer.op
+  op_read = cast_back w64 c.args.answer.op (omega (arith, op))
 
-op_is : (c : Start) → to_z w64 c.args.answer.op ≡ pos c.args.answer.op
-op_is c = cast_back w64 c.args.answer.op (omega (arith, (answerable c).op))
+  sumpv_read : to_z w64 (of_z w64 c.args.self.sumpv) ≡ c.args.self.sumpv
+  sumpv_read = back w64 c.args.self.sumpv sumpv.sfits
 
--- values that are those of the sheet with the answer
-took : (v : SheetValues) (a : ScanValues) (k : ℕ) (greatest least : Extreme) (alarms : ℕ) (sumpv sumop : ℤ) → k ≡ place_of a.mode →
-    greatest ≡ extreme_after Greatest v.greatest a.pv (v.scans + 1) → least ≡ extreme_after Least v.least a.pv (v.scans + 1) →
-    alarms ≡ alarms_after v.alarms a.ds → sumpv ≡ v.sumpv +ℤ a.pv → sumop ≡ v.sumop +ℤ pos a.op →
-    record {
-      scans = v.scans + 1;
-      modes = set v.modes k (get_or v.modes k 0 + 1);
-      greatest = greatest;
-      least = least;
-      alarms = alarms;
-      sumpv = sumpv;
-      sumop = sumop;
-    } ≡ taken v a
-unfolding taken counted
-took v a k greatest least alarms sumpv sumop place g l n s t = rw (place, g, l, n, s, t) refl
+  sumop_read : to_z w64 (of_z w64 c.args.self.sumop) ≡ c.args.self.sumop
+  sumop_read = back w64 c.args.self.sumop sumop.sfits
+
+  answerable : Answerable c.args.answer
+  answerable = record { pv = held_by c.args.answer.pv pv.sfits; op = omega (arith, op) }
+
+  fitting : Fits c.args.self c.args.answer
+  fitting = fits c.args.self c.args.answer c.requires.1 c.requires.0 answerable
 
 pub overflow_add-modes : goal.overflow_add-modes
-overflow_add-modes c = rw c.place-k.ensures (omega (arith, (fitting (goal.at.overflow_add-modes c).Start).mode))
+overflow_add-modes c = rw c.place.ensures (omega (arith, (fitting (goal.at.overflow_add-modes c).Start).mode))
 
 pub alarms_after-requires : goal.alarms_after-requires
 alarms_after-requires c = (fitting (goal.at.alarms_after-requires c).Start).alarms
 
-pub sum-requires : goal.sum-requires
-sum-requires c =
-    rw (sumpv_read (goal.at.sum-requires c).Start, pv_is (goal.at.sum-requires c).After-wide) (fitting (goal.at.sum-requires c).Start).pv
+pub overflow_add-result : goal.overflow_add-result
+overflow_add-result c =
+    let start = (goal.at.overflow_add-result c).Start in
+    rw (sumpv_read start, pv_read start, wide_pv_read start) (record { sfits = (fitting start).pv })
 
-pub sum-requires-2 : goal.sum-requires-2
-sum-requires-2 c =
-    rw (sumop_read (goal.at.sum-requires-2 c).Start, op_is (goal.at.sum-requires-2 c).Start) (fitting (goal.at.sum-requires-2 c).Start).op
+pub overflow_add-result-2 : goal.overflow_add-result-2
+overflow_add-result-2 c =
+    let start = (goal.at.overflow_add-result-2 c).Start in
+    rw (sumop_read start, op_read start) (record { sfits = (fitting start).op })
 
 pub returns : goal.returns
+unfolding taken counted
 returns c =
+    let start = (goal.at.returns c).Start in
     let v = c.args.self in
     let a = c.args.answer in
-    let pv = pv_read (goal.at.returns c).Start in
-    let e = took v a _ _ _ _ _ _
-    c.place-k.ensures
-    (rw pv at c.extreme_after.ensures)
-    (rw pv at c.extreme_after-2.ensures)
-    c.alarms_after.ensures
-    (back w64 c.sum.result c.sum.type_inv ∙
-    rw (sumpv_read (goal.at.returns c).Start, pv_is (goal.at.returns c).After-wide) at c.sum.ensures)
-    (back w64 c.sum-2.result c.sum-2.type_inv ∙
-    rw (sumop_read (goal.at.returns c).Start, op_is (goal.at.returns c).Start) at c.sum-2.ensures) in
-    (e, rw e (taken_valid v a c.requires.1 c.requires.0 (answerable (goal.at.returns c).Start)))
+    rw (
+      c.place.ensures,
+      c.extreme_after.ensures,
+      c.extreme_after-2.ensures,
+      c.alarms_after.ensures,
+      sumpv_read start,
+      pv_read start,
+      wide_pv_read start,
+      sumop_read start,
+      op_read start,
+      back w64 (v.sumpv +ℤ a.pv) (fitting start).pv,
+      back w64 (v.sumop +ℤ pos a.op) (fitting start).op,
+    )
+    (refl, taken_valid v a c.requires.1 c.requires.0 (answerable start))

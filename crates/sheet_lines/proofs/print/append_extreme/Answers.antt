@@ -11,8 +11,8 @@ returns-in-None c =
     let all = text_then c.append_name-end.ensures none_of in
     rw c.in-None.is (text_most all (omega arith))
 
-pub returns-in-First : goal.returns-in-First
+pub returns-in-Some : goal.returns-in-Some
 unfolding extreme_text
-returns-in-First c =
+returns-in-Some c =
     let all = text_then c.append_name-end.ensures c.append_occurrence.ensures in
-    rw c.in-First.is (text_most all (omega arith))
+    rw c.in-Some.is (text_most all (omega arith))
