@@ -2,9 +2,9 @@
 // out, so no call has a condition, and the contracts state every byte.
 #![tactic(auto)]
 
-ghost use Rattle.std.specs.Prelude.{◌≡◌, [], ◌∷◌, ◌≤◌, ◌<◌, take, replicate};
+ghost use Rattle.std.specs.Prelude.{◌≡◌, [], ◌∷◌, ◌≤◌, ◌<◌, leb, take, replicate};
 ghost use Rattle.numerals.specs.Numerals.{last_digits, digits, decimal, hexadecimal, hexadecimal_word};
-ghost use Rattle.formatting.specs.Buffer.{buffer, append_all, filled, written, emptied};
+ghost use Rattle.formatting.specs.Buffer.{buffer, append_all, filled, capacity, written, emptied};
 
 use std::marker::Model;
 
@@ -50,6 +50,13 @@ impl<const N: usize> Text<N> {
         ensures { result ≡ filled self.now }
     {
         self.used
+    }
+
+    // Whether there is no room for another byte.
+    pub fn is_full(&self) -> bool
+        ensures { result ≡ leb (capacity self.now) (filled self.now) }
+    {
+        self.used == N
     }
 
     // From the front again. The contract rules out that a byte changes.

@@ -61,7 +61,7 @@ fn append_answer<const N: usize>(out: &mut Text<N>, values: ScanValues)
 {
     append_words(out, values);
     out.push(b' ');
-    out.push_all(sheet_lines::mode::word(values.mode));
+    out.push_all(sheet_lines::mode::word_of(values.mode));
     out.push(b' ');
     out.push_signed(i64::from(values.pv));
 }

@@ -1,18 +1,23 @@
 // The word of a mode, written and read.
 ghost use Rattle.std.specs.Prelude.{◌≡◌};
-ghost use Rattle.sheet_lines.specs.ModeWords.{mode_word, mode_or, mode_of};
+ghost use Rattle.sheet_lines.specs.ModeWords.{mode_word, mode_of};
 
 use modes::Mode;
 
-#[derive(Clone, Copy)]
-pub enum ParsedMode {
-    Mode(Mode),
-    Malformed,
-}
+const MODES: [Mode; 8] = [
+    Mode::Hold,
+    Mode::Track,
+    Mode::Forced,
+    Mode::Manual,
+    Mode::Auto,
+    Mode::Remote,
+    Mode::Ratio,
+    Mode::Fallback,
+];
 
 // The contract rules out the word of another mode.
 #[tactic(auto, unfolding(crate::specs::ModeWords::mode_word))]
-pub fn word(mode: Mode) -> &'static [u8]
+pub fn word_of(mode: Mode) -> &'static [u8]
     ensures { result.now ≡ mode_word mode }
 {
     match mode {
@@ -27,26 +32,9 @@ pub fn word(mode: Mode) -> &'static [u8]
     }
 }
 
-// The mode whose word it is, else what the words of others gave.
-fn mode_or(text: &[u8], mode: Mode, other: ParsedMode) -> ParsedMode
-    ensures { result ≡ mode_or text.now mode other }
-{
-    if text::same(text, word(mode)) {
-        return ParsedMode::Mode(mode);
-    }
-    other
-}
-
 // The mode whose word it is. The contract rules out a word that is taken for another mode's, or that none has.
-pub fn parse(word: &[u8]) -> ParsedMode
+pub fn parse(word: &[u8]) -> Option<Mode>
     ensures { result ≡ mode_of word.now }
 {
-    let fallback = mode_or(word, Mode::Fallback, ParsedMode::Malformed);
-    let ratio = mode_or(word, Mode::Ratio, fallback);
-    let remote = mode_or(word, Mode::Remote, ratio);
-    let auto = mode_or(word, Mode::Auto, remote);
-    let manual = mode_or(word, Mode::Manual, auto);
-    let forced = mode_or(word, Mode::Forced, manual);
-    let track = mode_or(word, Mode::Track, forced);
-    mode_or(word, Mode::Hold, track)
+    MODES.iter().find(|mode| word == word_of(**mode)).copied()
 }

@@ -66,7 +66,7 @@ fn append_extremes<const N: usize>(out: &mut Text<N>, sheet: Sheet)
 fn append_count<const N: usize>(out: &mut Text<N>, sheet: Sheet, mode: Mode)
     ensures { TextAppended out.old out.new (count_text sheet.values mode) 20 }
 {
-    append_name(out, crate::mode::word(mode));
+    append_name(out, crate::mode::word_of(mode));
     out.push_decimal(sheet.scans_in(mode) as u64);
 }
 

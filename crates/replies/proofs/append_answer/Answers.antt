@@ -13,7 +13,7 @@ pub returns : goal.returns
 unfolding answer_text
 returns g c =
     let o = c.args.out.now in
-    let word = rw c.word.ensures at c.push_all.ensures in
+    let word = rw c.word_of.ensures at c.push_all.ensures in
     let to-blank = then o _ _ c.append_words.ensures.0 c.push.ensures in
     let to-gap = then o _ _ (then o _ _ to-blank word) c.push-2.ensures in
     let fits = c.struct_told-1.given.1.1.1.1.1.0.1 in

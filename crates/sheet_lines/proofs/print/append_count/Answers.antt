@@ -10,6 +10,6 @@ use Rattle.sheet_lines.proofs.print.append_count.Goals as goal
 pub returns : goal.returns
 unfolding count_text number_text
 returns g c =
-    let name_of = rw c.word.ensures at c.append_name.ensures in
+    let name_of = rw c.word_of.ensures at c.append_name.ensures in
     let count_of = text_of 10 c.push_decimal.ensures (number_length c.scans_in.result c.scans_in.type_inv) in
     text_most (text_then name_of (text_is count_of (ap digits c.scans_in.ensures))) (omega (arith, word_length c.args.mode))
