@@ -3,7 +3,7 @@ use Rattle.std.specs.Prelude.{◌≡◌, refl, List, [], ◌∷◌, ◌++◌, �
 use Rattle.std.proofs.Common.{sym, ap, ◌∙◌, add-one, add-zero, zero-add, add-suc, suc-add, arith, length-set, take-append-drop}
 use Rattle.std.proofs.Common.{drop_of_length-le, drop-cons, take-suc-set, drop-set-lt, lt-ltb}
 use Rattle.std.proofs.Math.Seq.{take-append_seam, append_snoc}
-use Rattle.formatting.specs.Buffer.{Buffer, buffer, append, append_all, filled, written}
+use Rattle.formatting.specs.Buffer.{Buffer, buffer, append, append_all, filled, capacity, written}
 
 -- bytes behind bytes
 pub append_append : (o : Buffer) (xs ys : List ℕ) → append_all o (xs ++ ys) ≡ append_all (append_all o xs) ys
@@ -43,6 +43,13 @@ append_room (b ∷ bs) out used h =
     simp (lt-ltb used (length out) l)
     (append_room bs (set out used b) (used + 1) (omega (arith, length-set out used b)) ∙
     rw (replaced_more used b bs out l) (ap (buffer (replaced used (b ∷ bs) out)) (omega arith)))
+
+-- the buffer with bytes behind those used
+abbrev pub with_bytes : Buffer → List ℕ → Buffer
+with_bytes (buffer out used) bytes = buffer (replaced used bytes out) (used + length bytes)
+
+pub append_fits : (bytes : List ℕ) (o : Buffer) → filled o + length bytes ≤ capacity o → append_all o bytes ≡ with_bytes o bytes
+append_fits bytes (buffer out used) h = append_room bytes out used h
 
 -- in front of a buffer of which nothing was used, the bytes stand by themselves
 pub append_front : (bytes out : List ℕ) (after : Buffer) → length bytes ≤ length out → after ≡ append_all (buffer out 0) bytes

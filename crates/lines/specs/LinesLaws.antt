@@ -6,11 +6,19 @@ use Rattle.std.proofs.Math.Path.{ap}
 use Rattle.std.proofs.Math.Bool.{true, false}
 use Rattle.std.proofs.lemmas.Grind.{common_steps}
 use Rattle.integers.specs.Choice.{by_cases, never}
-use Rattle.lines.specs.Lines.{has_end, line_of, rest_of, start_of}
+use Rattle.formatting.specs.Buffer.{Buffer, buffer, filled, capacity}
+use Rattle.lines.specs.Lines.{has_end, line_of, rest_of, start_of, with_room}
 
 pub start_most : (used : ℕ) → start_of used ≤ 64000
 start_most used =
     by_cases (λ (n : ℕ). n ≤ 64000) (ltb 64000 used) 0 used (λ e. omega arith) (λ e. let l = ltb-false 64000 used e in omega arith)
+
+-- the output has room for an answer
+pub room_made : (o : Buffer) → filled (with_room o) ≤ 64000
+room_made (buffer out used) = start_most used
+
+pub room_kept : (o : Buffer) → capacity (with_room o) ≡ capacity o
+room_kept (buffer out used) = refl
 
 -- ---- a line by the place of its line feed
 
