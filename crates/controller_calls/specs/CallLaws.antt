@@ -28,8 +28,7 @@ use Rattle.terminal.specs.Commands.{command_in}
 use Rattle.terminal.specs.Terminal.{reply_text, present_value, replied, wrote_or, read_to, written_to, answered_to, answered}
 use Rattle.terminal.specs.Terminal.{refused_line, LineOutcome}
 use Rattle.terminal.specs.TerminalLaws.{valid_line}
-use Rattle.terminal.specs.declared.command.Command as terminal
-use Rattle.terminal.specs.declared.command.Command.TheVariants as command
+use Rattle.terminal.specs.Commands as command
 use Rattle.controller_calls.specs.Calls.{is_filled, step_of, unchanged_with, performed, checked_reply, save_reply}
 use Rattle.controller_calls.specs.Calls.{filled, terminal_fits, terminal_reply, terminal_step, checked_terminal}
 use Rattle.replies.specs.declared.Reply.TheVariants.{Image, Refused, Error}
@@ -165,7 +164,7 @@ module _ (part rest : List ℕ) (p : is_filled part ≡ true) (r : is_filled res
     unchanged_wrote none n v = unchanged_replied (write c w n v).next n
     unchanged_wrote (some k) n v = unchanged_refused c k
 
-    unchanged_to : (asked : terminal.Command) → Unchanged (answered_to c w part asked)
+    unchanged_to : (asked : command.Command) → Unchanged (answered_to c w part asked)
     unfolding answered_to read_to written_to
     unchanged_to command.NoMnemonic = unchanged_refused c 17
     unchanged_to command.NoValue = unchanged_refused c 18

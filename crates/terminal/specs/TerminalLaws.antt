@@ -1,5 +1,5 @@
 -- Laws of what comes of a line: a read of a named parameter, the length of a reply; the next controller is valid.
-use Rattle.std.specs.Prelude.{◌≡◌, true, false, ℕ, ◌≤◌, eqb, leb, ltb, ℤ, pos, nat_abs, get_or}
+use Rattle.std.specs.Prelude.{Ok, Err, ◌≡◌, true, false, ℕ, ◌≤◌, eqb, leb, ltb, ℤ, pos, nat_abs, get_or}
 use Rattle.std.proofs.Math.Path.{refl, ap}
 use Rattle.std.proofs.Common.{sym, subst, ◌∙◌, length-append, eqb-true, leb-true}
 use mathlib.Core.List.{List, [], ◌∷◌, ◌++◌}
@@ -12,7 +12,9 @@ use Rattle.integers.specs.Listed.{listed, listed_same}
 use Rattle.numerals.specs.DigitLaws.{digits_length}
 use Rattle.numerals.specs.Numerals.{decimal, hexadecimal_word}
 use Rattle.numerals.specs.Shortest.{decimal_few}
-use Rattle.signals.specs.Refusals.{refused_by}
+use Rattle.signals.specs.Refusals.{number_of, refused_by}
+use Rattle.signals.specs.declared.Refusal.{Refusal}
+use Rattle.signals.specs.declared.Refusal.TheVariants.{Mnemonic, ValueForm}
 use Rattle.formatting.specs.Buffer.{Buffer, buffer, append_all, filled, written}
 use Rattle.formatting.specs.Laws.{append_front}
 use Rattle.parameters.specs.LegalLaws.{value_most}
@@ -26,13 +28,13 @@ use Rattle.controller.specs.Valid.{Valid}
 use Rattle.controller.specs.Write.{write_tests, write}
 use Rattle.controller.specs.WriteLaws.{valid_write}
 use Rattle.controller.specs.declared.Controller.{Controller}
-use Rattle.terminal.specs.Commands.{is_word, value_of, writing, command_of, command_by, command_in}
+use Rattle.terminal.specs.Commands.{is_word, value_of, writing, command_of, command_by, command_in, asked}
 use Rattle.terminal.specs.MnemonicLaws.{named_range}
 use Rattle.terminal.specs.Mnemonics.{mnemonic, named}
 use Rattle.terminal.specs.Terminal.{value_text, reply_text, present_value, replied, wrote_or, read_to, written_to, answered_to, answered}
 use Rattle.terminal.specs.Terminal.{refused_line, LineOutcome}
-use Rattle.terminal.specs.declared.command.Command.{Command}
-use Rattle.terminal.specs.declared.command.Command.TheVariants.{Read, Write, NoMnemonic, NoValue}
+use Rattle.terminal.specs.Commands.{Command, Read, Write, NoMnemonic, NoValue}
+use Rattle.terminal.specs.declared.command.Command.TheVariants as code_command
 
 -- ---- a parameter that a mnemonic names
 
@@ -195,3 +197,33 @@ valid_line c w line room valid = line_valid c w room _ valid
 pub with_valid : (c : Controller) (w : Writer) (line room : List ℕ) (o : LineOutcome) → Valid c → o ≡ answered c w line room →
     (o ≡ answered c w line room) × Valid o.next
 with_valid c w line room o valid is = (is, rw is (valid_line c w line room valid))
+
+-- ---- what a line asks, in the code's form
+
+-- the mnemonic names a parameter
+pub read_asked : (line : List ℕ) (n : ℕ) → Ok (code_command.Read n) ≡ asked (command_in line) → command_in line ≡ Read n
+read_asked line n e = go (command_in line) e
+  where
+    go : (k : Command) → Ok (code_command.Read n) ≡ asked k → k ≡ Read n
+    go NoMnemonic f = cc
+    go NoValue f = cc
+    go (Read m) f = cc
+    go (Write m v) f = cc
+
+pub write_asked : (line : List ℕ) (n : ℕ) (v : ℤ) → Ok (code_command.Write n v) ≡ asked (command_in line) → command_in line ≡ Write n v
+write_asked line n v e = go (command_in line) e
+  where
+    go : (k : Command) → Ok (code_command.Write n v) ≡ asked k → k ≡ Write n v
+    go NoMnemonic f = cc
+    go NoValue f = cc
+    go (Read m) f = cc
+    go (Write m u) f = cc
+
+-- a refusal's number is the line's
+pub refused_asked : (c : Controller) (w : Writer) (lent : List ℕ) (k : Command) (r : Refusal) → Err r ≡ asked k
+    → refused_line c lent (number_of r) ≡ answered_to c w lent k
+unfolding answered_to
+refused_asked c w lent NoMnemonic r e = let is : r ≡ Mnemonic = cc in rw is refl
+refused_asked c w lent NoValue r e = let is : r ≡ ValueForm = cc in rw is refl
+refused_asked c w lent (Read n) r e = cc
+refused_asked c w lent (Write n v) r e = cc
