@@ -10,26 +10,28 @@ use Rattle.console.proofs.session.perform.Goals as goal
 pub returns-in-Call : goal.returns-in-Call
 unfolding session_step session_buffer after_call after_reply
 returns-in-Call c =
-    let command-is = c.in-Call.is in (
-      rw (command-is, c.after_call.ensures) (ap (after_call c.args.session) c.perform-step.ensures.0),
-      rw command-is c.perform-step.ensures.1,
+    let is = c.in-Some.is in
+    let command_is = c.in-Call.is in (
+      rw (is, command_is, c.after_call.ensures) (ap (after_call c.args.session) c.perform-step.ensures.0),
+      rw (is, command_is) c.perform-step.ensures.1,
       rw c.after_call.ensures (record { controller = c.perform-step.ensures.2 }),
     )
 
 pub returns-in-Sheet : goal.returns-in-Sheet
 unfolding session_step session_buffer
 returns-in-Sheet c =
-    let command-is = c.in-Sheet.is in
-    (rw command-is c.perform_sheet_call.ensures.0, rw command-is refl, c.perform_sheet_call.ensures.1)
+    let is = c.in-Some.is in
+    let command_is = c.in-Sheet.is in
+    (rw (is, command_is) c.perform_sheet_call.ensures.0, rw (is, command_is) refl, c.perform_sheet_call.ensures.1)
 
 pub returns-in-Calculated : goal.returns-in-Calculated
 unfolding session_step session_buffer
 returns-in-Calculated c =
+    let is = c.in-Some.is in
+    let command_is = c.in-Calculated.is in
     let same = back w64 c.in-Calculated.number (search rules) in
-    (rw (c.in-Calculated.is, same) refl, rw c.in-Calculated.is refl, c.requires)
+    (rw (is, command_is, same) refl, rw (is, command_is) refl, c.requires)
 
-pub returns-in-Invalid : goal.returns-in-Invalid
+pub returns-in_default : goal.returns-in_default
 unfolding session_step session_buffer
-returns-in-Invalid c =
-    let command-is = c.in-Invalid.is in
-    (rw command-is refl, rw command-is refl, c.requires)
+returns-in_default c = (rw c.in_default.is refl, rw c.in_default.is refl, c.requires)
