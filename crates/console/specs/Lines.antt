@@ -1,5 +1,5 @@
 -- What one line of input comes to.
-use Rattle.std.specs.Prelude.{List, ◌≡◌, ℕ, ◌+◌, ◌≤◌, length, replicate}
+use Rattle.std.specs.Prelude.{List, Option, ◌≡◌, ℕ, ◌+◌, ◌≤◌, length, replicate}
 use Rattle.formatting.specs.Buffer.{buffer, append_all}
 use Rattle.formatting.specs.Laws.{replaced}
 use Rattle.lines.specs.Lines.{start_of}
@@ -11,7 +11,7 @@ use Rattle.console.specs.declared.session.Session.{Session}
 use Rattle.console.specs.declared.session.SessionStep.{SessionStep}
 
 -- the command of the first `len` bytes, and the buffer after it was parsed, of 346 bytes that were 0
-abbrev pub line_command : List ℕ → ℕ → Command
+abbrev pub line_command : List ℕ → ℕ → Option Command
 line_command line len = command_in line len 346
 
 abbrev pub line_bytes : List ℕ → ℕ → List ℕ
