@@ -1,5 +1,6 @@
 -- A line that the line buffer cuts is answered as the whole line would be: neither has a form that the terminal knows.
-use Rattle.std.specs.Prelude.{◌≡◌, refl, true, false, List, [], ◌∷◌, ℕ, ◌+◌, ◌≤◌, ◌<◌, eqb, ltb, ℤ, length, take, drop, get_or}
+use Rattle.std.specs.Prelude as answer
+use Rattle.std.specs.Prelude.{None, ◌≡◌, refl, true, false, List, [], ◌∷◌, ℕ, ◌+◌, ◌≤◌, ◌<◌, eqb, ltb, ℤ, length, take, drop, get_or}
 use Rattle.std.proofs.Math.Path.{sym, ap}
 use Rattle.std.proofs.Common.{◌∙◌, arith, length-take, length-drop, lt-ltb, ne_eqb}
 use Rattle.std.proofs.Math.Option.{Option, some, none}
@@ -11,8 +12,6 @@ use Rattle.rights.specs.declared.Writer.{Writer}
 use Rattle.text.specs.Words.{same_bytes}
 use Rattle.formatting.specs.Ascii.{ascii}
 use Rattle.writer_lines.specs.Writers.{long_word}
-use Rattle.writer_lines.specs.declared.ParsedWriter.{ParsedWriter}
-use Rattle.writer_lines.specs.declared.ParsedWriter.TheVariants as who
 use Rattle.controller.specs.declared.Controller.{Controller}
 use Rattle.terminal.specs.Commands.{is_word, unsigned, value_of, writing, command_of, command_by, command_in}
 use Rattle.terminal.specs.MnemonicLaws.{search_begins}
@@ -21,8 +20,6 @@ use Rattle.terminal.specs.Terminal.{answered, answered_to}
 use Rattle.terminal.specs.Commands.{Command, NoMnemonic, NoValue}
 use Rattle.handheld.specs.Plant.{pins_from, pins_in, outcome_for}
 use Rattle.handheld.specs.Sessions.{with_writer, who_in, typed_outcome}
-use Rattle.handheld.specs.declared.plant.PlantLine.{PlantLine}
-use Rattle.handheld.specs.declared.plant.PlantLine.TheVariants.{Terminal}
 use Rattle.handheld.specs.declared.session.Session.{Session}
 
 -- ---- too long for a value
@@ -75,20 +72,20 @@ same_name (a ∷ b ∷ line) h =
 -- ---- no line of the program's own is so long
 
 -- none that brings pins
-no_pins : (line : List ℕ) → 24 < length line → pins_in line ≡ Terminal
+no_pins : (line : List ℕ) → 24 < length line → pins_in line ≡ None
 unfolding pins_in pins_from number_of parsed_number
 no_pins line h =
     rw (long_integer 18 (drop 5 line) (omega (arith, length-drop 5 line)))
-    (by_cases (λ (o : PlantLine). o ≡ Terminal) (ltb (length line) 5) Terminal _ (λ e. refl)
-    (λ e. by_cases (λ (o : PlantLine). o ≡ Terminal) (same_bytes (take 5 line) (ascii "pins ")) Terminal Terminal (λ _. refl) (λ _. refl)))
+    (by_cases (λ (o : answer.Option ℕ). o ≡ None) (ltb (length line) 5) None _ (λ e. refl)
+    (λ e. by_cases (λ (o : answer.Option ℕ). o ≡ None) (same_bytes (take 5 line) (ascii "pins ")) None None (λ _. refl) (λ _. refl)))
 
 -- nor one that says who types
-no_who : (line : List ℕ) → 12 < length line → who_in line ≡ who.Malformed
+no_who : (line : List ℕ) → 12 < length line → who_in line ≡ None
 unfolding who_in
 no_who line h =
     rw (long_word (drop 4 line) (omega (arith, length-drop 4 line)))
-    (by_cases (λ (o : ParsedWriter). o ≡ who.Malformed) (ltb (length line) 4) who.Malformed _ (λ e. refl)
-    (λ e. by_cases (λ (o : ParsedWriter). o ≡ who.Malformed) (same_bytes (take 4 line) (ascii "who ")) who.Malformed who.Malformed
+    (by_cases (λ (o : answer.Option Writer). o ≡ None) (ltb (length line) 4) None _ (λ e. refl)
+    (λ e. by_cases (λ (o : answer.Option Writer). o ≡ None) (same_bytes (take 4 line) (ascii "who ")) None None
     (λ _. refl) (λ _. refl)))
 
 -- ---- the 301 bytes that the line buffer keeps of a longer line

@@ -1,10 +1,8 @@
 -- What comes of a line that is the terminal's, or brings the plant's pins, `pins N`.
-use Rattle.std.specs.Prelude.{List, ◌++◌, ℕ, ◌+◌, ◌-◌, ◌^◌, leb, ltb, length, take, drop, if◌then◌else◌, None, Some}
+use Rattle.std.specs.Prelude.{List, ◌++◌, ℕ, ◌+◌, ◌-◌, ◌^◌, leb, ltb, length, take, drop, if◌then◌else◌, ℤ, Option, None, Some}
 use Rattle.numerals.specs.Parsed.{number_of}
-use Rattle.numerals.specs.declared.ParsedNumber.{ParsedNumber}
-use Rattle.numerals.specs.declared.ParsedNumber.TheVariants.{Number, Malformed}
 use Rattle.signals.specs.Clock.{ClockReading}
-use Rattle.text.specs.Arguments.{natural_in}
+use Rattle.text.specs.Arguments.{given, natural_in}
 use Rattle.text.specs.Words.{same_bytes}
 use Rattle.formatting.specs.Ascii.{ascii}
 use Rattle.rights.specs.declared.Writer.{Writer}
@@ -13,20 +11,17 @@ use Rattle.controller.specs.Answers as answers
 use Rattle.controller.specs.Scan.{scan}
 use Rattle.controller.specs.declared.Controller.{Controller}
 use Rattle.terminal.specs.Terminal.{LineOutcome, reply, number, answered}
-use Rattle.handheld.specs.declared.plant.PlantLine.{PlantLine}
-use Rattle.handheld.specs.declared.plant.PlantLine.TheVariants.{Pins, Terminal}
 
 -- ---- `pins`, one blank and a number from 0 to 255
 
-unfoldable pub pins_from : ParsedNumber → PlantLine
-pins_from (Number v) = let pins = natural_in v 0 255 in if pins.ok then Pins pins.value else Terminal
-pins_from Malformed = Terminal
+unfoldable pub pins_from : Option ℤ → Option ℕ
+pins_from read = given read (λ v. natural_in v 0 255)
 
 -- any other line is the terminal's
-unfoldable pub pins_in : List ℕ → PlantLine
+unfoldable pub pins_in : List ℕ → Option ℕ
 pins_in line =
-    if ltb (length line) 5 then Terminal else
-    if same_bytes (take 5 line) (ascii "pins ") then pins_from (number_of 18 (drop 5 line)) else Terminal
+    if ltb (length line) 5 then None else
+    if same_bytes (take 5 line) (ascii "pins ") then pins_from (number_of 18 (drop 5 line)) else None
 
 -- ---- the scan
 
@@ -56,9 +51,9 @@ scan_outcome c pins bytes = let r = scan c (scan_input c.core.clock pins) in out
 -- ---- the whole
 
 -- a line of the terminal's carries the writer; the plant's pins need none
-abbrev pub outcome_of_line : PlantLine → Controller → Writer → List ℕ → List ℕ → LineOutcome
-outcome_of_line (Pins pins) c w line bytes = scan_outcome c pins bytes
-outcome_of_line Terminal c w line bytes = answered c w line bytes
+abbrev pub outcome_of_line : Option ℕ → Controller → Writer → List ℕ → List ℕ → LineOutcome
+outcome_of_line (Some pins) c w line bytes = scan_outcome c pins bytes
+outcome_of_line None c w line bytes = answered c w line bytes
 
 unfoldable pub outcome_for : Controller → Writer → List ℕ → List ℕ → LineOutcome
 outcome_for c w line bytes = outcome_of_line (pins_in line) c w line bytes

@@ -1,17 +1,13 @@
 -- Laws of the plant's and the terminal's lines: the next controller is valid, and the two letters of an answer.
-use Rattle.std.specs.Prelude.{◌≡◌, refl, List, [], ◌∷◌, ℕ, ◌≤◌, true, false, ℤ, length, drop, set}
+use Rattle.std.specs.Prelude.{◌≡◌, refl, List, [], ◌∷◌, ℕ, ◌≤◌, Option, Some, None, length, drop, set}
 use Rattle.std.proofs.Common.{arith}
-use Rattle.numerals.specs.declared.ParsedNumber.TheVariants.{Number}
-use Rattle.text.specs.Arguments.{natural_in}
 use Rattle.rights.specs.declared.Writer.{Writer}
 use Rattle.controller.specs.Answers as answers
 use Rattle.controller.specs.Valid.{Valid}
 use Rattle.controller.specs.ValidLaws.{valid_scan}
 use Rattle.controller.specs.declared.Controller.{Controller}
 use Rattle.terminal.specs.TerminalLaws.{valid_line}
-use Rattle.handheld.specs.Plant.{pins_from, pins_in, scan_input, outcome_by, scan_outcome, outcome_of_line, outcome_for}
-use Rattle.handheld.specs.declared.plant.PlantLine.{PlantLine}
-use Rattle.handheld.specs.declared.plant.PlantLine.TheVariants.{Pins, Terminal}
+use Rattle.handheld.specs.Plant.{pins_in, scan_input, outcome_by, scan_outcome, outcome_of_line, outcome_for}
 
 next_by : (c : Controller) (r : answers.Reply) (bytes : List ℕ) → (outcome_by c r bytes).next ≡ c
 unfolding outcome_by
@@ -21,11 +17,11 @@ next_by c (answers.reading v) bytes = refl
 next_by c answers.acceptance bytes = refl
 
 module _ (c : Controller) (w : Writer) (line bytes : List ℕ) (valid : Valid c) where
-  valid_of : (own : PlantLine) → Valid (outcome_of_line own c w line bytes).next
+  valid_of : (own : Option ℕ) → Valid (outcome_of_line own c w line bytes).next
   unfolding scan_outcome
-  valid_of (Pins pins) =
+  valid_of (Some pins) =
       rw (next_by _ _ bytes) (valid_scan c (scan_input c.core.clock pins) valid)
-  valid_of Terminal = valid_line c w line bytes valid
+  valid_of None = valid_line c w line bytes valid
 
   pub valid_outcome : Valid (outcome_for c w line bytes).next
   unfolding outcome_for
@@ -36,14 +32,3 @@ pub two_set : (a b : ℕ) (l : List ℕ) → 2 ≤ length l → set (set l 0 a) 
 two_set a b [] h = absurd (omega arith)
 two_set a b (x ∷ []) h = absurd (omega arith)
 two_set a b (x ∷ y ∷ l) h = refl
-
--- ---- a number read, within eight bits or not
-
-module _ (v : ℤ) where
-  pub pins_taken : (natural_in v 0 255).ok ≡ true → pins_from (Number v) ≡ Pins (natural_in v 0 255).value
-  unfolding pins_from
-  pins_taken e = simp e
-
-  pub pins_left : (natural_in v 0 255).ok ≡ false → pins_from (Number v) ≡ Terminal
-  unfolding pins_from
-  pins_left e = simp e

@@ -2,49 +2,23 @@
 ghost use Rattle.std.specs.Prelude.{◌≡◌, ◌≤◌, length};
 ghost use Rattle.controller.specs.Valid.{Valid};
 ghost use Rattle.terminal.specs.Terminal.{outcome_of};
-ghost use Rattle.handheld.specs.Plant.{pins_from, pins_in, reading_after, scan_input, scan_outcome, outcome_for};
+ghost use Rattle.handheld.specs.Plant.{pins_in, reading_after, scan_input, scan_outcome, outcome_for};
 
 use controller::Controller;
-use numerals::ParsedNumber;
 use rights::Writer;
 use signals::Input;
 use terminal::LineResult;
 
-#[derive(Clone, Copy)]
-pub enum PlantLine {
-    Pins(u8),
-    Terminal,
-}
-
-// The contract rules out a number beyond eight bits.
-fn pins_from(reading: ParsedNumber) -> PlantLine
-    ensures { result ≡ pins_from reading }
-{
-    match reading {
-        ParsedNumber::Number(value) => {
-            let pins = text::arguments::natural_in(value, 0, 255);
-            if pins.ok {
-                PlantLine::Pins(pins.value as u8)
-            } else {
-                PlantLine::Terminal
-            }
-        }
-        ParsedNumber::Malformed => PlantLine::Terminal,
-    }
-}
-
 // `pins`, one blank and a number from 0 to 255; any other line is the terminal's. The contract rules out one of the
-// terminal's that is taken.
-fn parse(line: &[u8]) -> PlantLine
+// terminal's that is taken, and a number beyond eight bits.
+#[tactic(auto, unfolding(crate::specs::Plant::pins_in, crate::specs::Plant::pins_from, text::specs::Arguments::natural_in),
+    using(text::specs::Words::same_pointwise))]
+fn parse(line: &[u8]) -> Option<u8>
     ensures { result ≡ pins_in line.now }
 {
-    if line.len() < 5 {
-        return PlantLine::Terminal;
-    }
-    if text::same(&line[0..5], b"pins ") {
-        return pins_from(numerals::number(&line[5..], 18));
-    }
-    PlantLine::Terminal
+    let digits = line.strip_prefix(b"pins ".as_slice())?;
+    let pins = numerals::number(digits, 18)?;
+    u8::try_from(pins).ok()
 }
 
 // 36 ms after the last scan; the first at 36. At the end of 64 bits the clock stands still.
@@ -101,13 +75,13 @@ fn scan(controller: Controller, pins: u8, reply: &mut [u8]) -> LineResult
 
 // What comes of a writer's line that is the terminal's or the plant's. The contract rules out a line of the terminal's
 // that makes a scan, and the other way round; and a line of the terminal's with another writer.
+#[tactic(auto, unfolding(crate::specs::Plant::outcome_for))]
 pub fn answer(controller: Controller, writer: Writer, line: &[u8], reply: &mut [u8]) -> LineResult
     requires { Valid controller × (2 ≤ length reply.old) }
     ensures { outcome_of result reply.new ≡ outcome_for controller writer line.now reply.old }
 {
-    let own = parse(line);
-    match own {
-        PlantLine::Pins(pins) => scan(controller, pins, reply),
-        PlantLine::Terminal => terminal::answer(controller, writer, line, reply),
+    match parse(line) {
+        Some(pins) => scan(controller, pins, reply),
+        None => terminal::answer(controller, writer, line, reply),
     }
 }

@@ -6,7 +6,6 @@ ghost use Rattle.handheld.specs.Sessions.{first_session, session_outcome_of, typ
 use controller::Controller;
 use rights::Writer;
 use signals::Refusal;
-use writer_lines::ParsedWriter;
 
 // The controller, and who types.
 #[derive(Clone, Copy)]
@@ -35,19 +34,19 @@ pub fn first() -> Session
 // What comes of a line that is typed. The contract gives the next controller, who types from then on, the answer and
 // every byte of the reply buffer, so it rules out that the writer changes but by a line that says so, that such a line
 // changes the controller, and a line of the terminal's that carries another writer than the one who is there.
+#[tactic(auto, unfolding(crate::specs::Sessions::typed_outcome))]
 pub fn answer(session: Session, line: &[u8], reply: &mut [u8]) -> SessionResult
     requires { Valid session.controller × (2 ≤ length reply.old) }
     ensures { session_outcome_of result reply.new ≡ typed_outcome session line.now reply.old }
 {
     let controller = session.controller;
     let there = session.writer;
-    let who = crate::who::parse(line);
-    match who {
-        ParsedWriter::Writer(writer) => SessionResult {
+    match crate::who::parse(line) {
+        Some(writer) => SessionResult {
             session: Session { controller, writer },
             answer: Ok(crate::ok::write(reply)),
         },
-        ParsedWriter::Malformed => {
+        None => {
             let r = crate::plant::answer(controller, there, line, reply);
             SessionResult {
                 session: Session {
