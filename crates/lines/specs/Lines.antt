@@ -44,8 +44,8 @@ pub record Advanced (place : Reading) (before : Buffer) (r : Reading) (after : B
   pub pending : r.unread ≡ rest_of place.unread
   pub more : r.more ≡ place.more
 
--- A read hands over some bytes: the first of those that the reader had, where they are known. The input goes on if there
--- are any.
+-- A read hands over some bytes: the first of those that the reader had, where they are known. The input goes on if
+-- there are any.
 pub record Refilled (had left : Option (List ℕ)) (r : Reading) : Type 0 where
   pub taken : Consumes had left r.unread
   pub more : r.more ≡ ltb 0 (length r.unread)

@@ -27,15 +27,18 @@ abbrev pub before_feed : List ℕ → ℕ
 before_feed bytes = position_or_len (λ b. eqb b 10) bytes
 
 module _ (b : ℕ) (bs : List ℕ) where
-  before : (feed : Bool) → line_of bs ≡ take (before_feed bs) bs → cond feed [] (b ∷ line_of bs) ≡ take (cond (not feed) (1 + before_feed bs) 0) (b ∷ bs)
+  before : (feed : Bool) → line_of bs ≡ take (before_feed bs) bs
+      → cond feed [] (b ∷ line_of bs) ≡ take (cond (not feed) (1 + before_feed bs) 0) (b ∷ bs)
   before true e = refl
   before false e = grind (arith, common_steps)
 
-  ended : (feed : Bool) → has_end bs ≡ ltb (before_feed bs) (length bs) → cond feed true (has_end bs) ≡ ltb (cond (not feed) (1 + before_feed bs) 0) (length (b ∷ bs))
+  ended : (feed : Bool) → has_end bs ≡ ltb (before_feed bs) (length bs)
+      → cond feed true (has_end bs) ≡ ltb (cond (not feed) (1 + before_feed bs) 0) (length (b ∷ bs))
   ended true e = grind (arith, common_steps)
   ended false e = grind (arith, common_steps)
 
-  behind : (feed : Bool) → rest_of bs ≡ drop (before_feed bs + 1) bs → cond feed bs (rest_of bs) ≡ drop (cond (not feed) (1 + before_feed bs) 0 + 1) (b ∷ bs)
+  behind : (feed : Bool) → rest_of bs ≡ drop (before_feed bs + 1) bs
+      → cond feed bs (rest_of bs) ≡ drop (cond (not feed) (1 + before_feed bs) 0 + 1) (b ∷ bs)
   behind true e = grind (arith, common_steps)
   behind false e = grind (arith, common_steps)
 

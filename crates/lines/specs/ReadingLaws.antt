@@ -141,8 +141,8 @@ and_true : (t : Bool) → t && true ≡ t
 and_true true = refl
 and_true false = refl
 
-module _ (had : Option (List ℕ)) (place p : Reading) (before line out : Buffer) (found : Bool) (a : Advanced place (emptied before) p line found)
-  where
+module _ (had : Option (List ℕ)) (place p : Reading) (before line out : Buffer) (found : Bool)
+    (a : Advanced place (emptied before) p line found) where
   -- it was pending
   pub next_pending : found ≡ true → NextLine had had place p before line out out true
   unfolding reads

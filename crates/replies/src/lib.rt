@@ -37,6 +37,8 @@ pub enum Reply {
 }
 
 // A blank and a number.
+#[tactic(auto, using(formatting::specs::Laws::append_append),
+    unfolding(formatting::specs::Buffer::append_all, crate::specs::Replies::spaced))]
 fn append_spaced<const N: usize>(out: &mut Text<N>, number: u64)
     ensures { out.new ≡ append_all out.old (spaced number) }
 {
@@ -67,6 +69,8 @@ fn append_answer<const N: usize>(out: &mut Text<N>, values: ScanValues)
 }
 
 // A refusal and its number.
+#[tactic(auto, using(formatting::specs::Laws::append_append),
+    unfolding(formatting::specs::Buffer::append_all, crate::specs::Replies::refused_text))]
 fn append_refused<const N: usize>(out: &mut Text<N>, number: u8)
     ensures { out.new ≡ append_all out.old (refused_text number) }
 {
@@ -96,6 +100,8 @@ fn append_clock<const N: usize>(out: &mut Text<N>, reading: Option<u64>)
 }
 
 // The image that was saved: the first 137 bytes.
+#[tactic(auto, using(formatting::specs::Laws::append_append),
+    unfolding(formatting::specs::Buffer::append_all, crate::specs::Replies::image_text))]
 fn append_image<const N: usize>(out: &mut Text<N>, saved: &[u8])
     ensures { out.new ≡ append_all out.old (image_text saved.now) }
 {
@@ -104,6 +110,8 @@ fn append_image<const N: usize>(out: &mut Text<N>, saved: &[u8])
 }
 
 // The terminal's reply: its length and its bytes. The contract rules out a length that isn't that of the bytes.
+#[tactic(auto, using(formatting::specs::Laws::append_append),
+    unfolding(formatting::specs::Buffer::append_all, crate::specs::Replies::line_text))]
 fn append_line<const N: usize>(out: &mut Text<N>, count: usize, saved: &[u8])
     ensures { out.new ≡ append_all out.old (line_text count saved.now) }
 {
