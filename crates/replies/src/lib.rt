@@ -47,6 +47,8 @@ fn append_spaced<const N: usize>(out: &mut Text<N>, number: u64)
 }
 
 // The words of an answer. The contract rules out two that are exchanged.
+#[tactic(auto, using(formatting::specs::Laws::append_append),
+    unfolding(formatting::specs::Buffer::append_all, crate::specs::Replies::words_text))]
 fn append_words<const N: usize>(out: &mut Text<N>, values: ScanValues)
     ensures { (out.new ≡ append_all out.old (words_text values)) × WordsRange values }
 {
@@ -58,6 +60,8 @@ fn append_words<const N: usize>(out: &mut Text<N>, values: ScanValues)
 }
 
 // What an accepted scan answers. The contract rules out another mode's word, and a sign of PV that is lost.
+#[tactic(auto, using(formatting::specs::Laws::append_append),
+    unfolding(formatting::specs::Buffer::append_all, crate::specs::Replies::answer_text))]
 fn append_answer<const N: usize>(out: &mut Text<N>, values: ScanValues)
     ensures { (out.new ≡ append_all out.old (answer_text values)) × AnswerRange values }
 {
@@ -79,6 +83,8 @@ fn append_refused<const N: usize>(out: &mut Text<N>, number: u8)
 }
 
 // A parameter's value. The contract rules out a sign that is lost.
+#[tactic(auto, using(formatting::specs::Laws::append_append),
+    unfolding(formatting::specs::Buffer::append_all, crate::specs::Replies::value_text))]
 fn append_value<const N: usize>(out: &mut Text<N>, v: i32)
     ensures { out.new ≡ append_all out.old (value_text v) }
 {
@@ -87,6 +93,8 @@ fn append_value<const N: usize>(out: &mut Text<N>, v: i32)
 }
 
 // A reading of the clock. The contract rules out a number where there is no reading.
+#[tactic(auto, using(formatting::specs::Laws::append_append),
+    unfolding(formatting::specs::Buffer::append_all, crate::specs::Replies::clock_text))]
 fn append_clock<const N: usize>(out: &mut Text<N>, reading: Option<u64>)
     ensures { (out.new ≡ append_all out.old (clock_text reading)) × ReadingRange reading }
 {
@@ -123,6 +131,8 @@ fn append_line<const N: usize>(out: &mut Text<N>, count: usize, saved: &[u8])
 
 // What a reply's line has before its end. The contract also says that the reply's numbers are such as its types hold,
 // so that a caller knows how long the line is.
+#[tactic(auto, using(formatting::specs::Laws::append_append),
+    unfolding(formatting::specs::Buffer::append_all, crate::specs::Replies::reply_text))]
 fn append_text<const N: usize>(out: &mut Text<N>, reply: Reply, saved: &[u8], sheet: Sheet)
     ensures { (out.new ≡ append_all out.old (reply_text reply saved.now sheet)) × InRange reply sheet }
 {
@@ -144,6 +154,8 @@ fn append_text<const N: usize>(out: &mut Text<N>, reply: Reply, saved: &[u8], sh
 
 // The line of a reply; `saved` is the buffer that a save or the terminal wrote into. The contract rules out the line of
 // another reply, and one with no end.
+#[tactic(auto, using(formatting::specs::Laws::append_append),
+    unfolding(formatting::specs::Buffer::append_all, crate::specs::Replies::reply_line))]
 pub fn append_reply<const N: usize>(out: &mut Text<N>, reply: Reply, saved: &[u8], sheet: Sheet)
     ensures { (out.new ≡ append_all out.old (reply_line reply saved.now sheet)) × InRange reply sheet }
 {
