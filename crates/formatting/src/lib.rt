@@ -67,6 +67,7 @@ impl<const N: usize> Text<N> {
     }
 
     // One byte. The contract rules out a byte written past those used, and a count that is off by one.
+    #[tactic(auto, unfolding(crate::specs::Buffer::append, crate::specs::Buffer::append_all))]
     pub fn push(&mut self, byte: u8)
         ensures { self.new ≡ append_all self.old (byte ∷ []) }
     {
@@ -96,6 +97,7 @@ impl<const N: usize> Text<N> {
     }
 
     // A natural number in decimal. The contract rules out a leading zero and a digit that is wrong.
+    #[tactic(auto, unfolding(numerals::specs::Numerals::digits))]
     pub fn push_decimal(&mut self, number: u64)
         ensures { self.new ≡ append_all self.old (digits number) }
     {
