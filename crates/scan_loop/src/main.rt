@@ -1,6 +1,6 @@
 // A host's loop, in which every call that returns a controller or a sheet is made; both stand in a struct. What is done
-// in a turn stands in functions whose contracts say that the controller is Valid before and after it; of a sheet its type
-// says so. They need no proof file; the loop alone has one (proofs/dry/Invariants.antt).
+// in a turn stands in functions whose contracts say that the controller is Valid before and after it; of a sheet its
+// type says so. They need no proof file; the loop alone has one (proofs/dry/Invariants.antt).
 #![tactic(auto)]
 
 ghost use Rattle.controller.specs.Valid.{Valid};
