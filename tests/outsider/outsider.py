@@ -26,14 +26,13 @@ PROGRAM = """#![tactic(auto)]
 use controller::{Controller, Core};
 use parameters::Parameters;
 use sheet::{Sheet, SheetValues};
-use signals::clock::ClockReading;
 
 pub fn forged(
     mut core: Core,
     mut parameters: Parameters,
     output: i64,
     values: SheetValues,
-    reading: ClockReading,
+    reading: Option<u64>,
 ) -> Controller {
     let mut controller = Controller::fresh(0);
     let mut sheet = Sheet::empty();
@@ -45,10 +44,9 @@ pub fn forged(
 TYPES = """#![tactic(auto)]
 
 use answers::ScanValues;
-use controller::{CallResult, Controller, ReadAnswer};
+use controller::{CallResult, Controller};
 use modes::Mode;
 use rights::Writer;
-use signals::clock::ClockReading;
 use signals::{Input, Refusal};
 
 pub fn started(sw: u16) -> Controller {
@@ -82,20 +80,16 @@ pub fn written(writer: Writer, number: u64, value: i32) -> CallResult {
     Controller::fresh(0).write(writer, number, value)
 }
 
-pub fn read(number: u64) -> ReadAnswer {
+pub fn read(number: u64) -> Result<i32, Refusal> {
     Controller::fresh(0).read(number)
 }
 
-pub fn answer(value: i32) -> ReadAnswer {
-    ReadAnswer::Value(value)
-}
-
-pub fn reading_at(milliseconds: u64) -> ClockReading {
-    ClockReading::At(milliseconds)
+pub fn last_reading(controller: Controller) -> Option<u64> {
+    controller.last_reading()
 }
 
 pub fn number(refusal: Refusal) -> u8 {
-    refusal.number()
+    u8::from(refusal)
 }
 """
 # The line, one of them over several, and the compiler's word for its cause

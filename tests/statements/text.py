@@ -9,11 +9,10 @@ MODES = {"Hold": "Hold", "Track": "Track", "Forced Manual": "Forced", "Manual": 
          "Ratio": "Ratio", "Fall-back": "Fallback"}
 HEAD = '''-- Calls of a reference model that was made apart from the rules, stated of the rules; proofs/ModelCalls.antt proves
 -- them. Made by tests/statements/calls.py, which the gate compares with this file.
-use Rattle.std.specs.Prelude.{Bool, true, false, List, [], ◌∷◌, ◌≡◌, ℕ, ℤ, pos, neg_ℤ, replicate}
+use Rattle.std.specs.Prelude.{Bool, true, false, List, [], ◌∷◌, ◌≡◌, ℕ, ℤ, pos, neg_ℤ, replicate, None, Some}
+use Rattle.signals.specs.Clock.{ClockReading}
 use Rattle.signals.specs.Refusals.{refused_by}
 use Rattle.signals.specs.declared.Input.{Input}
-use Rattle.signals.specs.declared.clock.ClockReading.{ClockReading}
-use Rattle.signals.specs.declared.clock.ClockReading.TheVariants.{None, At}
 use Rattle.fields.specs.Fields.{save_tests, saved_in}
 use Rattle.modes.specs.declared.Mode.TheVariants.{Hold, Track, Forced, Remote, Ratio, Fallback}
 use Rattle.modes.specs.declared.Request.{Request}
@@ -105,7 +104,7 @@ def history_text(controller):
 
 
 def clock_text(controller):
-    return "None" if controller.clock is None else f"(At {controller.clock})"
+    return "None" if controller.clock is None else f"(Some {controller.clock})"
 
 
 def state_text(controller):

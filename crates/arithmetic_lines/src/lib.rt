@@ -41,7 +41,7 @@ fn signed_at(values: [i64; 6], place: usize, most: u64) -> Signed
     ensures { (result ≡ signed_in (argument values place) most) × (nat_abs result.value ≤ most) }
 {
     let value = values[place];
-    let size = integers::magnitude(value);
+    let size = value.unsigned_abs();
     if most < size {
         return Signed {
             ok: false,

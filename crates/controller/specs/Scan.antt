@@ -1,12 +1,11 @@
 -- Document 01, One scan, whole, with document 02's clock: the next state but for the output, the answer but for OP and
 -- electrical output, and an instruction for the output. These stand once, for our controller and for the exact one.
 use Rattle.std.proofs.Math.Option.{Option, some, none}
-use Rattle.std.specs.Prelude.{ℕ, ℤ}
+use Rattle.std.specs.Prelude.{ℕ, ℤ, Some}
 use Rattle.signals.specs.Clock.{is_after_gap}
 use Rattle.signals.specs.Refusals.{refused_by, scan_tests}
 use Rattle.signals.specs.Signals.{switches_of, is_open, battery_low}
 use Rattle.signals.specs.declared.Input.{Input}
-use Rattle.signals.specs.declared.clock.ClockReading.TheVariants.{At}
 use Rattle.modes.specs.Modes.{counted, conditions_after, mode_of, goes_to_minimum}
 use Rattle.modes.specs.declared.Conditions.{Conditions}
 use Rattle.modes.specs.declared.Mode.{Mode}
@@ -71,7 +70,7 @@ core_after c earlier after x r =
       readings = r.readings;
       indications = indications_after c x r.readings;
       history = history_after earlier (is_open x.input) r.readings;
-      clock = At x.input.milliseconds;
+      clock = Some x.input.milliseconds;
     }
 
 -- ---- the whole

@@ -1,6 +1,5 @@
 -- Document 01: what a fresh start and a restart leave, and the fresh controller.
-use Rattle.std.specs.Prelude.{Bool, false, ℕ, pos, ◌-ℤ◌}
-use Rattle.signals.specs.declared.clock.ClockReading.TheVariants.{None}
+use Rattle.std.specs.Prelude.{Bool, false, ℕ, pos, ◌-ℤ◌, None}
 use Rattle.modes.specs.declared.Conditions.{Conditions}
 use Rattle.modes.specs.declared.Request.{Request}
 use Rattle.modes.specs.declared.Request.TheVariants.{Manual}

@@ -10,7 +10,7 @@ use Rattle.integers.specs.Parts.{integers}
 use Rattle.signals.specs.Refusals.{refused_by, scan_tests}
 use Rattle.signals.specs.Signals.{is_open}
 use Rattle.signals.specs.declared.Input.{Input}
-use Rattle.signals.specs.declared.clock.ClockReading.{ClockReading}
+use Rattle.signals.specs.Clock.{ClockReading}
 use Rattle.modes.specs.Modes.{counted, conditions_after}
 use Rattle.parameters.specs.Legal.{Legal}
 use Rattle.parameters.specs.LegalLaws.{defaults_legal}

@@ -14,8 +14,7 @@ use modes::{Conditions, Mode, Request};
 use outputs::History;
 use parameters::Parameters;
 use setpoints::Readings;
-use signals::clock::ClockReading;
-use signals::{Refusal, Verdict};
+use signals::Refusal;
 use words::{Indications, UserBits};
 
 mod read;
@@ -38,7 +37,7 @@ pub struct Core {
     readings: Readings,
     indications: Indications,
     history: History,
-    clock: ClockReading,
+    clock: Option<u64>,
 }
 
 // The output is a whole number of 1/65,536 units. "Each call takes the controller and hands back the next one": the
@@ -49,29 +48,18 @@ pub struct Controller {
     output: i64,
 }
 
-#[derive(Clone, Copy)]
-pub enum Answer {
-    Accepted(ScanValues),
-    Refused(Refusal),
-}
-
+// What a scan returns: "Each call takes the controller and hands back the next one", after a refusal too.
 #[derive(Clone, Copy)]
 pub struct ScanResult {
     pub controller: Controller,
-    pub answer: Answer,
+    pub answer: Result<ScanValues, Refusal>,
 }
 
 // What a write or a restart returns.
 #[derive(Clone, Copy)]
 pub struct CallResult {
     pub controller: Controller,
-    pub verdict: Verdict,
-}
-
-#[derive(Clone, Copy)]
-pub enum ReadAnswer {
-    Value(i32),
-    Refused(Refusal),
+    pub verdict: Result<(), Refusal>,
 }
 
 // The pin byte before the first scan: the Hold pin high, the others low.
@@ -125,7 +113,7 @@ fn start_core(
             highalarm: false,
         },
         history: History::Nothing,
-        clock: ClockReading::None,
+        clock: None,
     }
 }
 
@@ -199,7 +187,7 @@ impl Controller {
     // The reading of the last accepted scan, or none since a fresh start or a restart: a scan is refused before 30 ms
     // have gone by since, and forgets earlier scans after more than 42. The contract rules out a reading that was
     // refused.
-    pub fn last_reading(self) -> ClockReading
+    pub fn last_reading(self) -> Option<u64>
         ensures { result ≡ self.core.clock }
     {
         let core = self.core;

@@ -6,8 +6,8 @@ ghost use Rattle.controller.specs.Answers.{op_of, reply_of_read};
 ghost use Rattle.controller.specs.Read.{value_in, read};
 ghost use Rattle.controller.specs.Valid.{Valid};
 
-use crate::{Controller, Core, ReadAnswer};
-use signals::Verdict;
+use crate::{Controller, Core};
+use signals::Refusal;
 
 impl Core {
     fn parameter(self, number: u64) -> i32
@@ -48,15 +48,11 @@ impl Controller {
     // The value of a parameter in its own units, or the refusal that the table names for a number outside
     // it, the only one of a read. The contract rules out a neighbour's value, a word of an earlier state, and
     // any other refusal; nothing changes, since no controller is returned.
-    pub fn read(self, number: u64) -> ReadAnswer
+    pub fn read(self, number: u64) -> Result<i32, Refusal>
         requires { Valid self }
         ensures { reply_of_read result ≡ read self number }
     {
-        let rule = Controller::rule(number);
-        let unknown = rule.unknown_verdict();
-        match unknown {
-            Verdict::Refused(refusal) => ReadAnswer::Refused(refusal),
-            Verdict::Accepted => ReadAnswer::Value(self.value(number)),
-        }
+        Controller::rule(number).unknown_verdict()?;
+        Ok(self.value(number))
     }
 }

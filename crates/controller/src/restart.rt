@@ -10,7 +10,7 @@ ghost use Rattle.controller.specs.Valid.{Valid};
 use crate::{CallResult, Controller};
 use modes::Request;
 use settings::Settings;
-use signals::{Refusal, Verdict};
+use signals::Refusal;
 
 // Whether all values are legal.
 fn is_legal(values: [u16; fields::FIELD_COUNT]) -> bool
@@ -22,21 +22,21 @@ fn is_legal(values: [u16; fields::FIELD_COUNT]) -> bool
 
 // Whether an image is accepted. The contract rules out a refusal for another cause, one that is
 // forgotten, and a higher number where a lower one applies.
-fn restart_verdict(image: &[u8]) -> Verdict
+fn restart_verdict(image: &[u8]) -> Result<(), Refusal>
     ensures { number_in result ≡ refused_by (restart_tests image.now) }
 {
     if image.len() != fields::IMAGE_LENGTH {
-        return Verdict::Refused(Refusal::ImageLength);
+        return Err(Refusal::ImageLength);
     }
     if !fields::decoding::is_well_formed(image) {
-        return Verdict::Refused(Refusal::ImageField);
+        return Err(Refusal::ImageField);
     }
     let values = fields::decoding::values_of(image);
     let illegal = settings::decoding::is_sum_right(values) & !is_legal(values);
     if illegal {
-        return Verdict::Refused(Refusal::ImageValue);
+        return Err(Refusal::ImageValue);
     }
-    Verdict::Accepted
+    Ok(())
 }
 
 // What is taken under a wrong sumcheck.
@@ -107,19 +107,13 @@ impl Controller {
         ensures { (response_of_verdict result ≡ restart self image.now) × Valid result.controller }
     {
         let verdict = restart_verdict(image);
-        match verdict {
-            Verdict::Refused(refusal) => CallResult {
-                controller: self,
-                verdict: Verdict::Refused(refusal),
-            },
-            Verdict::Accepted => {
-                let values = fields::decoding::values_of(image);
-                let controller = self.restarted(values);
-                CallResult {
-                    controller,
-                    verdict: Verdict::Accepted,
-                }
-            }
+        let controller = match verdict {
+            Ok(()) => self.restarted(fields::decoding::values_of(image)),
+            Err(_) => self,
+        };
+        CallResult {
+            controller,
+            verdict,
         }
     }
 }

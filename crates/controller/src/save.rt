@@ -8,7 +8,7 @@ ghost use Rattle.controller.specs.Valid.{Valid};
 
 use crate::Controller;
 use settings::Settings;
-use signals::Verdict;
+use signals::Refusal;
 
 impl Controller {
     // What an image of this controller holds.
@@ -35,7 +35,7 @@ impl Controller {
     // behind stay; or refusal 15, and the buffer as it was. The controller doesn't change: a caller keeps
     // the one that it has. The contract gives the verdict and every byte, so it rules out a buffer of 137
     // bytes that is refused, an image of other settings, and a byte behind it that changes.
-    pub fn save(self, buffer: &mut [u8]) -> Verdict
+    pub fn save(self, buffer: &mut [u8]) -> Result<(), Refusal>
         requires { Valid self }
         ensures { (reply_of_verdict result ≡ reply_by (refused_by (save_tests buffer.old)))
             × (buffer.new ≡ saved_in (saved_image self) buffer.old) }

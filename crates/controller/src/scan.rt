@@ -1,6 +1,6 @@
 // One scan: document 01's steps, each a function, and what it answers. What a gap forgets is forgotten before them all.
 // Steps 2 and 3 come first, as the mode decides the others; step 6 comes last, as it needs what step 5 gives.
-ghost use Rattle.std.specs.Prelude.{◌≡◌};
+ghost use Rattle.std.specs.Prelude.{◌≡◌, Ok};
 ghost use Rattle.parameters.specs.Legal.{Legal};
 ghost use Rattle.setpoints.specs.ComputationLaws.{SampleRange};
 ghost use Rattle.controller.specs.Answers.{reply_of, response_of};
@@ -8,13 +8,12 @@ ghost use Rattle.controller.specs.Scan.{context_of, computed_in, indications_aft
 ghost use Rattle.controller.specs.Scan.{status_of, with_output, stepped, scan};
 ghost use Rattle.controller.specs.Valid.{Valid};
 
-use crate::{Answer, Controller, Core, ScanResult};
+use crate::{Controller, Core, ScanResult};
 use answers::ScanValues;
 use modes::Conditions;
 use outputs::{Context, History};
 use setpoints::{Computed, Readings};
-use signals::clock::ClockReading;
-use signals::{Input, Verdict};
+use signals::Input;
 use words::Indications;
 
 impl Core {
@@ -84,7 +83,7 @@ impl Core {
             readings,
             indications,
             history,
-            clock: ClockReading::At(input.milliseconds),
+            clock: Some(input.milliseconds),
         }
     }
 }
@@ -114,9 +113,9 @@ impl Controller {
 
     // MD, DS, OP, electrical output, mode and PV of the present state. The contract rules out a value that is
     // another's, and the mode or PV of before the scan.
-    fn answer(self) -> Answer
+    fn answer(self) -> ScanValues
         requires { Valid self }
-        ensures { reply_of result ≡ with_output (status_of self.core) self.core.sw self.output }
+        ensures { reply_of (Ok result) ≡ with_output (status_of self.core) self.core.sw self.output }
     {
         let core = self.core;
         let md = core.md();
@@ -126,14 +125,14 @@ impl Controller {
         let mode = core.mode();
         let readings = core.readings;
         let pv = integers::narrow(readings.pv);
-        Answer::Accepted(ScanValues {
+        ScanValues {
             md,
             ds,
             op,
             electrical,
             mode,
             pv,
-        })
+        }
     }
 
     // One scan: the next controller and the answer, or the refusal and the controller as it was. The
@@ -144,19 +143,20 @@ impl Controller {
         requires { Valid self }
         ensures { (response_of result ≡ scan self input) × Valid result.controller }
     {
-        let core = self.core;
-        let last = core.clock;
-        let verdict = signals::scan_verdict(last, input);
+        let verdict = signals::scan_verdict(self.core.clock, input);
         match verdict {
-            Verdict::Refused(refusal) => ScanResult {
-                controller: self,
-                answer: Answer::Refused(refusal),
-            },
-            Verdict::Accepted => {
+            Ok(()) => {
                 let controller = self.stepped(input);
-                let answer = controller.answer();
-                ScanResult { controller, answer }
+                let values = controller.answer();
+                ScanResult {
+                    controller,
+                    answer: Ok(values),
+                }
             }
+            Err(refusal) => ScanResult {
+                controller: self,
+                answer: Err(refusal),
+            },
         }
     }
 }

@@ -11,7 +11,7 @@ use crate::{CallResult, Controller, Core};
 use modes::Conditions;
 use parameters::Parameters;
 use rights::Writer;
-use signals::{Refusal, Verdict};
+use signals::Refusal;
 use words::UserBits;
 
 // How many words of 16 bits there are.
@@ -25,20 +25,20 @@ fn word_of(v: i64) -> u16
 
 impl Core {
     // Refusal 8.
-    fn setpoint_verdict(self) -> Verdict
+    fn setpoint_verdict(self) -> Result<(), Refusal>
         ensures { number_in result ≡ refused_by (setpoint_tests self) }
     {
         let s = signals::switches_of(self.sw);
         let mode = self.mode();
         let taken = modes::sets_setpoint(mode, s.setpointtracks);
         if taken {
-            return Verdict::Refused(Refusal::Setpoint);
+            return Err(Refusal::Setpoint);
         }
-        Verdict::Accepted
+        Ok(())
     }
 
     // Refusals 8 to 11, of a value that the table accepts.
-    fn state_verdict(self, number: u64, v: i64) -> Verdict
+    fn state_verdict(self, number: u64, v: i64) -> Result<(), Refusal>
         ensures { number_in result ≡ refused_by (state_tests self number v) }
     {
         let conditions = self.conditions;
@@ -46,28 +46,28 @@ impl Core {
         match number {
             parameters::SL => self.setpoint_verdict(),
             parameters::MD => words::written::md_verdict(conditions, word),
-            _ => Verdict::Accepted,
+            _ => Ok(()),
         }
     }
 
     // Refusals 6 to 11. The contract rules out a refusal for another cause, one that is forgotten, and a higher number
     // where a lower one applies.
-    fn value_verdict(self, number: u64, v: i64) -> Verdict
+    fn value_verdict(self, number: u64, v: i64) -> Result<(), Refusal>
         ensures { number_in result ≡ refused_by (value_tests self number v) }
     {
         let p = self.parameters;
         let rule = Controller::rule(number);
         if !rule.in_range(p, v) {
-            return Verdict::Refused(Refusal::Range);
+            return Err(Refusal::Range);
         }
         if !rule.pair_in_order(p, number, v) {
-            return Verdict::Refused(Refusal::Pair);
+            return Err(Refusal::Pair);
         }
         self.state_verdict(number, v)
     }
 
     // Refusals 4, 19, 20 and 5, by the stored pin byte. The contract rules out another byte.
-    fn access(self, writer: Writer, number: u64) -> Verdict
+    fn access(self, writer: Writer, number: u64) -> Result<(), Refusal>
         ensures { number_in result ≡ refused_by (access_now self writer number) }
     {
         let conditions = self.conditions;
@@ -76,12 +76,11 @@ impl Core {
     }
 
     // Whether a write is accepted. The contract rules out a refusal of the value where the writer may not write.
-    fn write_verdict(self, writer: Writer, number: u64, v: i64) -> Verdict
+    fn write_verdict(self, writer: Writer, number: u64, v: i64) -> Result<(), Refusal>
         ensures { number_in result ≡ refused_by (write_tests self writer number v) }
     {
-        let access = self.access(writer, number);
-        let value = self.value_verdict(number, v);
-        signals::first_refusal(access, value)
+        self.access(writer, number)?;
+        self.value_verdict(number, v)
     }
 
     // The same but for these three: no write touches anything else.
@@ -166,7 +165,7 @@ impl Controller {
     // Whether this writer may write the parameter with this number now: accepted, or the refusal that any value would
     // get, 4, 19, 20 or 5. A host asks it before it offers a field for editing. The contract rules out an answer that
     // another writer or another parameter would get; nothing changes, since no controller is returned.
-    pub fn write_access(self, writer: Writer, number: u64) -> Verdict
+    pub fn write_access(self, writer: Writer, number: u64) -> Result<(), Refusal>
         ensures { number_in result ≡ refused_by (access_now self.core writer number) }
     {
         let core = self.core;
@@ -182,21 +181,15 @@ impl Controller {
         requires { Valid self }
         ensures { (response_of_verdict result ≡ write self writer number value) × Valid result.controller }
     {
-        let core = self.core;
         let v = integers::wide(value);
-        let verdict = core.write_verdict(writer, number, v);
-        match verdict {
-            Verdict::Refused(refusal) => CallResult {
-                controller: self,
-                verdict: Verdict::Refused(refusal),
-            },
-            Verdict::Accepted => {
-                let controller = self.written(number, v);
-                CallResult {
-                    controller,
-                    verdict: Verdict::Accepted,
-                }
-            }
+        let verdict = self.core.write_verdict(writer, number, v);
+        let controller = match verdict {
+            Ok(()) => self.written(number, v),
+            Err(_) => self,
+        };
+        CallResult {
+            controller,
+            verdict,
         }
     }
 }

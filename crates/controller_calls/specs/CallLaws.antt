@@ -1,6 +1,6 @@
 -- Laws of the calls: the next controller is valid, a save changes no byte that isn't the image's, and a terminal's line
 -- none that isn't the reply's.
-use Rattle.std.specs.Prelude.{Bool, ◌&&◌, cond, ◌≡◌, ℕ, zero, suc, ◌+◌, ◌≤◌, ◌<◌, eqb, leb, ℤ, take, drop, get_or, replicate}
+use Rattle.std.specs.Prelude.{Bool, ◌&&◌, cond, ◌≡◌, ℕ, zero, suc, ◌+◌, ◌≤◌, ◌<◌, eqb, leb, ℤ, take, drop, get_or, replicate, Err, Ok}
 use Rattle.std.proofs.Math.Bool.{true, false}
 use mathlib.Core.List.{List, [], ◌∷◌, ◌++◌, append_assoc}
 use Rattle.std.proofs.Math.Option.{Option, some, none}
@@ -11,9 +11,7 @@ use Rattle.std.proofs.Math.ListN.{length}
 use Rattle.std.proofs.Math.Seq.{drop_at, drop-cons}
 use Rattle.std.proofs.lemmas.Bool.{lt-leb}
 use Rattle.integers.specs.Choice.{by_cases, both}
-use Rattle.signals.specs.Refusals.{number_of, refused_by}
-use Rattle.signals.specs.declared.Verdict.{Verdict}
-use Rattle.signals.specs.declared.Verdict.TheVariants as verdict
+use Rattle.signals.specs.Refusals.{number_of, refused_by, Verdict}
 use Rattle.fields.specs.Fields.{save_tests, saved_in}
 use Rattle.rights.specs.declared.Writer.{Writer}
 use Rattle.controller.specs.Answers.{reply_of_verdict, reply_by, acceptance, number}
@@ -114,22 +112,22 @@ module _ (c : Controller) (valid : Valid c) (part rest : List ℕ) (p : is_fille
   short : length part < 137 → (v : Verdict) → reply_of_verdict v ≡ number 15
       → checked_reply v (saved_in (saved_image c) part ++ rest) ≡ Refused 15
   unfolding checked_reply saved_in
-  short l verdict.Accepted e = cc
-  short l (verdict.Refused refusal) e =
+  short l (Ok accepted) e = cc
+  short l (Err refusal) e =
       let n : number_of refusal ≡ 15 = cc in
       simp (lt-leb 137 (length part) l, filled_append part rest p r, n)
 
   long : 137 ≤ length part → (v : Verdict) → reply_of_verdict v ≡ acceptance →
       checked_reply v (saved_in (saved_image c) part ++ rest) ≡ Image
   unfolding checked_reply saved_in
-  long l verdict.Accepted e =
+  long l (Ok accepted) e =
       simp (le-leb 137 (length part) l)
       (rw (
         append_assoc (saved_image c) (drop 137 part) rest,
         drop_at (saved_image c) (drop 137 part ++ rest) 137 (saved_size c valid),
         filled_append (drop 137 part) rest (filled_drop 137 part p) r,
       ))
-  long l (verdict.Refused refusal) e = cc
+  long l (Err refusal) e = cc
 
   -- the reply goes by the verdict alone: no byte has changed that isn't the image's
   pub checked_save : (v : Verdict) → reply_of_verdict v ≡ reply_by (refused_by (save_tests part))

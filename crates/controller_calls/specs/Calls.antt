@@ -1,10 +1,8 @@
 -- What the console does with each call of the controller, by the controller's own definitions: the next controller, the
 -- reply, and the buffer.
-use Rattle.std.specs.Prelude.{Bool, true, ◌&&◌, List, [], ◌∷◌, ◌++◌, ℕ, eqb, leb, length, take, drop, replicate, if◌then◌else◌}
+use Rattle.std.specs.Prelude.{Bool, true, ◌&&◌, List, [], ◌∷◌, ◌++◌, ℕ, eqb, leb, length, take, drop, replicate, if◌then◌else◌, Err, Ok}
 use Rattle.std.proofs.Math.Option.{Option, some, none}
-use Rattle.signals.specs.Refusals.{number_of, refused_by}
-use Rattle.signals.specs.declared.Verdict.{Verdict}
-use Rattle.signals.specs.declared.Verdict.TheVariants as verdict
+use Rattle.signals.specs.Refusals.{number_of, refused_by, Verdict}
 use Rattle.fields.specs.Fields.{save_tests, saved_in}
 use Rattle.rights.specs.declared.Writer.{Writer}
 use Rattle.controller.specs.Answers as answers
@@ -60,8 +58,8 @@ filled bytes = replicate (length bytes) 0xA5
 
 -- the reply to a verdict, with the buffer as the save left it: `error` where a byte changed that isn't the image's
 unfoldable pub checked_reply : Verdict → List ℕ → Reply
-checked_reply verdict.Accepted bytes = if is_filled (drop 137 bytes) then Image else Error
-checked_reply (verdict.Refused refusal) bytes = if is_filled bytes then Refused (number_of refusal) else Error
+checked_reply (Ok accepted) bytes = if is_filled (drop 137 bytes) then Image else Error
+checked_reply (Err refusal) bytes = if is_filled bytes then Refused (number_of refusal) else Error
 
 -- the reply to a save that is refused with a number, or accepted
 abbrev pub save_reply : Option ℕ → Reply

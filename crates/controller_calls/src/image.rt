@@ -8,7 +8,7 @@ ghost use Rattle.replies.specs.declared.Reply.TheVariants.{Error};
 use crate::Step;
 use controller::Controller;
 use replies::Reply;
-use signals::Verdict;
+use signals::Refusal;
 
 // A restart with so many bytes of the buffer. The contract rules out one with other bytes, and a controller that isn't
 // the one which the restart returned.
@@ -19,11 +19,9 @@ pub fn restart(controller: Controller, count: usize, buffer: &[u8]) -> Step
 {
     if count <= buffer.len() {
         let r = controller.restart(&buffer[0..count]);
-        let next = r.controller;
-        let verdict = r.verdict;
         return Step {
-            controller: next,
-            reply: crate::reply_to_verdict(verdict),
+            controller: r.controller,
+            reply: crate::reply_to_verdict(r.verdict),
         };
     }
     Step {
@@ -33,20 +31,20 @@ pub fn restart(controller: Controller, count: usize, buffer: &[u8]) -> Step
 }
 
 // The reply to a save: where a byte changed that had to stay, `error`.
-fn reply_to_save(verdict: Verdict, buffer: &[u8]) -> Reply
+fn reply_to_save(verdict: Result<(), Refusal>, buffer: &[u8]) -> Reply
     ensures { result ≡ checked_reply verdict buffer.now }
 {
     match verdict {
-        Verdict::Accepted => {
+        Ok(()) => {
             if crate::filled::is_unchanged(buffer, 137) {
                 Reply::Image
             } else {
                 Reply::Error
             }
         }
-        Verdict::Refused(refusal) => {
+        Err(refusal) => {
             if crate::filled::is_unchanged(buffer, 0) {
-                Reply::Refused(refusal.number())
+                Reply::Refused(u8::from(refusal))
             } else {
                 Reply::Error
             }

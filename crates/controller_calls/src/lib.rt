@@ -9,11 +9,12 @@ ghost use Rattle.controller.specs.Valid.{Valid};
 ghost use Rattle.controller.specs.Write.{write};
 ghost use Rattle.controller_calls.specs.Calls.{reply_to, step_of, unchanged_with, access_reply, performed, buffer_after};
 
+use answers::ScanValues;
 use commands::Call;
-use controller::{Answer, Controller, ReadAnswer};
+use controller::Controller;
 use replies::Reply;
 use rights::Writer;
-use signals::{Input, Verdict};
+use signals::{Input, Refusal};
 
 mod filled;
 mod image;
@@ -34,32 +35,32 @@ pub struct Step {
 }
 
 // The contract rules out values that are exchanged, and another number of a refusal.
-fn reply_of(answer: Answer) -> Reply
+fn reply_of(answer: Result<ScanValues, Refusal>) -> Reply
     ensures { result ≡ reply_to (reply_of answer) }
 {
     match answer {
-        Answer::Accepted(values) => Reply::Answer(values),
-        Answer::Refused(refusal) => Reply::Refused(refusal.number()),
+        Ok(values) => Reply::Answer(values),
+        Err(refusal) => Reply::Refused(u8::from(refusal)),
     }
 }
 
 // The contract rules out an acceptance that is answered as a refusal, and another number.
-fn reply_to_verdict(verdict: Verdict) -> Reply
+fn reply_to_verdict(verdict: Result<(), Refusal>) -> Reply
     ensures { result ≡ reply_to (reply_of_verdict verdict) }
 {
     match verdict {
-        Verdict::Accepted => Reply::Accepted,
-        Verdict::Refused(refusal) => Reply::Refused(refusal.number()),
+        Ok(()) => Reply::Accepted,
+        Err(refusal) => Reply::Refused(u8::from(refusal)),
     }
 }
 
 // The contract rules out another value, and another number of a refusal.
-fn reply_to_read(answer: ReadAnswer) -> Reply
+fn reply_to_read(answer: Result<i32, Refusal>) -> Reply
     ensures { result ≡ reply_to (reply_of_read answer) }
 {
     match answer {
-        ReadAnswer::Value(v) => Reply::Value(v),
-        ReadAnswer::Refused(refusal) => Reply::Refused(refusal.number()),
+        Ok(v) => Reply::Value(v),
+        Err(refusal) => Reply::Refused(u8::from(refusal)),
     }
 }
 
@@ -69,11 +70,9 @@ fn scan(controller: Controller, input: Input) -> Step
     ensures { result ≡ step_of (scan controller input) }
 {
     let r = controller.scan(input);
-    let next = r.controller;
-    let answer = r.answer;
     Step {
-        controller: next,
-        reply: reply_of(answer),
+        controller: r.controller,
+        reply: reply_of(r.answer),
     }
 }
 
@@ -83,11 +82,9 @@ fn write(controller: Controller, writer: Writer, number: u64, value: i32) -> Ste
     ensures { result ≡ step_of (write controller writer number value) }
 {
     let r = controller.write(writer, number, value);
-    let next = r.controller;
-    let verdict = r.verdict;
     Step {
-        controller: next,
-        reply: reply_to_verdict(verdict),
+        controller: r.controller,
+        reply: reply_to_verdict(r.verdict),
     }
 }
 

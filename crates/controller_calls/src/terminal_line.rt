@@ -8,7 +8,7 @@ use crate::Step;
 use controller::Controller;
 use replies::Reply;
 use rights::Writer;
-use terminal::LineAnswer;
+use signals::Refusal;
 
 // Whether a buffer has the line's bytes, at most 300, and those for the reply.
 fn fits(count: usize, size: usize, buffer: &[u8]) -> bool
@@ -18,20 +18,20 @@ fn fits(count: usize, size: usize, buffer: &[u8]) -> bool
 }
 
 // The reply to the terminal's answer: where a byte changed that had to stay, `error`.
-fn reply_to_answer(answer: LineAnswer, buffer: &[u8]) -> Reply
+fn reply_to_answer(answer: Result<usize, Refusal>, buffer: &[u8]) -> Reply
     ensures { result ≡ checked_terminal (reply_of_line answer) buffer.now }
 {
     match answer {
-        LineAnswer::Reply(count) => {
+        Ok(count) => {
             if crate::filled::is_unchanged(buffer, count) {
                 Reply::Line(count)
             } else {
                 Reply::Error
             }
         }
-        LineAnswer::Refused(refusal) => {
+        Err(refusal) => {
             if crate::filled::is_unchanged(buffer, 0) {
-                Reply::Refused(refusal.number())
+                Reply::Refused(u8::from(refusal))
             } else {
                 Reply::Error
             }

@@ -54,7 +54,7 @@ pub fn is_well_formed(image: &[u8]) -> bool
 
 // The values of all fields. The contract rules out a value with its bytes exchanged, and one that is
 // taken from a neighbour.
-pub fn values_of(image: &[u8]) -> [u16; crate::FIELD_COUNT]
+pub fn values_of(image: &[u8]) -> crate::FieldValues
     requires { length image.now ≡ 137 }
     ensures { result ≡ values_from 0 28 image.now }
 {

@@ -6,7 +6,7 @@ ghost use Rattle.std.specs.Prelude.{◌≡◌, ◌+◌, ◌<◌, ◌≤◌, ◌+
 ghost use Rattle.signals.specs.Refusals.{number_in, refused_by};
 ghost use Rattle.fields.specs.Fields.{tag_of, length_of, field_bytes, fields_from, sum_of, with_sumcheck, save_tests, saved_in};
 
-use signals::{Refusal, Verdict};
+use signals::Refusal;
 
 pub mod decoding;
 
@@ -22,6 +22,9 @@ pub const USER_BITS: usize = 26;
 pub const SUMCHECK: usize = 27;
 
 pub const FIELD_COUNT: usize = SUMCHECK + 1;
+
+// The values of all fields, by their places.
+pub type FieldValues = [u16; FIELD_COUNT];
 
 // The bytes of all fields.
 pub const IMAGE_LENGTH: usize = 137;
@@ -83,7 +86,7 @@ fn encode_field(part: &mut [u8], tag: u8, size: u8, value: u16)
 }
 
 // Encodes all fields, each in the part of the buffer behind the fields before it.
-fn encode(values: [u16; FIELD_COUNT], buffer: &mut [u8])
+fn encode(values: FieldValues, buffer: &mut [u8])
     requires { 137 ≤ length buffer.old }
     ensures { buffer.new ≡ fields_from 0 values ++ drop 137 buffer.old }
 {
@@ -100,20 +103,20 @@ fn encode(values: [u16; FIELD_COUNT], buffer: &mut [u8])
 // Saves the values of all 28 fields. The contract gives the verdict and every byte of the buffer, so it
 // rules out a refusal of 137 bytes, an image that is encoded elsewhere, a byte behind it that changes,
 // and a short buffer that doesn't stay.
-pub fn save(values: [u16; FIELD_COUNT], buffer: &mut [u8]) -> Verdict
+pub fn save(values: FieldValues, buffer: &mut [u8]) -> Result<(), Refusal>
     ensures { (number_in result ≡ refused_by (save_tests buffer.old))
         × (buffer.new ≡ saved_in (fields_from 0 values) buffer.old) }
 {
     if buffer.len() < IMAGE_LENGTH {
-        return Verdict::Refused(Refusal::ShortBuffer);
+        return Err(Refusal::ShortBuffer);
     }
     encode(values, buffer);
-    Verdict::Accepted
+    Ok(())
 }
 
 // The sum of all values before the sumcheck. Wrapping 16-bit addition is the sum modulo 65,536: the
 // contract says so, and rules out a value that is left out.
-pub fn sumcheck(values: [u16; FIELD_COUNT]) -> u16
+pub fn sumcheck(values: FieldValues) -> u16
     ensures { result ≡ sum_of (take 27 values) }
 {
     let mut sum: u16 = 0;
@@ -126,7 +129,7 @@ pub fn sumcheck(values: [u16; FIELD_COUNT]) -> u16
 }
 
 // The values with their sumcheck behind them. The contract rules out a value that changes.
-pub fn with_sumcheck(mut values: [u16; FIELD_COUNT]) -> [u16; FIELD_COUNT]
+pub fn with_sumcheck(mut values: FieldValues) -> FieldValues
     ensures { result ≡ with_sumcheck (take 27 values) }
 {
     values[SUMCHECK] = sumcheck(values);

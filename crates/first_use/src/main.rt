@@ -5,11 +5,10 @@
 ghost use Rattle.controller.specs.Valid.{Valid};
 
 use answers::ScanValues;
-use controller::{Answer, Controller};
+use controller::Controller;
 use rights::Writer;
 use sheet::Sheet;
 use signals::Input;
-use terminal::LineAnswer;
 
 mod print;
 
@@ -27,16 +26,16 @@ fn main(rt: HostRuntime) {
     let second = r.controller; // the controller for the next call
     let answer = r.answer;
     match answer {
-        Answer::Accepted(values) => keep_sheet(&rt, values), // md 1002h, ds 913Fh, op 0, electrical 0, mode Auto, pv 500
-        Answer::Refused(refusal) => print::refusal(&rt, refusal),
+        Ok(values) => keep_sheet(&rt, values), // md 1002h, ds 913Fh, op 0, electrical 0, mode Auto, pv 500
+        Err(refusal) => print::refusal(&rt, refusal),
     }
-    let last = second.last_reading(); // ClockReading::At(1000); ClockReading::None before the first scan
+    let last = second.last_reading(); // Some(1000); None before the first scan
     print::reading(&rt, last);
     let may = second.write_access(Writer::Operator, parameters::XP); // refused with 20: offer no field for editing
     print::verdict(&rt, may);
     let w = second.write(Writer::Operator, parameters::SL, 650);
     let third = w.controller;
-    let written = w.verdict; // Verdict::Accepted, or Verdict::Refused(refusal)
+    let written = w.verdict; // Ok(()), or Err(refusal)
     print::verdict(&rt, written);
     let fourth = type_line(&rt, third);
     print::answer(&rt, b"SL", fourth.read(parameters::SL)); // 650
@@ -72,8 +71,8 @@ fn type_line(rt: &impl Print, controller: Controller) -> Controller
     let t = terminal::answer(controller, Writer::Engineer, b"XP>500", &mut reply);
     let answer = t.answer;
     match answer {
-        LineAnswer::Reply(length) => print::front(rt, &reply, length), // XP>500; the bytes behind it stay
-        LineAnswer::Refused(refusal) => print::refusal(rt, refusal), // nothing has changed, in the controller or the buffer
+        Ok(length) => print::front(rt, &reply, length), // XP>500; the bytes behind it stay
+        Err(refusal) => print::refusal(rt, refusal), // nothing has changed, in the controller or the buffer
     }
     t.controller // the write is made
 }

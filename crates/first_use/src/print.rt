@@ -1,8 +1,6 @@
 // What the program shows, a line each on standard output: a label, and what stands for it. A failed write is not told
 // apart.
-use controller::ReadAnswer;
-use signals::clock::ClockReading;
-use signals::{Refusal, Verdict};
+use signals::Refusal;
 
 pub fn decimal(rt: &impl Print, label: &[u8], number: i64) {
     let _ = rt.write_all(label);
@@ -28,28 +26,28 @@ pub fn front(rt: &impl Print, buffer: &[u8], count: usize) {
 }
 
 pub fn refusal(rt: &impl Print, refusal: Refusal) {
-    decimal(rt, b"refused with", refusal.number() as i64);
+    decimal(rt, b"refused with", u8::from(refusal) as i64);
 }
 
-pub fn verdict(rt: &impl Print, verdict: Verdict) {
+pub fn verdict(rt: &impl Print, verdict: Result<(), Refusal>) {
     match verdict {
-        Verdict::Accepted => bytes(rt, b"accepted"),
-        Verdict::Refused(why) => refusal(rt, why),
+        Ok(()) => bytes(rt, b"accepted"),
+        Err(why) => refusal(rt, why),
     }
 }
 
-pub fn answer(rt: &impl Print, label: &[u8], answer: ReadAnswer) {
+pub fn answer(rt: &impl Print, label: &[u8], answer: Result<i32, Refusal>) {
     match answer {
-        ReadAnswer::Value(value) => decimal(rt, label, integers::wide(value)),
-        ReadAnswer::Refused(why) => refusal(rt, why),
+        Ok(value) => decimal(rt, label, i64::from(value)),
+        Err(why) => refusal(rt, why),
     }
 }
 
-pub fn reading(rt: &impl Print, reading: ClockReading) {
+pub fn reading(rt: &impl Print, reading: Option<u64>) {
     match reading {
-        ClockReading::At(milliseconds) => {
+        Some(milliseconds) => {
             let _ = println!(rt; "scanned at {milliseconds} ms");
         }
-        ClockReading::None => bytes(rt, b"no scan yet"),
+        None => bytes(rt, b"no scan yet"),
     }
 }

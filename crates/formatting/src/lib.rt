@@ -52,8 +52,8 @@ pub fn append_decimal(out: &mut [u8], used: usize, number: u64) -> usize
 pub fn append_signed(out: &mut [u8], used: usize, number: i64) -> usize
     ensures { buffer out.new result ≡ append_all (buffer out.old used) (decimal number) }
 {
-    let size = integers::magnitude(number);
-    if integers::negative(number) {
+    let size = number.unsigned_abs();
+    if number < 0 {
         let end = append_byte(out, used, b'-');
         return append_decimal(out, end, size);
     }

@@ -1,6 +1,6 @@
 -- The two texts of what a reading is beside the last accepted one; the reading that is remembered is the one that the
 -- accepted calls of the list tell; accepted scans come 30 ms apart or more.
-use Rattle.std.specs.Prelude.{if◌then◌else◌}
+use Rattle.std.specs.Prelude.{if◌then◌else◌, None, Ok, Some}
 use mathlib.Core.Path.{◌≡◌, refl, sym, ap, ◌∙◌}
 use mathlib.Core.Bool.{Bool, true, false, ◌||◌, false≢true}
 use mathlib.Core.List.{List}
@@ -10,15 +10,13 @@ use Prim.Native.Nat.{ℕ, suc, ◌+◌, ◌-◌, ◌≤◌, ◌<◌}
 use native.Mathlib.Omega.{arith}
 use lib.Dec.{ltb}
 use borrow.Author.Tests.{ltb-true, ltb-false, lt-ltb, le-ltb}
-use Rattle.signals.specs.Clock.{is_too_early, is_after_gap}
+use Rattle.signals.specs.Clock.{is_too_early, is_after_gap, ClockReading}
 use Rattle.signals.specs.Refusals.{refused_by, scan_tests}
 use Rattle.signals.specs.declared.Input.{Input}
-use Rattle.signals.specs.declared.clock.ClockReading.{ClockReading}
-use Rattle.signals.specs.declared.clock.ClockReading.TheVariants.{None, At}
 use Rattle.answers.specs.declared.ScanValues.{ScanValues}
 use Rattle.outputs.specs.History.{history_before}
 use Rattle.outputs.specs.declared.History.TheVariants.{Nothing}
-use Rattle.controller.specs.Answers.{Reply, words, reading, acceptance, number, reply_of, Response}
+use Rattle.controller.specs.Answers.{Reply, words, reading, acceptance, number, reply_of, Response, Answer}
 use Rattle.controller.specs.Restart.{values_in, restart_tests, restart_accepted, restart_core}
 use Rattle.controller.specs.Scan as rules
 use Rattle.controller.specs.Scan.{earlier_scans, context_of, core_after, status_of, accepted, refused}
@@ -27,8 +25,6 @@ use Rattle.controller.specs.State.{fresh_core}
 use Rattle.controller.specs.ValidLaws.{by_verdict_lem, passed}
 use Rattle.controller.specs.Write.{write_tests, write_accepted, write_core}
 use Rattle.controller.specs.WriteLaws.{clock_stays}
-use Rattle.controller.specs.declared.Answer.{Answer}
-use Rattle.controller.specs.declared.Answer.TheVariants.{Accepted}
 use Rattle.controller.specs.declared.Controller.{Controller}
 use Rattle.controller.specs.declared.Core.{Core}
 use Rattle.controller.specs.declared.ScanResult.{ScanResult}
@@ -50,11 +46,11 @@ same_test a b c d f g = go (ltb a b) refl
 
 pub gap_is : (last : ClockReading) (ms : ℕ) → is_after_gap last ms ≡ after_gap last ms
 gap_is None ms = refl
-gap_is (At last) ms = same_test 42 (ms - last) (last + 42) ms (λ h. omega (arith, h)) (λ h. omega (arith, h))
+gap_is (Some last) ms = same_test 42 (ms - last) (last + 42) ms (λ h. omega (arith, h)) (λ h. omega (arith, h))
 
 pub soon_is : (last : ClockReading) (ms : ℕ) → is_too_early last ms ≡ too_soon last ms
 soon_is None ms = refl
-soon_is (At last) ms = go (ltb ms last) refl
+soon_is (Some last) ms = go (ltb ms last) refl
   where
     go : (t : Bool) → ltb ms last ≡ t → (t || ltb (ms - last) 30) ≡ ltb ms (last + 30)
     go true e = sym (lt-ltb ms (last + 30) (omega (arith, ltb-true ms last e)))
@@ -96,7 +92,7 @@ refused_leaves (scan i) word xs last e = rw e refl
 refused_leaves (write w n v) word xs last e = refl
 refused_leaves (restart image) word xs last e = rw e refl
 
-pub last_scan : {word : ℕ} {i : Input} {xs : Calls} → LastScan word i xs → last_reading word xs ≡ At i.milliseconds
+pub last_scan : {word : ℕ} {i : Input} {xs : Calls} → LastScan word i xs → last_reading word xs ≡ Some i.milliseconds
 unfolding last_reading reading_after
 last_scan (made e) = rw e refl
 last_scan {word} (refused_after {xs} {x} l e) = refused_leaves x word xs (last_reading word xs) e ∙ last_scan l
@@ -105,9 +101,9 @@ last_scan (written_after l) = last_scan l
 -- a reading is another thing than none
 abbrev or_reading : ℕ → ClockReading → ℕ
 or_reading other None = other
-or_reading other (At milliseconds) = milliseconds
+or_reading other (Some milliseconds) = milliseconds
 
-no_reading : (ms : ℕ) → None ≡ At ms → ⊥
+no_reading : (ms : ℕ) → None ≡ Some ms → ⊥
 no_reading ms e = let next : suc ms ≡ ms = ap (or_reading (suc ms)) e in omega (arith, next)
 
 -- a refused call leaves the last scan
@@ -115,14 +111,14 @@ still : {word ms : ℕ} {xs : Calls} (x : Call) → LastScanAt word ms xs → is
     LastScanAt word ms (xs then x)
 still x earlier a = record { input = earlier.input; last = refused_after earlier.last a; reading = earlier.reading }
 
-module _ (word ms : ℕ) (xs : Calls) (earlier : last_reading word xs ≡ At ms → LastScanAt word ms xs) where
+module _ (word ms : ℕ) (xs : Calls) (earlier : last_reading word xs ≡ Some ms → LastScanAt word ms xs) where
   found_scan : (i : Input) (t : Bool) → is_accepted (exact_answer word xs (scan i)) ≡ t →
-      (if t then At i.milliseconds else last_reading word xs) ≡ At ms → LastScanAt word ms (xs then scan i)
+      (if t then Some i.milliseconds else last_reading word xs) ≡ Some ms → LastScanAt word ms (xs then scan i)
   found_scan i true a h = record { input = i; last = made a; reading = ap (or_reading 0) h }
   found_scan i false a h = still (scan i) (earlier h) a
 
   found_restart : (image : List ℕ) (t : Bool) → is_accepted (exact_answer word xs (restart image)) ≡ t →
-      (if t then None else last_reading word xs) ≡ At ms → LastScanAt word ms (xs then restart image)
+      (if t then None else last_reading word xs) ≡ Some ms → LastScanAt word ms (xs then restart image)
   found_restart image true a h = absurd (no_reading ms h)
   found_restart image false a h = still (restart image) (earlier h) a
 
@@ -142,7 +138,7 @@ refuses (reading v) = false
 refuses acceptance = false
 refuses (number n) = true
 
-pub none_refused : (c : Controller) (j : Input) (r : ScanResult) (v : ScanValues) → ScanEnsures c j r → r.answer ≡ Accepted v →
+pub none_refused : (c : Controller) (j : Input) (r : ScanResult) (v : ScanValues) → ScanEnsures c j r → r.answer ≡ Ok v →
     refused_by (scan_tests c.core.clock j) ≡ option.none
 unfolding rules.scan scan_core response_from refused
 none_refused c j r v e q = go (refused_by (scan_tests c.core.clock j)) refl
@@ -154,10 +150,10 @@ none_refused c j r v e q = go (refused_by (scan_tests c.core.clock j)) refl
         absurd (false≢true (sym (ap (λ (a : Answer). refuses (reply_of a)) q) ∙ refused_so))
 
 -- of two readings, the one that isn't too soon after the other
-pub apart : (c : Controller) (j : Input) (r : ScanResult) (v : ScanValues) (last : ℕ) → ScanEnsures c j r → r.answer ≡ Accepted v →
-    c.core.clock ≡ At last → last + 30 ≤ j.milliseconds
+pub apart : (c : Controller) (j : Input) (r : ScanResult) (v : ScanValues) (last : ℕ) → ScanEnsures c j r → r.answer ≡ Ok v →
+    c.core.clock ≡ Some last → last + 30 ≤ j.milliseconds
 unfolding scan_tests
 apart c j r v last e q at =
     let untimely = (passed (scan_tests c.core.clock j) (none_refused c j r v e q)).1.1.1.0 in
-    let taken : is_too_early (At last) j.milliseconds ≡ false = rw at at untimely in
-    ltb-false j.milliseconds (last + 30) (sym (soon_is (At last) j.milliseconds) ∙ taken)
+    let taken : is_too_early (Some last) j.milliseconds ≡ false = rw at at untimely in
+    ltb-false j.milliseconds (last + 30) (sym (soon_is (Some last) j.milliseconds) ∙ taken)

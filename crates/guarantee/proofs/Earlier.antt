@@ -2,9 +2,9 @@
 use Rattle.std.specs.Prelude.{if◌then◌else◌}
 use mathlib.Core.Path.{◌≡◌, refl, ap, ◌∙◌}
 use Prim.Native.Nat.{ℕ}
+use Rattle.signals.specs.Clock.{ClockReading}
 use Rattle.signals.specs.Refusals.{refused_by, scan_tests}
 use Rattle.signals.specs.Signals.{is_open}
-use Rattle.signals.specs.declared.clock.ClockReading.{ClockReading}
 use Rattle.setpoints.specs.declared.Readings.{Readings}
 use Rattle.outputs.specs.History.{remembered, history_after}
 use Rattle.outputs.specs.declared.History.{History}

@@ -7,9 +7,9 @@ use Prim.Native.Nat.{ℕ}
 use lib.Dec.{eqb}
 use lib.IntN.{ℤ}
 use Rattle.integers.specs.Choice.{by_cases}
+use Rattle.signals.specs.Clock.{ClockReading}
 use Rattle.signals.specs.Refusals.{number_of, refused_by, scan_tests}
 use Rattle.signals.specs.declared.Input.{Input}
-use Rattle.signals.specs.declared.clock.ClockReading.{ClockReading}
 use Rattle.signals.specs.declared.Refusal.{Refusal}
 use Rattle.signals.specs.declared.Refusal.TheVariants.{Sample, ButtonBits, SensorBits, Range, Pair, Setpoint}
 use Rattle.signals.specs.declared.Refusal.TheVariants.{RequestBits, RemotePin, Cause, Clock}

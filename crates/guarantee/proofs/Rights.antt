@@ -14,9 +14,8 @@ use borrow.Author.Tests.{ne_eqb, lt-leb, ltb-true, ltb-false, le-ltb, not-true}
 use Rattle.integers.specs.Choice.{both, never}
 use Rattle.integers.specs.Listed.{listed, listed_same}
 use Rattle.signals.specs.RefusalLaws.{refused_append, refused_from}
-use Rattle.signals.specs.Refusals.{first_of, refused_by, scan_tests}
+use Rattle.signals.specs.Refusals.{first_of, refused_by, scan_tests, Verdict}
 use Rattle.signals.specs.Signals.{computer_pin}
-use Rattle.signals.specs.declared.Verdict.{Verdict}
 use Rattle.modes.specs.Modes.{conditions_after}
 use Rattle.parameters.specs.Legal.{read_only_refusal}
 use Rattle.parameters.specs.RuleLaws.{known, unknown_is, read_only_is}

@@ -1,9 +1,8 @@
 -- Document 02, request 2, over again: what a reading is beside the last accepted one. Sums here have any size, so
 -- nothing turns over at the end of 64 bits.
-use Rattle.std.specs.Prelude.{Bool, false, ℕ, ◌+◌, ltb, if◌then◌else◌}
+use Rattle.std.specs.Prelude.{Bool, false, ℕ, ◌+◌, ltb, if◌then◌else◌, None, Some}
+use Rattle.signals.specs.Clock.{ClockReading}
 use Rattle.signals.specs.declared.Input.{Input}
-use Rattle.signals.specs.declared.clock.ClockReading.{ClockReading}
-use Rattle.signals.specs.declared.clock.ClockReading.TheVariants.{None, At}
 use Rattle.outputs.specs.declared.History.{History}
 use Rattle.outputs.specs.declared.History.TheVariants.{Nothing}
 use Rattle.controller.specs.declared.Core.{Core}
@@ -12,12 +11,12 @@ use Rattle.controller.specs.declared.Core.{Core}
 -- after a fresh start or a restart, any reading is taken."
 abbrev pub too_soon : ClockReading → ℕ → Bool
 too_soon None milliseconds = false
-too_soon (At last) milliseconds = ltb milliseconds (last + 30)
+too_soon (Some last) milliseconds = ltb milliseconds (last + 30)
 
 -- "After more than 42 ms"
 abbrev pub after_gap : ClockReading → ℕ → Bool
 after_gap None milliseconds = false
-after_gap (At last) milliseconds = ltb (last + 42) milliseconds
+after_gap (Some last) milliseconds = ltb (last + 42) milliseconds
 
 -- "the scan is taken, but earlier PV and SP are forgotten first": what a scan at this reading recalls
 unfoldable pub recalled_at : ClockReading → ℕ → History → History

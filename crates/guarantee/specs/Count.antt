@@ -2,11 +2,10 @@
 -- clock, the stored pin byte, what is remembered of earlier scans, and demand 3's n, the automatic scans since the
 -- output was last set outright. "In demand 3 the conditions of step 3, the accepted automatic scans and the outright
 -- settings are read from the exact controller."
-use Rattle.std.specs.Prelude.{◌≡◌, Bool, true, false, not, ◌&&◌, ◌||◌, ℕ, ◌+◌, ℤ, if◌then◌else◌}
+use Rattle.std.specs.Prelude.{◌≡◌, Bool, true, false, not, ◌&&◌, ◌||◌, ℕ, ◌+◌, ℤ, if◌then◌else◌, None, Some}
+use Rattle.signals.specs.Clock.{ClockReading}
 use Rattle.signals.specs.Bits.{bit}
 use Rattle.signals.specs.declared.Input.{Input}
-use Rattle.signals.specs.declared.clock.ClockReading.{ClockReading}
-use Rattle.signals.specs.declared.clock.ClockReading.TheVariants.{None, At}
 use Rattle.rights.specs.declared.Writer.{Writer}
 use Rattle.outputs.specs.declared.History.{History}
 use Rattle.outputs.specs.declared.History.TheVariants.{Nothing, One, Two}
@@ -35,7 +34,7 @@ open_scans word (xs then x) = open_after x (exact_answer word xs x) (open_scans 
 
 -- an accepted scan's reading is the last; an accepted restart leaves none; a refused call and a write leave it
 unfoldable pub reading_after : Call → Status → ClockReading → ClockReading
-reading_after (scan i) answer last = if is_accepted answer then At i.milliseconds else last
+reading_after (scan i) answer last = if is_accepted answer then Some i.milliseconds else last
 reading_after (write writer number value) answer last = last
 reading_after (restart image) answer last = if is_accepted answer then None else last
 
@@ -58,7 +57,7 @@ pub record LastScanAt (word milliseconds : ℕ) (calls : Calls) : Type 0 where
 
 abbrev pub LastScanFound : Type 0
 LastScanFound =
-    (word milliseconds : ℕ) (calls : Calls) → last_reading word calls ≡ At milliseconds → LastScanAt word milliseconds calls
+    (word milliseconds : ℕ) (calls : Calls) → last_reading word calls ≡ Some milliseconds → LastScanAt word milliseconds calls
 
 -- ---- the pins: "the stored pin byte, 80h after a start or restart"
 

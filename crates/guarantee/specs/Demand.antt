@@ -1,19 +1,17 @@
 -- Demand 3, the long guarantee, as docs/GUARANTEE.md has it: after these calls, with these controllers and
 -- answers returned, of the controller c.
-use Rattle.std.specs.Prelude.{◌≡◌, true, false, List, ℕ, ◌+◌, ◌*◌, ◌≤◌, ℤ}
+use Rattle.signals.specs.Refusals.{Verdict}
+use Rattle.signals.specs.Clock.{ClockReading}
+use Rattle.std.specs.Prelude.{◌≡◌, true, false, List, ℕ, ◌+◌, ◌*◌, ◌≤◌, ℤ, Ok}
 use Rattle.std.proofs.Math.Option.{some, none}
 use Rattle.signals.specs.declared.Input.{Input}
-use Rattle.signals.specs.declared.Verdict.{Verdict}
-use Rattle.signals.specs.declared.clock.ClockReading.{ClockReading}
 use Rattle.modes.specs.declared.Mode.{Mode}
 use Rattle.answers.specs.declared.ScanValues.{ScanValues}
 use Rattle.rights.specs.declared.Writer.{Writer}
-use Rattle.controller.specs.Answers.{Response, number, reply_of_verdict, reply_by, reply_of_read}
+use Rattle.controller.specs.Answers.{Response, number, reply_of_verdict, reply_by, reply_of_read, ReadAnswer}
 use Rattle.controller.specs.Scan.{mode_now}
-use Rattle.controller.specs.declared.Answer.TheVariants.{Accepted}
 use Rattle.controller.specs.declared.CallResult.{CallResult}
 use Rattle.controller.specs.declared.Controller.{Controller}
-use Rattle.controller.specs.declared.ReadAnswer.{ReadAnswer}
 use Rattle.controller.specs.declared.ScanResult.{ScanResult}
 use Rattle.guarantee.specs.Claim.{WithinLimits, WithinHalves, capped, SameAnswers, SameReading, SameSave}
 use Rattle.guarantee.specs.Count.{open_scans, last_reading, LastScan, last_pins, earlier, automatic_scans}
@@ -51,7 +49,7 @@ pub record Demand3 (word : ℕ) (calls : Calls) (rs : List Response) (c : Contro
   -- an accepted scan never comes less than 30 ms after the accepted scan before it where no accepted restart came
   -- between: the one that is made now, and so, list by list, every one
   pub scans_apart : (i j : Input) (r : ScanResult) (v : ScanValues) → LastScan word i calls → ScanEnsures c j r →
-      r.answer ≡ Accepted v → i.milliseconds + 30 ≤ j.milliseconds
+      r.answer ≡ Ok v → i.milliseconds + 30 ≤ j.milliseconds
   -- the earlier PVs and SP are those of the accepted scans of the list, but for those that an open scan, a gap or an
   -- accepted restart forgot
   pub earlier_scans_remembered : (exact word calls).core.history ≡ earlier word calls

@@ -2,18 +2,15 @@
 -- apart from the definitions: a choice, a bit of a word, a limited value, the arithmetic of fractions, and what stands
 -- for an answer that the code gives. What is borrowed besides is told where it is used; docs/DECISIONS.md lists it.
 use Rattle.std.specs.Prelude.{◌≡◌, true, false, List, [], ◌∷◌, ℕ, ◌*◌, ◌/◌, ◌%◌, ◌<◌, eqb, ℤ, pos, ◌+ℤ◌, ◌*ℤ◌, get_or, ◌≤ℤ◌, ◌<ℤ◌}
-use Rattle.std.specs.Prelude.{if◌then◌else◌}
+use Rattle.std.specs.Prelude.{if◌then◌else◌, Ok}
 use Rattle.std.proofs.Math.Option.{some, none}
 use Rattle.integers.specs.Limit as value
 use Rattle.signals.specs.Bits.{bit}
-use Rattle.signals.specs.declared.Verdict.TheVariants as verdict
 use Rattle.terms.specs.Fraction.{Fraction, whole, plus, limited}
 use Rattle.answers.specs.declared.ScanValues.{ScanValues}
 use Rattle.controller.specs.Answers.{words, reading, acceptance, number, reply_of, reply_of_verdict, reply_of_read, reply_by}
 use Rattle.controller.specs.Answers.{response_of, response_of_verdict}
-use Rattle.controller.specs.declared.Answer.TheVariants.{Accepted}
 use Rattle.controller.specs.declared.CallResult.{CallResult}
-use Rattle.controller.specs.declared.ReadAnswer.TheVariants.{Value}
 use Rattle.controller.specs.declared.ScanResult.{ScanResult}
 
 -- ---- a choice by a test
@@ -70,9 +67,9 @@ LimitedFractions = (low high : ℤ) (f : Fraction) → low ≤ℤ high → 0 < f
 -- ---- what stands for an answer of the code; of a refusal `RefusalNumbers` tells it (promises)
 
 pub record AcceptedAnswers : Type 0 where
-  pub scans : (v : ScanValues) → reply_of (Accepted v) ≡ words v.md v.ds v.op v.electrical v.mode v.pv
-  pub reads : (v : ℤ) → reply_of_read (Value v) ≡ reading v
-  pub others : reply_of_verdict verdict.Accepted ≡ acceptance
+  pub scans : (v : ScanValues) → reply_of (Ok v) ≡ words v.md v.ds v.op v.electrical v.mode v.pv
+  pub reads : (v : ℤ) → reply_of_read (Ok v) ≡ reading v
+  pub others : reply_of_verdict (Ok tt) ≡ acceptance
   -- by a number, or none
   pub numbered : (n : ℕ) → (reply_by (some n) ≡ number n) × (reply_by none ≡ acceptance)
   -- and with the controller that is returned

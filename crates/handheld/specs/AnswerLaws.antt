@@ -1,5 +1,5 @@
 -- Laws of the answers: how long they are, and that a reply is written as the terminal gave it.
-use Rattle.std.specs.Prelude.{◌≡◌, List, ℕ, ◌+◌, ◌≤◌, length, drop}
+use Rattle.std.specs.Prelude.{◌≡◌, List, ℕ, ◌+◌, ◌≤◌, length, drop, Err, Ok}
 use Rattle.std.proofs.Common.{arith, length-append, length-take}
 use Rattle.std.proofs.Math.Seq.{take-append_seam}
 use Rattle.numerals.specs.Numerals.{digit_byte, last_digits, places_within, places, digits}
@@ -12,9 +12,7 @@ use Rattle.signals.specs.declared.Refusal.TheVariants.{Setpoint, RequestBits, Re
 use Rattle.signals.specs.declared.Refusal.TheVariants.{ImageLength, ImageField, ImageValue, ShortBuffer, Clock, Mnemonic, ValueForm}
 use Rattle.signals.specs.declared.Refusal.TheVariants.{ComputerPin, WriterRight}
 use Rattle.controller.specs.declared.Controller.{Controller}
-use Rattle.terminal.specs.Terminal.{reply_text, present_value, replied, reply_of_line}
-use Rattle.terminal.specs.declared.LineAnswer.{LineAnswer}
-use Rattle.terminal.specs.declared.LineAnswer.TheVariants as answer
+use Rattle.terminal.specs.Terminal.{reply_text, present_value, replied, reply_of_line, LineAnswer}
 use Rattle.handheld.specs.Answers.{refusal_text, answer_text, answer_line}
 
 -- a reply is written whole, and nothing of the buffer behind it
@@ -50,8 +48,8 @@ refusal_length WriterRight = omega arith
 
 text_length : (a : LineAnswer) (bytes : List ℕ) → length bytes ≤ 9 → length (answer_text (reply_of_line a) bytes) ≤ 22
 unfolding answer_text
-text_length (answer.Reply count) bytes h = omega (arith, length-take count bytes)
-text_length (answer.Refused refusal) bytes h = refusal_length refusal
+text_length (Ok count) bytes h = omega (arith, length-take count bytes)
+text_length (Err refusal) bytes h = refusal_length refusal
 
 -- the line stands whole behind the bytes used, and no other byte has changed
 pub answer_fits : (a : LineAnswer) (bytes out : List ℕ) (used : ℕ) → length bytes ≤ 9 → used ≤ 64000 → 65536 ≤ length out →

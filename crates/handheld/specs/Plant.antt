@@ -1,15 +1,14 @@
 -- What comes of a line that is the terminal's, or brings the plant's pins, `pins N`.
-use Rattle.std.specs.Prelude.{List, ◌++◌, ℕ, ◌+◌, ◌-◌, ◌^◌, leb, ltb, length, take, drop, if◌then◌else◌}
+use Rattle.std.specs.Prelude.{List, ◌++◌, ℕ, ◌+◌, ◌-◌, ◌^◌, leb, ltb, length, take, drop, if◌then◌else◌, None, Some}
 use Rattle.numerals.specs.Parsed.{number_of}
 use Rattle.numerals.specs.declared.ParsedNumber.{ParsedNumber}
 use Rattle.numerals.specs.declared.ParsedNumber.TheVariants.{Number, Malformed}
+use Rattle.signals.specs.Clock.{ClockReading}
 use Rattle.text.specs.Arguments.{natural_in}
 use Rattle.text.specs.Words.{same_bytes}
 use Rattle.formatting.specs.Ascii.{ascii}
 use Rattle.rights.specs.declared.Writer.{Writer}
 use Rattle.signals.specs.declared.Input.{Input}
-use Rattle.signals.specs.declared.clock.ClockReading.{ClockReading}
-use Rattle.signals.specs.declared.clock.ClockReading.TheVariants.{None, At}
 use Rattle.controller.specs.Answers as answers
 use Rattle.controller.specs.Scan.{scan}
 use Rattle.controller.specs.declared.Controller.{Controller}
@@ -34,7 +33,7 @@ pins_in line =
 -- 36 ms after the last one; the first at 36; at the end of 64 bits the clock stands still
 abbrev pub reading_after : ClockReading → ℕ
 reading_after None = 36
-reading_after (At milliseconds) = if leb milliseconds (2 ^ 64 - 37) then milliseconds + 36 else milliseconds
+reading_after (Some milliseconds) = if leb milliseconds (2 ^ 64 - 37) then milliseconds + 36 else milliseconds
 
 abbrev pub scan_input : ClockReading → ℕ → Input
 scan_input last pins =

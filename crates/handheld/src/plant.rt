@@ -4,12 +4,11 @@ ghost use Rattle.controller.specs.Valid.{Valid};
 ghost use Rattle.terminal.specs.Terminal.{outcome_of};
 ghost use Rattle.handheld.specs.Plant.{pins_from, pins_in, reading_after, scan_input, scan_outcome, outcome_for};
 
-use controller::{Answer, Controller};
+use controller::Controller;
 use numerals::ParsedNumber;
 use rights::Writer;
 use signals::Input;
-use signals::clock::ClockReading;
-use terminal::{LineAnswer, LineResult};
+use terminal::LineResult;
 
 #[derive(Clone, Copy)]
 pub enum PlantLine {
@@ -49,12 +48,12 @@ fn parse(line: &[u8]) -> PlantLine
 }
 
 // 36 ms after the last scan; the first at 36. At the end of 64 bits the clock stands still.
-fn reading_after(last: ClockReading) -> u64
+fn reading_after(last: Option<u64>) -> u64
     ensures { result ≡ reading_after last }
 {
     match last {
-        ClockReading::None => 36,
-        ClockReading::At(milliseconds) => {
+        None => 36,
+        Some(milliseconds) => {
             if milliseconds <= u64::MAX - 36 {
                 milliseconds + 36
             } else {
@@ -65,7 +64,7 @@ fn reading_after(last: ClockReading) -> u64
 }
 
 // These pins, channel 1 at half of its range, the others at 0, no button pressed, the sensors good.
-fn scan_input(last: ClockReading, pins: u8) -> Input
+fn scan_input(last: Option<u64>, pins: u8) -> Input
     ensures { result ≡ scan_input last pins }
 {
     Input {
@@ -89,13 +88,13 @@ fn scan(controller: Controller, pins: u8, reply: &mut [u8]) -> LineResult
     let next = r.controller;
     let answer = r.answer;
     match answer {
-        Answer::Accepted(_) => LineResult {
+        Ok(_) => LineResult {
             controller: next,
-            answer: crate::ok::write(reply),
+            answer: Ok(crate::ok::write(reply)),
         },
-        Answer::Refused(refusal) => LineResult {
+        Err(refusal) => LineResult {
             controller: next,
-            answer: LineAnswer::Refused(refusal),
+            answer: Err(refusal),
         },
     }
 }

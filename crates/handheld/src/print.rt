@@ -6,7 +6,6 @@ ghost use Rattle.terminal.specs.Terminal.{reply_of_line};
 ghost use Rattle.handheld.specs.Answers.{refusal_name, refusal_text, answer_text, answer_line};
 
 use signals::Refusal;
-use terminal::LineAnswer;
 
 // The names by refusal, each in a row as long as the longest. The contract rules out the name of another.
 fn name_row(refusal: Refusal) -> [u8; 17]
@@ -76,7 +75,7 @@ fn append_refusal(out: &mut [u8], used: usize, refusal: Refusal) -> usize
     ensures { buffer out.new result ≡ append_all (buffer out.old used) (refusal_text (number_of refusal)) }
 {
     let sign = formatting::append_bytes(out, used, b"? ");
-    let number = formatting::append_decimal(out, sign, refusal.number() as u64);
+    let number = formatting::append_decimal(out, sign, u8::from(refusal) as u64);
     let blank = formatting::append_byte(out, number, b' ');
     append_name(out, blank, refusal)
 }
@@ -91,19 +90,19 @@ fn append_front(out: &mut [u8], used: usize, bytes: &[u8], count: usize) -> usiz
     formatting::append_bytes(out, used, &bytes[0..count])
 }
 
-fn append_text(out: &mut [u8], used: usize, answer: LineAnswer, reply: &[u8]) -> usize
+fn append_text(out: &mut [u8], used: usize, answer: Result<usize, Refusal>, reply: &[u8]) -> usize
     ensures { buffer out.new result ≡ append_all (buffer out.old used)
         (answer_text (reply_of_line answer) reply.now) }
 {
     match answer {
-        LineAnswer::Reply(count) => append_front(out, used, reply, count),
-        LineAnswer::Refused(refusal) => append_refusal(out, used, refusal),
+        Ok(count) => append_front(out, used, reply, count),
+        Err(refusal) => append_refusal(out, used, refusal),
     }
 }
 
 // The line of an answer; `reply` is the buffer that the terminal wrote into. The contract rules out the line of another
 // answer, and one with no end.
-pub fn append_answer(out: &mut [u8], used: usize, answer: LineAnswer, reply: &[u8]) -> usize
+pub fn append_answer(out: &mut [u8], used: usize, answer: Result<usize, Refusal>, reply: &[u8]) -> usize
     ensures { buffer out.new result ≡ append_all (buffer out.old used)
         (answer_line (reply_of_line answer) reply.now) }
 {

@@ -5,7 +5,7 @@ ghost use Rattle.handheld.specs.Sessions.{first_session, session_outcome_of, typ
 
 use controller::Controller;
 use rights::Writer;
-use terminal::LineAnswer;
+use signals::Refusal;
 use writer_lines::ParsedWriter;
 
 // The controller, and who types.
@@ -19,7 +19,7 @@ pub struct Session {
 #[derive(Clone, Copy)]
 pub struct SessionResult {
     pub session: Session,
-    pub answer: LineAnswer,
+    pub answer: Result<usize, Refusal>,
 }
 
 // Before the first line: a controller that is fresh with SW 0, and the operator. The contract rules out others.
@@ -45,18 +45,16 @@ pub fn answer(session: Session, line: &[u8], reply: &mut [u8]) -> SessionResult
     match who {
         ParsedWriter::Writer(writer) => SessionResult {
             session: Session { controller, writer },
-            answer: crate::ok::write(reply),
+            answer: Ok(crate::ok::write(reply)),
         },
         ParsedWriter::Malformed => {
             let r = crate::plant::answer(controller, there, line, reply);
-            let next = r.controller;
-            let answer = r.answer;
             SessionResult {
                 session: Session {
-                    controller: next,
+                    controller: r.controller,
                     writer: there,
                 },
-                answer,
+                answer: r.answer,
             }
         }
     }

@@ -4,7 +4,7 @@ use Rattle.std.proofs.Math.Bool.{not}
 use Rattle.std.proofs.Common.{arith}
 use Rattle.integers.specs.Choice.{by_cases}
 use Rattle.integers.specs.Limit.{limited, limited_low, limited_high}
-use Rattle.integers.specs.Machine.{Small}
+use Rattle.integers.specs.Machine.{Small, read_back}
 use Rattle.signals.specs.Signals.{buttons_of, adjustment_of, is_open}
 use Rattle.signals.specs.declared.Input.{Input}
 use Rattle.signals.specs.declared.Adjustment.{Adjustment}
@@ -20,6 +20,9 @@ use Rattle.local_setpoint.specs.LocalSetpoint.{following_setpoint}
 
 pub parameter_small : (p : Parameters) → Legal p → (n : ℕ) → 1 ≤ n → n ≤ 23 → Small (value p n)
 parameter_small p legal n a b = record { small = omega (arith, value_most p legal n a b) }
+
+-- for `grind`, at a call that moves a parameter
+pub ruleset moves = (read_back, parameter_small)
 
 pub limited_inside : (low high x : ℤ) → low ≤ℤ high → Inside low (limited low high x) high
 limited_inside low high x h = record { not_below = limited_low low high x h; not_above = limited_high low high x }

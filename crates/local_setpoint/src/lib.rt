@@ -33,19 +33,14 @@ fn moved(adjustment: Adjustment, by: i64, low: i64, high: i64, v: i64) -> i64
     ensures { result ≡ moved adjustment by low high v }
 {
     match adjustment {
-        Adjustment::Raise => {
-            let to = integers::plus(v, by);
-            integers::limit(low, high, to)
-        }
-        Adjustment::Lower => {
-            let to = integers::minus(v, by);
-            integers::limit(low, high, to)
-        }
+        Adjustment::Raise => integers::limit(low, high, v + by),
+        Adjustment::Lower => integers::limit(low, high, v - by),
         Adjustment::Neither => v,
     }
 }
 
 // The parameter of this number, moved between the two of the numbers low and high.
+#[tactic(auto, using(integers::specs::Machine::read_back), unfolding(crate::specs::LocalSetpoint::moved_by_hand))]
 fn moved_by_hand(
     p: Parameters,
     input: Input,
@@ -63,20 +58,23 @@ fn moved_by_hand(
     let v = p.get(number);
     let least = p.get(low);
     let most = p.get(high);
-    let to = moved(adjustment, by, least, most, v);
-    integers::choose(b.sp & here, to, v)
+    if b.sp & here {
+        moved(adjustment, by, least, most, v)
+    } else {
+        v
+    }
 }
 
 // RS after step 4. The contract rules out that hands move it in another mode than Ratio, or past its limits.
+#[tactic(auto, using(crate::specs::LocalSetpointLaws::moves), unfolding(crate::specs::LocalSetpoint::ratio_after))]
 pub fn ratio_after(p: Parameters, mode: Mode, input: Input) -> i64
     requires { Legal p }
     ensures { result ≡ ratio_after p mode input }
 {
-    let ratio = modes::is_ratio(mode);
     moved_by_hand(
         p,
         input,
-        ratio,
+        mode == Mode::Ratio,
         RATIO_STEP,
         parameters::LR,
         parameters::HR,
@@ -84,16 +82,15 @@ pub fn ratio_after(p: Parameters, mode: Mode, input: Input) -> i64
     )
 }
 
+#[tactic(auto, using(crate::specs::LocalSetpointLaws::moves), unfolding(crate::specs::LocalSetpoint::setpoint_moved))]
 fn setpoint_moved(p: Parameters, mode: Mode, input: Input) -> i64
     requires { Legal p }
     ensures { result ≡ setpoint_moved p mode input }
 {
-    let ratio = modes::is_ratio(mode);
-    let remote = modes::is_remote(mode);
     moved_by_hand(
         p,
         input,
-        !ratio & !remote,
+        !matches!(mode, Mode::Ratio | Mode::Remote),
         SETPOINT_STEP,
         parameters::LS,
         parameters::HS,
@@ -102,30 +99,33 @@ fn setpoint_moved(p: Parameters, mode: Mode, input: Input) -> i64
 }
 
 // SL after step 4. The contract rules out a setpoint that tracks PV in an automatic mode or while channel 1 is open.
+#[tactic(auto, using(integers::specs::Machine::read_back), unfolding(crate::specs::LocalSetpoint::setpoint_after))]
 pub fn setpoint_after(p: Parameters, setpointtracks: bool, mode: Mode, input: Input, pv: i64) -> i64
     requires { Legal p }
     ensures { result ≡ setpoint_after p setpointtracks mode input pv }
 {
-    let sl = p.get(parameters::SL);
-    let isopen = signals::is_open(input);
-    let limited = limited_setpoint(p, pv);
-    let tracked = integers::choose(isopen, sl, limited);
-    let by_hand = setpoint_moved(p, mode, input);
-    let automatic = modes::is_automatic(mode);
-    integers::choose(setpointtracks & !automatic, tracked, by_hand)
+    if setpointtracks & !modes::is_automatic(mode) {
+        if signals::is_open(input) {
+            p.get(parameters::SL)
+        } else {
+            limited_setpoint(p, pv)
+        }
+    } else {
+        setpoint_moved(p, mode, input)
+    }
 }
 
 // SL after step 5, sl being SL after step 4. In Remote the trim is taken off SP, because a scan in Fall-back adds it
 // again. The contract rules out that the trim stays in SL in Remote, that SL leaves its limits by it, that Ratio takes
 // it off too, and that SL follows SP in any other mode.
+#[tactic(auto, using(integers::specs::Machine::read_back), unfolding(crate::specs::LocalSetpoint::following_setpoint))]
 pub fn following_setpoint(p: Parameters, mode: Mode, sl: i64, sp: i64, trim: i64) -> i64
     requires { Small sp × Small trim }
     ensures { result ≡ following_setpoint p mode sl sp trim }
 {
-    let untrimmed = integers::minus(sp, trim);
-    let limited = limited_setpoint(p, untrimmed);
-    let remote = modes::is_remote(mode);
-    let ratio = modes::is_ratio(mode);
-    let elsewhere = integers::choose(ratio, sp, sl);
-    integers::choose(remote, limited, elsewhere)
+    match mode {
+        Mode::Remote => limited_setpoint(p, sp - trim),
+        Mode::Ratio => sp,
+        _ => sl,
+    }
 }

@@ -1,16 +1,15 @@
 -- The answers of accepted scans are right, by the exact controller, over every list of calls.
+use Rattle.std.specs.Prelude.{Err, Ok}
+use Rattle.signals.specs.Clock.{ClockReading}
 use mathlib.Core.Path.{◌≡◌, refl, sym, ap, subst, ◌∙◌}
 use mathlib.Core.Bool.{not}
 use mathlib.Core.List.{List, []}
 use Prim.Native.Nat.{ℕ}
 use Rattle.signals.specs.declared.Input.{Input}
-use Rattle.signals.specs.declared.clock.ClockReading.{ClockReading}
 use Rattle.answers.specs.declared.ScanValues.{ScanValues}
 use Rattle.sheet_guarantee.specs.Meaning.{Answers}
 use Rattle.sheet_guarantee.proofs.Claim.{always}
-use Rattle.controller.specs.Answers.{Response, reply_of}
-use Rattle.controller.specs.declared.Answer.{Answer}
-use Rattle.controller.specs.declared.Answer.TheVariants.{Accepted, Refused}
+use Rattle.controller.specs.Answers.{Response, reply_of, Answer}
 use Rattle.controller.specs.declared.Controller.{Controller}
 use Rattle.controller.specs.declared.Core.{Core}
 use Rattle.guarantee.specs.Claim.{capped}
@@ -46,7 +45,7 @@ clock_same c exactly same = ap (λ (k : Core). k.clock) same
 
 -- of a controller c and the exact one's state, which are alike but for the output and counts above 85
 right : (c : Controller) (exactly : Core) (v : ScanValues) → capped c.core ≡ capped exactly → mode_in exactly ≡ mode_in c.core →
-    ScanAnswer c (Accepted v) → Right exactly v
+    ScanAnswer c (Ok v) → Right exactly v
 unfolding capped
 right c exactly v same mode a =
     let w = a.values in
@@ -64,10 +63,10 @@ right c exactly v same mode a =
 -- of an answer: it was refused, or it is right
 by_answer : {word : ℕ} {xs : Calls} {ys : Answers} (i : Input) (answer : Answer) → AllRight word xs ys →
     refusal_in (reply_of answer) ≡ scan_refusal (last_reading word xs) i →
-    ((v : ScanValues) → answer ≡ Accepted v → Right (exact word (xs then scan i)).core v) →
+    ((v : ScanValues) → answer ≡ Ok v → Right (exact word (xs then scan i)).core v) →
     AllRight word (xs then scan i) (with_answer ys answer)
-by_answer i (Accepted v) l e f = accepted_scan l (sym e) (f v refl)
-by_answer i (Refused refusal) l e f = refused_scan_lem l (sym e)
+by_answer i (Ok v) l e f = accepted_scan l (sym e) (f v refl)
+by_answer i (Err refusal) l e f = refused_scan_lem l (sym e)
 
 all_right : {word : ℕ} {xs : Calls} {c : Controller} {ys : Answers} → Answered word xs c ys → AllRight word xs ys
 all_right {word} (started r e) = no_call

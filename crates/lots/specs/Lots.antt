@@ -1,20 +1,19 @@
 -- Document 02, request 1: "a sheet .., fed by one accepted scan's answer after another". Which answers these are over
 -- every list of calls, told by the exact controller; what a sheet makes of them is `Always` (sheet_guarantee).
-use Rattle.std.specs.Prelude.{◌≡◌, not, List, ℕ, ℤ}
+use Rattle.std.specs.Prelude.{◌≡◌, not, List, ℕ, ℤ, Err, Ok}
 use Rattle.std.proofs.Math.Option.{some}
 use Rattle.std.proofs.Math.Option as option
 use Rattle.signals.specs.Bits.{bit}
 use Rattle.signals.specs.declared.Input.{Input}
 use Rattle.answers.specs.declared.ScanValues.{ScanValues}
 use Rattle.sheet.specs.declared.Sheet.{Sheet}
+use Rattle.controller.specs.Answers.{Answer}
 use Rattle.sheet_guarantee.specs.Claim.{SheetClaim}
 use Rattle.sheet_guarantee.specs.Linked as sheets
 use Rattle.sheet_guarantee.specs.Linked.{Entry}
 use Rattle.sheet_guarantee.specs.Meaning as answers
 use Rattle.sheet_guarantee.specs.Meaning.{Answers}
 use Rattle.rights.specs.declared.Writer.{Writer}
-use Rattle.controller.specs.declared.Answer.{Answer}
-use Rattle.controller.specs.declared.Answer.TheVariants.{Accepted, Refused}
 use Rattle.controller.specs.declared.CallResult.{CallResult}
 use Rattle.controller.specs.declared.Controller.{Controller}
 use Rattle.controller.specs.declared.Core.{Core}
@@ -28,8 +27,8 @@ use Rattle.promises.specs.RefusalCauses.{scan_refusal}
 -- ---- what a lot program enters: the values of each accepted scan, as the contracts of the calls give them
 
 abbrev pub with_answer : Answers → Answer → Answers
-with_answer ys (Accepted v) = answers.◌then◌ ys v
-with_answer ys (Refused refusal) = ys
+with_answer ys (Ok v) = answers.◌then◌ ys v
+with_answer ys (Err refusal) = ys
 
 -- after these calls the controller is this one, and these answers were given by accepted scans
 pub data Answered (word : ℕ) : Calls → Controller → Answers → Type 0 where

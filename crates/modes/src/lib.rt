@@ -5,12 +5,12 @@ ghost use Rattle.std.specs.Prelude.{◌≡◌, true};
 ghost use Rattle.signals.specs.declared.Input.{Input};
 ghost use Rattle.modes.specs.Modes.{is_open_cause, is_cause, counted, open_count_after, request_by, request_after};
 ghost use Rattle.modes.specs.Modes.{conditions_after, mode_by, in_priority, mode_of, goes_to_minimum};
-ghost use Rattle.modes.specs.Modes.{is_automatic, is_track, is_remote, is_ratio, is_auto_or_fallback, sets_setpoint, is_limiting};
+ghost use Rattle.modes.specs.Modes.{is_automatic, is_auto_or_fallback, sets_setpoint, is_limiting};
 
 use signals::{Buttons, Input};
 
 // What was requested last, by a button or by a write of MD.
-#[derive(Clone, Copy)]
+#[derive(Clone, Copy, PartialEq, Eq)]
 pub enum Request {
     Manual,
     Auto,
@@ -18,7 +18,7 @@ pub enum Request {
 }
 
 // The modes in their priority order.
-#[derive(Clone, Copy)]
+#[derive(Clone, Copy, PartialEq, Eq)]
 pub enum Mode {
     Hold,
     Track,
@@ -61,17 +61,15 @@ pub fn is_cause(fault: bool, opencount: u8) -> bool
 }
 
 // One more open scan; the count stops at 85, so it never runs out of its type.
+#[tactic(auto, unfolding(crate::specs::Modes::counted))]
 fn counted(opencount: u8) -> u8
     ensures { result ≡ counted opencount }
 {
-    if opencount < OPEN_CAUSE_SCANS {
-        opencount + 1
-    } else {
-        OPEN_CAUSE_SCANS
-    }
+    opencount.saturating_add(1).min(OPEN_CAUSE_SCANS)
 }
 
 // The contract rules out a count that a scan that isn't open leaves standing.
+#[tactic(auto, unfolding(crate::specs::Modes::open_count_after))]
 fn open_count_after(isopen: bool, opencount: u8) -> u8
     ensures { result ≡ open_count_after counted isopen opencount }
 {
@@ -83,15 +81,14 @@ fn request_by(b: Buttons, q: Request) -> Request
     ensures { result ≡ request_by b q }
 {
     if b.m {
-        return Request::Manual;
+        Request::Manual
+    } else if b.a {
+        Request::Auto
+    } else if b.r {
+        Request::Remote
+    } else {
+        q
     }
-    if b.a {
-        return Request::Auto;
-    }
-    if b.r {
-        return Request::Remote;
-    }
-    q
 }
 
 // The contract rules out a button that leaves Forced Manual.
@@ -109,17 +106,9 @@ fn mode_by(q: Request, remotepin: bool, ratioswitch: bool) -> Mode
     match q {
         Request::Manual => Mode::Manual,
         Request::Auto => Mode::Auto,
-        Request::Remote => {
-            if remotepin {
-                if ratioswitch {
-                    Mode::Ratio
-                } else {
-                    Mode::Remote
-                }
-            } else {
-                Mode::Fallback
-            }
-        }
+        Request::Remote if !remotepin => Mode::Fallback,
+        Request::Remote if ratioswitch => Mode::Ratio,
+        Request::Remote => Mode::Remote,
     }
 }
 
@@ -127,14 +116,14 @@ fn mode_by(q: Request, remotepin: bool, ratioswitch: bool) -> Mode
 fn in_priority(holdpin: bool, trackpin: bool, cause: bool, requested: Mode) -> Mode
     ensures { result ≡ in_priority holdpin trackpin cause requested }
 {
-    if holdpin {
-        if trackpin {
-            Mode::Track
-        } else {
-            if cause { Mode::Forced } else { requested }
-        }
-    } else {
+    if !holdpin {
         Mode::Hold
+    } else if trackpin {
+        Mode::Track
+    } else if cause {
+        Mode::Forced
+    } else {
+        requested
     }
 }
 
@@ -142,50 +131,14 @@ fn in_priority(holdpin: bool, trackpin: bool, cause: bool, requested: Mode) -> M
 pub fn is_automatic(mode: Mode) -> bool
     ensures { result ≡ is_automatic mode }
 {
-    match mode {
-        Mode::Auto | Mode::Remote | Mode::Ratio | Mode::Fallback => true,
-        _ => false,
-    }
-}
-
-// The contract rules out any mode but Track.
-pub fn is_track(mode: Mode) -> bool
-    ensures { result ≡ is_track mode }
-{
-    match mode {
-        Mode::Track => true,
-        _ => false,
-    }
-}
-
-// The contract rules out any mode but Remote.
-pub fn is_remote(mode: Mode) -> bool
-    ensures { result ≡ is_remote mode }
-{
-    match mode {
-        Mode::Remote => true,
-        _ => false,
-    }
-}
-
-// The contract rules out any mode but Ratio.
-pub fn is_ratio(mode: Mode) -> bool
-    ensures { result ≡ is_ratio mode }
-{
-    match mode {
-        Mode::Ratio => true,
-        _ => false,
-    }
+    matches!(mode, Mode::Auto | Mode::Remote | Mode::Ratio | Mode::Fallback)
 }
 
 // The contract rules out Remote and Ratio, which keep the previous SP within c1.
 pub fn is_auto_or_fallback(mode: Mode) -> bool
     ensures { result ≡ is_auto_or_fallback mode }
 {
-    match mode {
-        Mode::Auto | Mode::Fallback => true,
-        _ => false,
-    }
+    matches!(mode, Mode::Auto | Mode::Fallback)
 }
 
 // Whether SL is left to the scans of this mode. The contract rules out Auto and Fall-back, and, with S2.6 OFF, every
@@ -193,32 +146,26 @@ pub fn is_auto_or_fallback(mode: Mode) -> bool
 pub fn sets_setpoint(mode: Mode, setpointtracks: bool) -> bool
     ensures { result ≡ sets_setpoint mode setpointtracks }
 {
-    let remote = is_remote(mode);
-    let ratio = is_ratio(mode);
-    let automatic = is_automatic(mode);
-    remote | ratio | (setpointtracks & !automatic)
+    matches!(mode, Mode::Remote | Mode::Ratio) | (setpointtracks & !is_automatic(mode))
 }
 
 // Whether the output is limited in this mode. The contract rules out Hold and Track, and that another is left out.
 pub fn is_limiting(mode: Mode) -> bool
     ensures { result ≡ is_limiting mode }
 {
-    match mode {
-        Mode::Hold | Mode::Track => false,
-        _ => true,
-    }
+    !matches!(mode, Mode::Hold | Mode::Track)
 }
 
 impl Conditions {
     // What an accepted scan leaves. The contract rules out a count that goes on through a scan that isn't open, and a
     // request kept under a cause.
+    #[tactic(auto, unfolding(crate::specs::Modes::conditions_after))]
     pub fn after(self, input: Input) -> Conditions
         ensures { result ≡ conditions_after counted self input }
     {
         let opencount = open_count_after(signals::is_open(input), self.opencount);
         let cause = is_cause(self.fault, opencount);
-        let q = self.request;
-        let request = request_after(cause, signals::buttons_of(input.buttons), q);
+        let request = request_after(cause, signals::buttons_of(input.buttons), self.request);
         Conditions {
             request,
             fault: self.fault,
@@ -228,25 +175,25 @@ impl Conditions {
     }
 
     // The mode. The contract rules out another order, and one mode for ever.
+    #[tactic(auto, unfolding(crate::specs::Modes::mode_of))]
     pub fn mode(self, ratioswitch: bool) -> Mode
         ensures { result ≡ mode_of self ratioswitch }
     {
         let p = signals::pins_of(self.pins);
         let cause = is_cause(self.fault, self.opencount);
-        let q = self.request;
-        let requested = mode_by(q, p.remote, ratioswitch);
+        let requested = mode_by(self.request, p.remote, ratioswitch);
         in_priority(p.hold, p.track, cause, requested)
     }
 
     // Whether a scan of this input, made now, sets the output to minimum if its mode is Manual or Forced Manual. The
     // contract rules out any but the 85th open scan, and the mode of this scan taken for the one before.
+    #[tactic(auto, unfolding(crate::specs::Modes::goes_to_minimum))]
     pub fn goes_to_minimum(self, input: Input, ratioswitch: bool, powerfail: bool) -> bool
         ensures { result ≡ goes_to_minimum self input ratioswitch powerfail }
     {
-        let mode = self.mode(ratioswitch);
         signals::is_open(input)
             & (self.opencount == SCANS_BEFORE_CAUSE)
-            & is_automatic(mode)
+            & is_automatic(self.mode(ratioswitch))
             & powerfail
     }
 }

@@ -7,7 +7,7 @@ use Rattle.std.proofs.Common.{arith, to_z, of_z}
 use Rattle.std.specs.Int.{w64}
 use Rattle.integers.specs.Choice.{by_cases}
 use Rattle.integers.specs.Limit.{limited_low, limited_high}
-use Rattle.integers.specs.Machine.{Small, back}
+use Rattle.integers.specs.Machine.{Small, back, read_back, sum_fits, difference_fits}
 use Rattle.integers.specs.Operations.{Size, number, sum, difference, product, sum_size, difference_size}
 use Rattle.integers.specs.Parts.{integers, apart}
 use Rattle.signals.specs.declared.Switches.{Switches}
@@ -18,7 +18,7 @@ use Rattle.parameters.specs.Legal.{Legal}
 use Rattle.parameters.specs.LegalLaws.{ranges, value_most}
 use Rattle.parameters.specs.Table.{H1, L1, HO, LO, XP}
 use Rattle.parameters.specs.declared.Parameters.{Parameters}
-use Rattle.setpoints.specs.ComputationLaws.{InReadingRange}
+use Rattle.setpoints.specs.ComputationLaws.{InReadingRange, reading_back}
 use Rattle.setpoints.specs.declared.Readings.{Readings}
 use Rattle.terms.specs.Fraction.{Fraction, Positive, stored_units, limited_stored}
 use Rattle.terms.specs.TermLaws.{term_size}
@@ -288,3 +288,18 @@ module _ (p : Parameters) (legal : Legal p) where
   restart_stored s tominimum op output =
       let r = ranges p legal in
       in_units_stored (LO p) (HO p) _ r.outputs.not_below r.outputs.not_above (restart_in_units s tominimum op output)
+
+-- for `grind`, where readings and outputs are computed with
+pub ruleset readings = (
+  read_back,
+  reading_back,
+  stored_back,
+  stored_small,
+  control_difference_most,
+  earlier_reading,
+  limited_choice,
+  low_limit_most,
+  high_limit_most,
+  minimum_most,
+  restarted_most,
+)

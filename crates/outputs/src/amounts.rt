@@ -1,4 +1,4 @@
-// Amounts of output: the step of Raise and Lower, and, stored, one unit and the greatest.
+// Amounts of output: the step of Raise and Lower, and one unit, stored.
 
 // What Raise or Lower moves the output by, in units.
 pub const RAISE_STEP: i64 = 12;
@@ -7,6 +7,3 @@ pub const LOWER_STEP: i64 = -RAISE_STEP;
 
 // One unit, stored.
 pub const UNIT: i64 = terms::UNIT as i64;
-
-// The greatest output, stored.
-pub const STORED_MOST: i64 = parameters::OUTPUT_MOST * UNIT;

@@ -6,6 +6,7 @@ use crate::{History, Past};
 use setpoints::Readings;
 
 // The contract rules out a gap that forgets only a part, and a scan after none that forgets.
+#[tactic(auto, unfolding(crate::specs::History::history_before))]
 pub fn history_before(h: History, aftergap: bool) -> History
     ensures { result ≡ history_before h aftergap }
 {
@@ -45,6 +46,7 @@ fn remembered(h: History, r: Readings) -> History
 }
 
 // The contract rules out an open scan that is remembered and one that forgets only a part.
+#[tactic(auto, unfolding(crate::specs::History::history_after))]
 pub fn history_after(h: History, isopen: bool, r: Readings) -> History
     ensures { result ≡ history_after h isopen r }
 {

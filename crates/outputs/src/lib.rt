@@ -50,22 +50,26 @@ pub struct Context {
 }
 
 // c, the control difference, or c1 of earlier values.
+#[tactic(auto, using(crate::specs::OutputLaws::readings), unfolding(crate::specs::ControlDifference::control_difference))]
 fn control_difference(inverse: bool, sp: i64, pv: i64) -> i64
     requires { Small sp × Small pv }
     ensures { result ≡ control_difference inverse sp pv }
 {
-    let reverse = integers::minus(pv, sp);
-    let direct = integers::minus(sp, pv);
-    integers::choose(inverse, reverse, direct)
+    if inverse { pv - sp } else { sp - pv }
 }
 
+#[tactic(auto, using(crate::specs::OutputLaws::readings), unfolding(crate::specs::ControlDifference::earlier_setpoint))]
 fn earlier_setpoint(s: Switches, mode: Mode, r: Readings, past: Past) -> i64
     ensures { result ≡ earlier_setpoint s mode r past }
 {
-    let balanced = modes::is_auto_or_fallback(mode);
-    integers::choose(balanced & !s.balanceoff, r.sp, past.sp)
+    if modes::is_auto_or_fallback(mode) & !s.balanceoff {
+        r.sp
+    } else {
+        past.sp
+    }
 }
 
+#[tactic(auto, using(crate::specs::OutputLaws::readings), unfolding(crate::specs::ControlDifference::change_of_difference))]
 fn change_of_difference(s: Switches, mode: Mode, r: Readings, past: Past) -> i64
     requires { ReadingsRange r × PastRange past }
     ensures { result ≡ change_of_difference s mode r past }
@@ -73,31 +77,26 @@ fn change_of_difference(s: Switches, mode: Mode, r: Readings, past: Past) -> i64
     let now = control_difference(s.inverseoutput, r.sp, r.pv);
     let sp = earlier_setpoint(s, mode, r, past);
     let earlier = control_difference(s.inverseoutput, sp, past.pv);
-    integers::minus(now, earlier)
+    now - earlier
 }
 
+#[tactic(auto, using(crate::specs::OutputLaws::readings), unfolding(crate::specs::ControlDifference::second_difference))]
 fn second_difference(r: Readings, past: Past) -> i64
     requires { ReadingsRange r × PastRange past }
     ensures { result ≡ second_difference r past }
 {
-    let twice = integers::plus(past.pv, past.pv);
-    let first = integers::minus(r.pv, twice);
-    integers::plus(first, past.before)
+    r.pv - 2 * past.pv + past.before
 }
 
 fn tuning_of(p: Parameters, s: Switches) -> Tuning
     requires { Legal p }
     ensures { result ≡ tuning_of p s }
 {
-    let xp = integers::magnitude(p.get(parameters::XP));
-    let span = integers::minus(p.get(parameters::H1), p.get(parameters::L1));
-    let ti = integers::magnitude(p.get(parameters::TI));
-    let td = integers::magnitude(p.get(parameters::TD));
     Tuning {
-        xp,
-        span: integers::magnitude(span),
-        ti,
-        td,
+        xp: p.get(parameters::XP).unsigned_abs(),
+        span: (p.get(parameters::H1) - p.get(parameters::L1)).unsigned_abs(),
+        ti: p.get(parameters::TI).unsigned_abs(),
+        td: p.get(parameters::TD).unsigned_abs(),
         minutes: s.minutes,
         inverted: s.inverseoutput,
     }
@@ -110,18 +109,16 @@ fn with_terms(p: Parameters, x: Context, r: Readings, h: History, output: i64) -
     ensures { result ≡ changed stored_arithmetic (terms_of p x r h) output }
 {
     let s = x.switches;
-    let mode = x.mode;
     let t = tuning_of(p, s);
     let past = earlier::recalled(h, r);
-    let change = change_of_difference(s, mode, r, past);
+    let change = change_of_difference(s, x.mode, r, past);
     let c = control_difference(s.inverseoutput, r.sp, r.pv);
     let d = second_difference(r, past);
-    let one = integers::plus(output, terms::proportional(t, change));
-    let two = integers::plus(one, terms::integral(t, c));
-    integers::plus(two, terms::derivative(t, d))
+    output + terms::proportional(t, change) + terms::integral(t, c) + terms::derivative(t, d)
 }
 
 // So many whole units, stored.
+#[tactic(auto, using(crate::specs::OutputLaws::readings), unfolding(terms::specs::Fraction::stored_units))]
 fn units(u: i64) -> i64
     requires { nat_abs u ≤ 65535 }
     ensures { result ≡ stored_units u }
@@ -129,91 +126,81 @@ fn units(u: i64) -> i64
     u * amounts::UNIT
 }
 
+#[tactic(auto, using(crate::specs::OutputLaws::readings), unfolding(crate::specs::Outputs::minimum_of))]
 fn minimum_of(p: Parameters, s: Switches) -> i64
     ensures { result ≡ minimum_of p s }
 {
-    let high = p.get(parameters::HO);
-    let low = p.get(parameters::LO);
-    integers::choose(s.displayinversion, high, low)
+    if s.displayinversion {
+        p.get(parameters::HO)
+    } else {
+        p.get(parameters::LO)
+    }
 }
 
+#[tactic(auto, using(crate::specs::OutputLaws::readings), unfolding(crate::specs::Instruction::changed, crate::specs::Instruction::stored_arithmetic))]
 fn adjusted(adjustment: Adjustment, output: i64) -> i64
     requires { OutputRange output }
     ensures { result ≡ changed stored_arithmetic (adjusted adjustment) output }
 {
     match adjustment {
-        Adjustment::Raise => {
-            let by = units(amounts::RAISE_STEP);
-            integers::plus(output, by)
-        }
-        Adjustment::Lower => {
-            let by = units(amounts::LOWER_STEP);
-            integers::plus(output, by)
-        }
+        Adjustment::Raise => output + units(amounts::RAISE_STEP),
+        Adjustment::Lower => output + units(amounts::LOWER_STEP),
         Adjustment::Neither => output,
     }
 }
 
 // Manual and Forced Manual. The contract rules out a move while SP is held, and Raise or Lower beside the minimum.
+#[tactic(auto, using(crate::specs::OutputLaws::readings), unfolding(crate::specs::Outputs::by_hand, crate::specs::Instruction::changed, crate::specs::Instruction::stored_arithmetic))]
 fn by_hand(p: Parameters, x: Context, output: i64) -> i64
     requires { Legal p × OutputRange output }
     ensures { result ≡ changed stored_arithmetic (by_hand p x) output }
 {
-    let s = x.switches;
-    let input = x.input;
-    let b = signals::buttons_of(input.buttons);
-    let adjustment = signals::adjustment_of(b);
+    let b = signals::buttons_of(x.input.buttons);
     if x.tominimum {
-        return units(minimum_of(p, s));
+        units(minimum_of(p, x.switches))
+    } else if b.sp {
+        output
+    } else {
+        adjusted(signals::adjustment_of(b), output)
     }
-    if b.sp {
-        return output;
-    }
-    adjusted(adjustment, output)
 }
 
 // The automatic modes.
+#[tactic(auto, using(crate::specs::OutputLaws::readings), unfolding(crate::specs::Outputs::by_terms, crate::specs::Instruction::changed, crate::specs::Instruction::stored_arithmetic))]
 fn by_terms(p: Parameters, x: Context, r: Readings, h: History, output: i64) -> i64
     requires { Legal p × ReadingsRange r × HistoryRange h × OutputRange output }
     ensures { result ≡ changed stored_arithmetic (by_terms p x r h) output }
 {
-    let input = x.input;
-    let isopen = signals::is_open(input);
-    if isopen {
-        return output;
+    if signals::is_open(x.input) {
+        output
+    } else {
+        with_terms(p, x, r, h, output)
     }
-    with_terms(p, x, r, h, output)
 }
 
 // Track's output, stored: the lesser of sample 3 and 9999 units.
+#[tactic(auto, using(crate::specs::OutputLaws::readings), unfolding(terms::specs::Fraction::stored_units))]
 fn tracked(sample: u16) -> i64
     ensures { result ≡ stored_units (pos (min sample 9999)) }
 {
-    if sample < parameters::OP_MOST {
-        return sample as i64 * amounts::UNIT;
-    }
-    amounts::STORED_MOST
+    i64::from(sample.min(parameters::OP_MOST)) * amounts::UNIT
 }
 
+#[tactic(auto, using(crate::specs::OutputLaws::readings), unfolding(crate::specs::Instruction::changed, crate::specs::Instruction::stored_arithmetic))]
 fn changed_in(p: Parameters, x: Context, r: Readings, h: History, output: i64) -> i64
     requires { Legal p × ReadingsRange r × HistoryRange h × OutputRange output }
     ensures { result ≡ changed stored_arithmetic (change_in x.mode p x r h) output }
 {
-    let mode = x.mode;
-    let input = x.input;
-    match mode {
+    match x.mode {
         Mode::Hold => output,
-        Mode::Track => tracked(input.sample3),
-        Mode::Forced => by_hand(p, x, output),
-        Mode::Manual => by_hand(p, x, output),
-        Mode::Auto => by_terms(p, x, r, h, output),
-        Mode::Remote => by_terms(p, x, r, h, output),
-        Mode::Ratio => by_terms(p, x, r, h, output),
-        Mode::Fallback => by_terms(p, x, r, h, output),
+        Mode::Track => tracked(x.input.sample3),
+        Mode::Forced | Mode::Manual => by_hand(p, x, output),
+        Mode::Auto | Mode::Remote | Mode::Ratio | Mode::Fallback => by_terms(p, x, r, h, output),
     }
 }
 
 // Limited to LO..HO.
+#[tactic(auto, using(crate::specs::OutputLaws::readings), unfolding(terms::specs::Fraction::limited_stored))]
 fn limited(p: Parameters, output: i64) -> i64
     requires { Legal p }
     ensures { result ≡ limited_stored (LO p) (HO p) output }
@@ -223,17 +210,21 @@ fn limited(p: Parameters, output: i64) -> i64
     integers::limit(low, high, output)
 }
 
+#[tactic(auto, using(crate::specs::OutputLaws::readings), unfolding(crate::specs::Outputs::limits_in, crate::specs::Instruction::limited_to, crate::specs::Instruction::stored_arithmetic))]
 fn limited_in(mode: Mode, p: Parameters, output: i64) -> i64
     requires { Legal p }
     ensures { result ≡ limited_to stored_arithmetic (limits_in mode p) output }
 {
-    let limiting = modes::is_limiting(mode);
-    let within = limited(p, output);
-    integers::choose(limiting, within, output)
+    if modes::is_limiting(mode) {
+        limited(p, output)
+    } else {
+        output
+    }
 }
 
 // The stored output after an accepted scan. The contract rules out an output limited in Hold, one that
 // is not limited elsewhere, one that never moves, and one that repeats an earlier one.
+#[tactic(auto, using(crate::specs::OutputLaws::readings), unfolding(crate::specs::Instruction::executed, crate::specs::Outputs::instruction_of))]
 pub fn output_after(p: Parameters, x: Context, r: Readings, h: History, output: i64) -> i64
     requires { Legal p × ReadingsRange r × HistoryRange h × OutputRange output }
     ensures { result ≡ executed stored_arithmetic (instruction_of p x r h) output }
@@ -245,6 +236,7 @@ pub fn output_after(p: Parameters, x: Context, r: Readings, h: History, output: 
 
 // The stored output after an accepted write of the parameter with this number. The contract rules out an output
 // that HO or LO limits in Hold or Track, one that they leave outside elsewhere, and one that another write moves.
+#[tactic(auto, using(crate::specs::OutputLaws::readings), unfolding(crate::specs::Outputs::limits_written, crate::specs::Instruction::limited_to))]
 pub fn output_written(number: u64, mode: Mode, p: Parameters, output: i64) -> i64
     requires { Legal p }
     ensures { result ≡ limited_to stored_arithmetic (limits_written number mode p) output }

@@ -118,6 +118,7 @@ impl Parameters {
     }
 
     // The value of a parameter, 0 for a number above 23. The contract rules out a neighbour's value.
+    #[tactic(auto, unfolding(crate::specs::Table::value))]
     pub fn get(self, number: u64) -> i64
         ensures { result ≡ value self number }
     {
@@ -126,6 +127,7 @@ impl Parameters {
     }
 
     // The same but for one value. The contract rules out that another one changes.
+    #[tactic(auto, unfolding(crate::specs::Table::with_value))]
     pub fn with(mut self, number: u64, to: i64) -> Parameters
         ensures { result ≡ with_value self number to }
     {

@@ -5,22 +5,20 @@ ghost use Rattle.parameters.specs.Table.{value};
 ghost use Rattle.parameters.specs.Legal.{unknown_refusal, read_only_refusal, is_within, in_order, ordered, in_range, pair_in_order};
 
 use crate::{Parameters, Rule};
-use signals::Verdict;
+use signals::Refusal;
 
+#[tactic(auto, using(integers::specs::Machine::read_back))]
 fn is_within(low: i64, high: i64, v: i64) -> bool
     ensures { result ≡ is_within low high v }
 {
-    integers::not_above(low, v) & integers::not_above(v, high)
+    (low <= v) & (v <= high)
 }
 
+#[tactic(auto, using(integers::specs::Machine::read_back))]
 fn in_order(strict: bool, low: i64, high: i64) -> bool
     ensures { result ≡ in_order strict low high }
 {
-    if strict {
-        integers::less(low, high)
-    } else {
-        integers::not_above(low, high)
-    }
+    if strict { low < high } else { low <= high }
 }
 
 // A value for the upper one of a pair is tested against the stored value of the lower one, and any other against that
@@ -37,30 +35,22 @@ fn ordered(p: Parameters, high: u64, low: u64, strict: bool, number: u64, v: i64
 
 impl Rule {
     // The refusal of a number that has no parameter. The contract rules out one for any other row.
-    pub fn unknown_verdict(self) -> Verdict
+    pub fn unknown_verdict(self) -> Result<(), Refusal>
         ensures { number_in result ≡ unknown_refusal self }
     {
         match self {
-            Rule::Unknown(refusal) => Verdict::Refused(refusal),
-            Rule::ReadOnly(_) => Verdict::Accepted,
-            Rule::Word(_, _) => Verdict::Accepted,
-            Rule::Free(_, _) => Verdict::Accepted,
-            Rule::Pair(_, _, _, _, _) => Verdict::Accepted,
-            Rule::Between(_, _) => Verdict::Accepted,
+            Rule::Unknown(refusal) => Err(refusal),
+            _ => Ok(()),
         }
     }
 
     // The refusal of a parameter that can't be written. The contract rules out one for any other row.
-    pub fn read_only_verdict(self) -> Verdict
+    pub fn read_only_verdict(self) -> Result<(), Refusal>
         ensures { number_in result ≡ read_only_refusal self }
     {
         match self {
-            Rule::Unknown(_) => Verdict::Accepted,
-            Rule::ReadOnly(refusal) => Verdict::Refused(refusal),
-            Rule::Word(_, _) => Verdict::Accepted,
-            Rule::Free(_, _) => Verdict::Accepted,
-            Rule::Pair(_, _, _, _, _) => Verdict::Accepted,
-            Rule::Between(_, _) => Verdict::Accepted,
+            Rule::ReadOnly(refusal) => Err(refusal),
+            _ => Ok(()),
         }
     }
 
@@ -69,8 +59,7 @@ impl Rule {
         ensures { result ≡ in_range self (value p) v }
     {
         match self {
-            Rule::Unknown(_) => true,
-            Rule::ReadOnly(_) => true,
+            Rule::Unknown(_) | Rule::ReadOnly(_) => true,
             Rule::Word(least, most) => is_within(least, most, v),
             Rule::Free(least, most) => is_within(least, most, v),
             Rule::Pair(least, most, _, _, _) => is_within(least, most, v),
@@ -84,12 +73,8 @@ impl Rule {
         ensures { result ≡ pair_in_order self (value p) number v }
     {
         match self {
-            Rule::Unknown(_) => true,
-            Rule::ReadOnly(_) => true,
-            Rule::Word(_, _) => true,
-            Rule::Free(_, _) => true,
             Rule::Pair(_, _, high, low, strict) => ordered(p, high, low, strict, number, v),
-            Rule::Between(_, _) => true,
+            _ => true,
         }
     }
 }

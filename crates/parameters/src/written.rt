@@ -6,17 +6,18 @@ use crate::Parameters;
 
 impl Parameters {
     // Limits one value anew to the values of two others. The contract rules out limits that are exchanged.
+    #[tactic(auto, using(integers::specs::Machine::read_back), unfolding(crate::specs::Written::limited_anew))]
     pub fn limited_anew(self, number: u64, low: u64, high: u64) -> Parameters
         ensures { result ≡ limited_anew self number low high }
     {
         let least = self.get(low);
         let most = self.get(high);
         let v = self.get(number);
-        let limited = integers::limit(least, most, v);
-        self.with(number, limited)
+        self.with(number, integers::limit(least, most, v))
     }
 
     // The contract rules out a limit that leaves SL or RS outside, and a write that moves any other parameter.
+    #[tactic(auto, using(integers::specs::Machine::read_back), unfolding(crate::specs::Written::written))]
     pub fn written(self, number: u64, v: i64) -> Parameters
         ensures { result ≡ written self number v }
     {

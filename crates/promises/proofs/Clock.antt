@@ -1,11 +1,11 @@
 -- An accepted scan after a gap is that of the controller with nothing remembered; any other that of the controller with
 -- its earlier PVs and SP and no reading.
+use Rattle.std.specs.Prelude.{None}
+use Rattle.signals.specs.Clock.{ClockReading}
 use mathlib.Core.Path.{◌≡◌, refl, sym, ap, ◌∙◌}
 use mathlib.Core.Option.{none}
 use Rattle.signals.specs.Refusals.{refused_by, scan_tests}
 use Rattle.signals.specs.declared.Input.{Input}
-use Rattle.signals.specs.declared.clock.ClockReading.{ClockReading}
-use Rattle.signals.specs.declared.clock.ClockReading.TheVariants.{None}
 use Rattle.modes.specs.Modes.{counted, conditions_after}
 use Rattle.outputs.specs.History.{history_before}
 use Rattle.outputs.specs.Outputs.{instruction_of}

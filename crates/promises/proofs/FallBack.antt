@@ -1,5 +1,5 @@
 -- A scan in Fall-back straight after one in Remote has its SP.
-use Rattle.std.specs.Prelude.{if◌then◌else◌}
+use Rattle.std.specs.Prelude.{if◌then◌else◌, Err, Ok}
 use mathlib.Core.Path.{◌≡◌, refl, sym, ap, subst, ◌∙◌}
 use mathlib.Core.Bool.{Bool, true, false, not, ◌&&◌}
 use mathlib.Core.List.{List, [], ◌∷◌}
@@ -22,13 +22,10 @@ use Rattle.words.specs.declared.UserBits.{UserBits}
 use Rattle.parameters.specs.LegalLaws.{Inside, ranges}
 use Rattle.parameters.specs.Table.{value}
 use Rattle.local_setpoint.specs.LocalSetpointLaws.{setpoint_limited}
-use Rattle.controller.specs.Answers.{Reply, words, reading, acceptance, number, reply_of, reply_of_read}
+use Rattle.controller.specs.Answers.{Reply, words, reading, acceptance, number, reply_of, reply_of_read, Answer, ReadAnswer}
 use Rattle.controller.specs.Valid.{Valid}
-use Rattle.controller.specs.declared.Answer.{Answer}
 use Rattle.controller.specs.declared.Controller.{Controller}
 use Rattle.controller.specs.declared.Core.{Core}
-use Rattle.controller.specs.declared.ReadAnswer.{ReadAnswer}
-use Rattle.controller.specs.declared.ReadAnswer.TheVariants.{Value, Refused}
 use Rattle.controller.specs.declared.ScanResult.{ScanResult}
 use Rattle.guarantee.specs.Claim.{capped}
 use Rattle.guarantee.specs.Linked.{scanned}
@@ -214,10 +211,10 @@ is_reading (words md ds op electrical mode pv) = false
 is_reading acceptance = false
 is_reading (number n) = false
 
-answer_read : (a : ReadAnswer) (v : ℤ) → reply_of_read a ≡ reading v → a ≡ Value v
+answer_read : (a : ReadAnswer) (v : ℤ) → reply_of_read a ≡ reading v → a ≡ Ok v
 unfolding reading_in is_reading
-answer_read (Value w) v e = ap (λ (s : Reply). Value (reading_in w s)) e
-answer_read (Refused refusal) v e = never (ap is_reading e)
+answer_read (Ok w) v e = ap (λ (s : Reply). Ok (reading_in w s)) e
+answer_read (Err refusal) v e = never (ap is_reading e)
 
 sp_same : (c exactly : Core) → capped c ≡ capped exactly → c.readings.sp ≡ exactly.readings.sp
 unfolding capped

@@ -18,9 +18,8 @@ use Rattle.integers.specs.Operations.{difference}
 use Rattle.integers.specs.Parts.{integers}
 use Rattle.integers.specs.TwosComplement.{from_word}
 use Rattle.signals.specs.Bits.{bit}
-use Rattle.signals.specs.Refusals.{refused_by}
+use Rattle.signals.specs.Refusals.{refused_by, Verdict}
 use Rattle.signals.specs.Signals.{switches_of}
-use Rattle.signals.specs.declared.Verdict.{Verdict}
 use Rattle.fields.specs.Fields.{save_tests, saved_in}
 use Rattle.fields.specs.RoundTrip.{words_of}
 use Rattle.modes.specs.declared.Request.TheVariants.{Manual}

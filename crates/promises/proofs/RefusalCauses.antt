@@ -14,12 +14,12 @@ use Rattle.integers.specs.Choice.{both, never}
 use Rattle.integers.specs.Operations as operations
 use Rattle.integers.specs.Parts.{integers, apart}
 use Rattle.integers.specs.Listed.{listed, listed_same}
+use Rattle.signals.specs.Clock.{ClockReading}
 use Rattle.signals.specs.Bits.{bit}
 use Rattle.signals.specs.Refusals.{number_of, refused_by, scan_tests}
 use Rattle.signals.specs.Signals.{switches_of, pins_of}
 use Rattle.signals.specs.declared.Input.{Input}
 use Rattle.signals.specs.declared.Refusal.{Refusal}
-use Rattle.signals.specs.declared.clock.ClockReading.{ClockReading}
 use Rattle.modes.specs.Modes.{counted, sets_setpoint}
 use Rattle.modes.specs.declared.Mode.{Mode}
 use Rattle.modes.specs.declared.Mode.TheVariants.{Hold, Track, Forced, Manual, Auto, Remote, Ratio, Fallback}

@@ -5,8 +5,7 @@ use Prim.Native.Nat.{ℕ}
 use native.Mathlib.Omega.{arith}
 use lib.IntN.{ℤ}
 use Rattle.signals.specs.RefusalLaws.{refused_append, refused_from}
-use Rattle.signals.specs.Refusals.{number_in, first_of, refused_by}
-use Rattle.signals.specs.declared.Verdict.{Verdict}
+use Rattle.signals.specs.Refusals.{number_in, first_of, refused_by, Verdict}
 use Rattle.rights.specs.declared.Writer.{Writer}
 use Rattle.controller.specs.Answers.{Reply, words, reading, acceptance, number, reply_of_verdict, reply_by_lem, Response}
 use Rattle.controller.specs.Scan.{response_from}

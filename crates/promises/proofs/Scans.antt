@@ -1,4 +1,5 @@
 -- What an accepted scan answers and leaves is what the sentences say, over the contract of a scan.
+use Rattle.std.specs.Prelude.{Err, Ok}
 use mathlib.Core.Path.{◌≡◌, refl, sym, ap, subst, ◌∙◌}
 use mathlib.Core.Option.{some, none}
 use Rattle.signals.specs.Refusals.{refused_by, scan_tests}
@@ -6,12 +7,10 @@ use Rattle.signals.specs.declared.Input.{Input}
 use Rattle.modes.specs.Modes.{counted}
 use Rattle.answers.specs.declared.ScanValues.{ScanValues}
 use Rattle.setpoints.specs.ComputationLaws.{SampleRange}
-use Rattle.controller.specs.Answers.{Reply, words, reading, acceptance, number, reply_of, Response}
+use Rattle.controller.specs.Answers.{Reply, words, reading, acceptance, number, reply_of, Response, Answer}
 use Rattle.controller.specs.Scan.{status_of, core_after, controller_after, response_from, accepted, stepped}
 use Rattle.controller.specs.Valid.{Valid}
 use Rattle.controller.specs.ValidLaws.{sampled, stepped_valid}
-use Rattle.controller.specs.declared.Answer.{Answer}
-use Rattle.controller.specs.declared.Answer.TheVariants.{Accepted, Refused}
 use Rattle.controller.specs.declared.Controller.{Controller}
 use Rattle.guarantee.specs.Claim.{OwnOutput}
 use Rattle.guarantee.specs.Modes.{mode_in}
@@ -32,17 +31,17 @@ Told c acceptance = ⊥
 Told c (number n) = ⊥
 
 abbrev values_or : ScanValues → Answer → ScanValues
-values_or v (Accepted w) = w
-values_or v (Refused refusal) = v
+values_or v (Ok w) = w
+values_or v (Err refusal) = v
 
 -- an answer has its values alone
-pub same_values : (v w : ScanValues) → Accepted v ≡ Accepted w → v ≡ w
+pub same_values : (v w : ScanValues) → ◌≡◌ {A = Answer} (Ok v) (Ok w) → v ≡ w
 same_values v w e = ap (values_or v) e
 
 answered : (c : Controller) (answer : Answer) → Told c (reply_of answer) → ScanAnswer c answer
-answered c (Accepted v) t =
+answered c (Ok v) t =
     record { values = v; accepted = refl; shows_md = t.0; shows_ds = t.1; own = t.2; mode_first = t.3; pv_is = t.4 }
-answered c (Refused refusal) t = absurd t
+answered c (Err refusal) t = absurd t
 
 abbrev Effects : Controller → Input → Response → Type 0
 Effects d i h = ScanEffect d.core h.next.core i × Told h.next h.answer

@@ -3,18 +3,15 @@
 -- contracts of the two scans and of a read, by the modes that the answers carry, the numbers of parameters and the bits
 -- of the input; SP is the stored one, which a read gives, and MD bit 4 (in `Trim`) too. Shared with the rules are the
 -- types of the state and of answers, the bits of a word and the value of a parameter.
-use Rattle.std.specs.Prelude.{◌≡◌, false, List, ℕ, ℤ, ◌-ℤ◌, ◌≤ℤ◌}
+use Rattle.std.specs.Prelude.{◌≡◌, false, List, ℕ, ℤ, ◌-ℤ◌, ◌≤ℤ◌, Ok}
 use Rattle.signals.specs.Bits.{bit}
 use Rattle.signals.specs.declared.Input.{Input}
 use Rattle.modes.specs.declared.Mode.{Mode}
 use Rattle.modes.specs.declared.Mode.TheVariants.{Remote, Fallback}
 use Rattle.answers.specs.declared.ScanValues.{ScanValues}
 use Rattle.parameters.specs.Table.{value}
-use Rattle.controller.specs.Answers.{Response}
-use Rattle.controller.specs.declared.Answer.TheVariants.{Accepted}
+use Rattle.controller.specs.Answers.{Response, ReadAnswer}
 use Rattle.controller.specs.declared.Controller.{Controller}
-use Rattle.controller.specs.declared.ReadAnswer.{ReadAnswer}
-use Rattle.controller.specs.declared.ReadAnswer.TheVariants.{Value}
 use Rattle.controller.specs.declared.ScanResult.{ScanResult}
 use Rattle.guarantee.specs.Exact.{Calls, ◌then◌, scan, exact}
 use Rattle.guarantee.specs.Linked.{ScanEnsures, ReadEnsures, Linked, ChainTo}
@@ -24,7 +21,7 @@ use Rattle.promises.specs.Scans.{Scaled, Trim}
 pub record ScannedIn (mode : Mode) (d : Controller) (i : Input) (r : ScanResult) : Type 0 where
   pub made : ScanEnsures d i r
   pub values : ScanValues
-  pub accepted : r.answer ≡ Accepted values
+  pub accepted : r.answer ≡ Ok values
   pub in_mode_lem : values.mode ≡ mode
 
 -- what the sentence asks of the two scans; whatever else the inputs bring, the sensors, the other buttons, the other
@@ -49,8 +46,8 @@ pub record FallsBack (d : Controller) (i j : Input) (r q : ScanResult) (trim : �
 -- "The exact controller follows the same amended step 5.": it has that SP after each, too
 pub record SameSetpoint (word : ℕ) (calls : Calls) (i j : Input) (r q : ScanResult) : Type 0 where
   pub same : q.controller.core.readings.sp ≡ r.controller.core.readings.sp
-  pub read_first : (a : ReadAnswer) → ReadEnsures r.controller 29 a → a ≡ Value r.controller.core.readings.sp
-  pub read_second : (a : ReadAnswer) → ReadEnsures q.controller 29 a → a ≡ Value r.controller.core.readings.sp
+  pub read_first : (a : ReadAnswer) → ReadEnsures r.controller 29 a → a ≡ Ok r.controller.core.readings.sp
+  pub read_second : (a : ReadAnswer) → ReadEnsures q.controller 29 a → a ≡ Ok r.controller.core.readings.sp
   pub exact_first : (exact word (calls then scan i)).core.readings.sp ≡ r.controller.core.readings.sp
   pub exact_second : (exact word (calls then scan i then scan j)).core.readings.sp ≡ r.controller.core.readings.sp
 

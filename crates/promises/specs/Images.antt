@@ -5,8 +5,8 @@ use Rattle.std.specs.Prelude.{◌≡◌, true, false, List, ◌++◌, ℕ, ◌+�
 use Rattle.std.specs.Prelude.{if◌then◌else◌}
 use Rattle.std.specs.Int.Signed.{lt_z}
 use Rattle.integers.specs.Limit.{limited}
+use Rattle.signals.specs.Refusals.{Verdict}
 use Rattle.signals.specs.Bits.{bit}
-use Rattle.signals.specs.declared.Verdict.{Verdict}
 use Rattle.modes.specs.declared.Request.{Request}
 use Rattle.modes.specs.declared.Request.TheVariants.{Manual, Auto, Remote}
 use Rattle.parameters.specs.Table.{value}

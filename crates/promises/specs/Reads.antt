@@ -2,10 +2,9 @@
 -- types of the state and the value of a parameter.
 use Rattle.std.specs.Prelude.{◌≡◌, ℕ, ◌≤◌, ◌<◌, pos}
 use Rattle.parameters.specs.Table.{value}
-use Rattle.controller.specs.Answers.{Reply, reading, number, reply_of_read}
+use Rattle.controller.specs.Answers.{Reply, reading, number, reply_of_read, ReadAnswer}
 use Rattle.controller.specs.Valid.{Valid}
 use Rattle.controller.specs.declared.Controller.{Controller}
-use Rattle.controller.specs.declared.ReadAnswer.{ReadAnswer}
 use Rattle.guarantee.specs.Claim.{OwnOutput}
 use Rattle.guarantee.specs.Linked.{ReadEnsures}
 use Rattle.promises.specs.Words.{ShowsMD, ShowsDS}

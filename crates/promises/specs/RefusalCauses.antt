@@ -2,27 +2,23 @@
 -- which number, told by the input's numbers and bits, the writer, the parameter's number, the value and the state, in
 -- the papers' order and apart from the rules' lists of tests. Restarts.antt tells it of restarts, and `SameSave`
 -- (guarantee) of saves. Shared are the types of the state, the bits of a word and the value of a parameter.
-use Rattle.std.specs.Prelude.{◌≡◌, Bool, not, ◌&&◌, ◌||◌, List, [], ◌∷◌, ℕ, ◌+◌, ltb, leb, eqb, ℤ, nat_abs, if◌then◌else◌}
+use Rattle.std.specs.Prelude.{◌≡◌, Bool, not, ◌&&◌, ◌||◌, List, [], ◌∷◌, ℕ, ◌+◌, ltb, leb, eqb, ℤ, nat_abs, if◌then◌else◌, Err}
 use Rattle.std.proofs.Math.Option.{Option, some, none}
 use Rattle.std.specs.Int.Signed.{le_z}
+use Rattle.signals.specs.Clock.{ClockReading}
 use Rattle.signals.specs.Bits.{bit}
 use Rattle.signals.specs.declared.Input.{Input}
 use Rattle.signals.specs.declared.Refusal.{Refusal}
 use Rattle.signals.specs.declared.Refusal.TheVariants.{Sample, ButtonBits, SensorBits, Number, ReadOnly, Range, Pair, Setpoint}
 use Rattle.signals.specs.declared.Refusal.TheVariants.{RequestBits, RemotePin, Cause, ImageLength, ImageField, ImageValue}
 use Rattle.signals.specs.declared.Refusal.TheVariants.{ShortBuffer, Clock, Mnemonic, ValueForm, ComputerPin, WriterRight}
-use Rattle.signals.specs.declared.Verdict.TheVariants as verdict
-use Rattle.signals.specs.declared.clock.ClockReading.{ClockReading}
-use Rattle.signals.proofs.Refusal.number.Reads as number-reads
+use Rattle.signals.proofs.U8FromRefusal.from.Reads as number-reads
 use Rattle.parameters.specs.Table.{value}
 use Rattle.rights.specs.declared.Writer.{Writer}
-use Rattle.controller.specs.Answers.{number, reply_of, reply_of_verdict, reply_of_read}
-use Rattle.controller.specs.declared.Answer.TheVariants as answer
+use Rattle.controller.specs.Answers.{number, reply_of, reply_of_verdict, reply_of_read, ReadAnswer}
 use Rattle.controller.specs.declared.CallResult.{CallResult}
 use Rattle.controller.specs.declared.Controller.{Controller}
 use Rattle.controller.specs.declared.Core.{Core}
-use Rattle.controller.specs.declared.ReadAnswer.{ReadAnswer}
-use Rattle.controller.specs.declared.ReadAnswer.TheVariants as read
 use Rattle.controller.specs.declared.ScanResult.{ScanResult}
 use Rattle.guarantee.specs.Clock.{too_soon}
 use Rattle.guarantee.specs.Linked.{ScanEnsures, WriteEnsures, ReadEnsures, RestartEnsures, Slice, Lifetime}
@@ -99,15 +95,15 @@ ReadRefusals =
 
 -- ---- the number that a caller gets of a refusal
 
--- by the contract of `Refusal::number` it is the one that the refusal stands for in these statements
+-- by the contract of `u8::from` it is the one that the refusal stands for in these statements
 abbrev pub NumberEnsures : Refusal → ℕ → Type 0
 NumberEnsures refusal n = number-reads.Post tt (refusal, tt) n (refusal, tt)
 
 abbrev pub RefusalNumbers : Type 0
 RefusalNumbers =
     (refusal : Refusal) (n : ℕ) → NumberEnsures refusal n →
-    (reply_of (answer.Refused refusal) ≡ number n) × (reply_of_verdict (verdict.Refused refusal) ≡ number n) ×
-    (reply_of_read (read.Refused refusal) ≡ number n)
+    (reply_of (Err refusal) ≡ number n) × (reply_of_verdict (Err refusal) ≡ number n) ×
+    (reply_of_read (Err refusal) ≡ number n)
 
 -- the refusals by their names, in the order of the papers' numbers, from 1 on
 abbrev pub in_order_of_numbers : List Refusal

@@ -5,9 +5,8 @@
 use Rattle.std.specs.Prelude.{Bool, List, [], ◌∷◌, ℕ, suc, ◌≤◌, eqb, ℤ, if◌then◌else◌}
 use Rattle.std.proofs.Math.Option.{Option, some, none}
 use Rattle.signals.specs.RefusalLaws.{Holds, by_number}
-use Rattle.signals.specs.Refusals.{scan_tests}
+use Rattle.signals.specs.Refusals.{scan_tests, Verdict}
 use Rattle.signals.specs.declared.Input.{Input}
-use Rattle.signals.specs.declared.Verdict.{Verdict}
 use Rattle.fields.specs.Fields.{save_tests}
 use Rattle.rights.specs.declared.Writer.{Writer}
 use Rattle.controller.specs.Answers.{Reply, words, reading, acceptance, number, reply_of, reply_of_verdict}

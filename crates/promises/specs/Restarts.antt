@@ -2,12 +2,11 @@
 -- `Controller::restart`. An image is told by the places of its bytes, its parameters by the columns of the table.
 -- Shared with the rules are the types of the state, the value of a parameter, and the words of Shared.antt (guarantee).
 use Rattle.std.specs.Prelude.{◌≡◌, Bool, true, false, not, ◌&&◌, ◌||◌, List, [], ◌∷◌, ℕ, zero, suc, ◌+◌, ◌-◌, ◌*◌, ◌≤◌, leb, ltb, eqb, ℤ}
-use Rattle.std.specs.Prelude.{pos, ◌*ℤ◌, ◌-ℤ◌, length, get_or, if◌then◌else◌}
+use Rattle.std.specs.Prelude.{pos, ◌*ℤ◌, ◌-ℤ◌, length, get_or, if◌then◌else◌, None}
 use Rattle.std.specs.Int.Signed.{le_z}
 use Rattle.integers.specs.Limit.{limited}
+use Rattle.signals.specs.Refusals.{Verdict}
 use Rattle.signals.specs.Bits.{bit}
-use Rattle.signals.specs.declared.Verdict.{Verdict}
-use Rattle.signals.specs.declared.clock.ClockReading.TheVariants.{None}
 use Rattle.modes.specs.declared.Request.{Request}
 use Rattle.modes.specs.declared.Request.TheVariants.{Manual, Auto, Remote}
 use Rattle.parameters.specs.Table.{value}

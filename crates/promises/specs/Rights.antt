@@ -4,8 +4,7 @@
 -- `without_right` of demand 3 (guarantee).
 use Rattle.std.specs.Prelude.{◌≡◌, Bool, ℕ, ◌≤◌, ℤ}
 use Rattle.std.proofs.Math.Option.{none}
-use Rattle.signals.specs.Refusals.{refused_by}
-use Rattle.signals.specs.declared.Verdict.{Verdict}
+use Rattle.signals.specs.Refusals.{refused_by, Verdict}
 use Rattle.rights.specs.declared.Writer.{Writer}
 use Rattle.rights.specs.declared.Writer.TheVariants.{Engineer}
 use Rattle.rights.proofs.Writer.may_write.Reads as may-write-reads

@@ -3,20 +3,18 @@
 -- The stored output is told by StoredOutputs.antt, and what is remembered by the list (guarantee). Shared with the
 -- rules are the types of the state, the bits of a word, the value of a parameter, and `limited`.
 use Rattle.std.specs.Prelude.{◌≡◌, true, false, not, ◌&&◌, ◌||◌, ℕ, ◌+◌, ◌*◌, ◌%◌, ◌≤◌, ◌<◌, min, leb, ℤ, pos, neg_ℤ, nat_abs, ◌+ℤ◌, ◌-ℤ◌}
-use Rattle.std.specs.Prelude.{◌*ℤ◌, if◌then◌else◌}
+use Rattle.std.specs.Prelude.{◌*ℤ◌, if◌then◌else◌, Ok, Some}
 use Rattle.std.proofs.Math.Option.{some, none}
 use Rattle.std.specs.Int.Signed.{lt_z}
 use Rattle.integers.specs.Limit.{limited}
 use Rattle.signals.specs.Bits.{bit}
 use Rattle.signals.specs.declared.Input.{Input}
-use Rattle.signals.specs.declared.clock.ClockReading.TheVariants.{At}
 use Rattle.modes.specs.declared.Mode.TheVariants.{Remote, Ratio}
 use Rattle.modes.specs.declared.Request.TheVariants as request
 use Rattle.parameters.specs.Table.{value}
 use Rattle.answers.specs.declared.ScanValues.{ScanValues}
+use Rattle.controller.specs.Answers.{Answer}
 use Rattle.controller.specs.Valid.{Valid}
-use Rattle.controller.specs.declared.Answer.{Answer}
-use Rattle.controller.specs.declared.Answer.TheVariants.{Accepted}
 use Rattle.controller.specs.declared.Controller.{Controller}
 use Rattle.controller.specs.declared.Core.{Core}
 use Rattle.controller.specs.declared.ScanResult.{ScanResult}
@@ -156,7 +154,7 @@ pub record ScanEffect (before now : Core) (i : Input) : Type 0 where
   pub buttons : now.indications.buttons ≡ i.buttons
   pub pins : now.conditions.pins ≡ i.pins
   -- document 02, request 2: "the controller remembers the last accepted one", the reading of this scan
-  pub clock : now.clock ≡ At i.milliseconds
+  pub clock : now.clock ≡ Some i.milliseconds
   -- no sentence lets a scan touch the rest
   pub others : (n : ℕ) → (n ≡ 20 → ⊥) → (n ≡ 21 → ⊥) → value now.parameters n ≡ value before.parameters n
   pub fault : now.conditions.fault ≡ before.conditions.fault
@@ -168,7 +166,7 @@ pub record ScanEffect (before now : Core) (i : Input) : Type 0 where
 -- gets, and feeds a sheet with
 pub record ScanAnswer (c : Controller) (answer : Answer) : Type 0 where
   pub values : ScanValues
-  pub accepted : answer ≡ Accepted values
+  pub accepted : answer ≡ Ok values
   pub shows_md : ShowsMD values.md c.core
   pub shows_ds : ShowsDS values.ds c.core
   pub own : OwnOutput c values.op values.electrical

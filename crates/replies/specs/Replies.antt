@@ -1,7 +1,6 @@
 -- The lines that answer commands, as bytes.
-use Rattle.std.specs.Prelude.{◌≡◌, refl, List, ◌++◌, ℕ, ℤ, pos, take}
-use Rattle.signals.specs.declared.clock.ClockReading.{ClockReading}
-use Rattle.signals.specs.declared.clock.ClockReading.TheVariants.{None, At}
+use Rattle.std.specs.Prelude.{◌≡◌, refl, List, ◌++◌, ℕ, ℤ, pos, take, None, Some}
+use Rattle.signals.specs.Clock.{ClockReading}
 use Rattle.modes.specs.declared.Mode.TheVariants.{Auto}
 use Rattle.answers.specs.declared.ScanValues.{ScanValues}
 use Rattle.sheet.specs.declared.Sheet.{Sheet}
@@ -32,7 +31,7 @@ value_text v = ascii "value " ++ decimal v
 -- a reading of the clock, if there is one
 unfoldable pub clock_text : ClockReading → List ℕ
 clock_text None = ascii "clock none"
-clock_text (At milliseconds) = ascii "clock" ++ spaced milliseconds
+clock_text (Some milliseconds) = ascii "clock" ++ spaced milliseconds
 
 -- an image: the first 137 bytes of the buffer that was saved into
 unfoldable pub image_text : List ℕ → List ℕ

@@ -1,9 +1,8 @@
 -- How long the line of a reply is: it stands whole in the output, where no more than 64,000 of 65,536 bytes are used.
-use Rattle.std.specs.Prelude.{List, ◌≡◌, ℕ, ◌+◌, ◌≤◌, ◌<◌, ℤ, pos, negsuc, nat_abs, length, take}
+use Rattle.std.specs.Prelude.{List, ◌≡◌, ℕ, ◌+◌, ◌≤◌, ◌<◌, ℤ, pos, negsuc, nat_abs, length, take, None, Some}
 use Rattle.std.proofs.Common.{arith, length-append, length-take}
 use Rattle.std.specs.Int.Signed.{mag}
-use Rattle.signals.specs.declared.clock.ClockReading.{ClockReading}
-use Rattle.signals.specs.declared.clock.ClockReading.TheVariants.{None, At}
+use Rattle.signals.specs.Clock.{ClockReading}
 use Rattle.answers.specs.declared.ScanValues.{ScanValues}
 use Rattle.sheet.specs.declared.Sheet.{Sheet}
 use Rattle.numerals.specs.DigitLaws.{hexadecimal_length}
@@ -40,7 +39,7 @@ pub record AnswerRange (v : ScanValues) : Type 0 where
 -- a reading that its type holds
 abbrev pub ReadingRange : ClockReading → Type 0
 ReadingRange None = Unit {0}
-ReadingRange (At milliseconds) = milliseconds < 18446744073709551616
+ReadingRange (Some milliseconds) = milliseconds < 18446744073709551616
 
 -- the numbers of a reply; of a sheet it is known how long its text is
 abbrev pub InRange : Reply → Sheet → Type 0
@@ -69,7 +68,7 @@ words_length v h =
 clock_length : (reading : ClockReading) → ReadingRange reading → length (clock_text reading) ≤ 26
 unfolding clock_text spaced
 clock_length None h = omega arith
-clock_length (At milliseconds) h =
+clock_length (Some milliseconds) h =
     let d = digits_few milliseconds 20 (omega arith) (omega arith) in simp length-append (omega arith)
 
 line_length_lem : (count : ℕ) (saved : List ℕ) → count < 18446744073709551616 → length saved ≤ 346 → length (line_text count saved) ≤ 719

@@ -10,7 +10,6 @@ ghost use Rattle.replies.specs.Replies.{line_text, reply_text, reply_line};
 
 use answers::ScanValues;
 use sheet::Sheet;
-use signals::clock::ClockReading;
 
 #[derive(Clone, Copy)]
 pub enum Reply {
@@ -19,7 +18,7 @@ pub enum Reply {
     // of an accepted scan
     Answer(ScanValues),
     // the last accepted reading of the clock
-    Clock(ClockReading),
+    Clock(Option<u64>),
     // the image that was saved in the buffer beside
     Image,
     // the terminal's reply, so many bytes at the front of the buffer beside
@@ -65,7 +64,7 @@ fn append_answer(out: &mut [u8], used: usize, values: ScanValues) -> usize
     let mode = values.mode;
     let word = sheet_lines::mode::append_mode(out, blank, mode);
     let end = formatting::append_byte(out, word, b' ');
-    formatting::append_signed(out, end, integers::wide(values.pv))
+    formatting::append_signed(out, end, i64::from(values.pv))
 }
 
 // A refusal and its number.
@@ -81,17 +80,17 @@ fn append_value(out: &mut [u8], used: usize, v: i32) -> usize
     ensures { buffer out.new result ≡ append_all (buffer out.old used) (value_text v) }
 {
     let name = formatting::append_bytes(out, used, b"value ");
-    formatting::append_signed(out, name, integers::wide(v))
+    formatting::append_signed(out, name, i64::from(v))
 }
 
 // A reading of the clock. The contract rules out a number where there is no reading.
-fn append_clock(out: &mut [u8], used: usize, reading: ClockReading) -> usize
+fn append_clock(out: &mut [u8], used: usize, reading: Option<u64>) -> usize
     ensures { (buffer out.new result ≡ append_all (buffer out.old used) (clock_text reading))
         × ReadingRange reading }
 {
     match reading {
-        ClockReading::None => formatting::append_bytes(out, used, b"clock none"),
-        ClockReading::At(milliseconds) => {
+        None => formatting::append_bytes(out, used, b"clock none"),
+        Some(milliseconds) => {
             let name = formatting::append_bytes(out, used, b"clock");
             append_spaced(out, name, milliseconds)
         }

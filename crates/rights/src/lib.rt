@@ -6,7 +6,7 @@ ghost use Rattle.signals.specs.Refusals.{number_in, refused_by};
 ghost use Rattle.rights.specs.Rights.{may_write, needs_pin, pin_tests, right_tests, access_tests};
 
 use parameters::{DS, MD, RB, RS, Rule, SL};
-use signals::{Refusal, Verdict};
+use signals::Refusal;
 
 // Who writes: each write and each line of the terminal names one.
 #[derive(Clone, Copy)]
@@ -49,39 +49,36 @@ impl Writer {
     }
 
     // Refusal 19, by the stored pin byte.
-    fn pin_verdict(self, pins: u8) -> Verdict
+    fn pin_verdict(self, pins: u8) -> Result<(), Refusal>
         ensures { number_in result ≡ refused_by (pin_tests self pins) }
     {
         let needed = self.needs_pin();
         let present = signals::computer_pin(pins);
         if needed & !present {
-            return Verdict::Refused(Refusal::ComputerPin);
+            return Err(Refusal::ComputerPin);
         }
-        Verdict::Accepted
+        Ok(())
     }
 
     // Refusal 20.
-    fn right_verdict(self, number: u64) -> Verdict
+    fn right_verdict(self, number: u64) -> Result<(), Refusal>
         ensures { number_in result ≡ refused_by (right_tests self number) }
     {
         if self.may_write(number) {
-            return Verdict::Accepted;
+            return Ok(());
         }
-        Verdict::Refused(Refusal::WriterRight)
+        Err(Refusal::WriterRight)
     }
 }
 
 // Whether any value may be written to a number, of this row of the parameter table, by this writer with this stored pin
 // byte: refusals 4, 19, 20 and 5, in this order. The contract rules out a refusal for another cause, one that is
 // forgotten, and a later one where an earlier one applies.
-pub fn access_verdict(rule: Rule, writer: Writer, pins: u8, number: u64) -> Verdict
+pub fn access_verdict(rule: Rule, writer: Writer, pins: u8, number: u64) -> Result<(), Refusal>
     ensures { number_in result ≡ refused_by (access_tests rule writer pins number) }
 {
-    let unknown = rule.unknown_verdict();
-    let pin = writer.pin_verdict(pins);
-    let right = writer.right_verdict(number);
-    let readonly = rule.read_only_verdict();
-    let permission = signals::first_refusal(pin, right);
-    let known = signals::first_refusal(unknown, permission);
-    signals::first_refusal(known, readonly)
+    rule.unknown_verdict()?;
+    writer.pin_verdict(pins)?;
+    writer.right_verdict(number)?;
+    rule.read_only_verdict()
 }

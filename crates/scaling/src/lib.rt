@@ -14,7 +14,7 @@ pub fn scale(low: i64, high: i64, sample: u16) -> i64
     requires { ChannelRange low high sample }
     ensures { result ≡ scaled low high sample }
 {
-    let span = integers::magnitude(high - low);
+    let span = (high - low).unsigned_abs();
     let part = (2 * (sample as u64 * span) + 10000) / 20000;
     low + part as i64
 }
@@ -33,8 +33,8 @@ fn quotient(q: i64, m: u64, d: u64) -> i64
     requires { QuotientRange q m d }
     ensures { result ≡ nearest_even (q *ℤ pos m) d }
 {
-    let size = integers::nearest_even(integers::magnitude(q) * m, d);
-    integers::signed(integers::negative(q), size)
+    let size = integers::nearest_even(q.unsigned_abs() * m, d);
+    integers::signed(q < 0, size)
 }
 
 // 100 × q / s, nearest, halves to even. The contract rules out what that of `quotient` does, and the factor and the

@@ -5,11 +5,10 @@
 
 ghost use Rattle.controller.specs.Valid.{Valid};
 
-use controller::{Answer, Controller, ReadAnswer};
+use controller::Controller;
 use rights::Writer;
 use sheet::Sheet;
-use signals::clock::ClockReading;
-use signals::{Input, Verdict};
+use signals::Input;
 
 #[derive(Clone, Copy)]
 struct Dryer {
@@ -20,8 +19,8 @@ struct Dryer {
 // When the next scan is due: 36 ms after the last one, or at once. A real host reads its own clock.
 fn due(controller: Controller) -> u64 {
     match controller.last_reading() {
-        ClockReading::At(last) => std::num::wrapping_add_u64(last, 36),
-        ClockReading::None => 0,
+        Some(last) => std::num::wrapping_add_u64(last, 36),
+        None => 0,
     }
 }
 
@@ -43,11 +42,11 @@ fn scanned(dryer: Dryer) -> Dryer
     let controller = r.controller;
     let answer = r.answer;
     match answer {
-        Answer::Accepted(values) => Dryer {
+        Ok(values) => Dryer {
             controller,
             sheet: dryer.sheet.enter(values).sheet,
         },
-        Answer::Refused(refusal) => Dryer {
+        Err(_) => Dryer {
             controller,
             ..dryer
         },
@@ -61,13 +60,13 @@ fn adjusted(controller: Controller) -> Controller
 {
     let access = controller.write_access(Writer::Operator, parameters::SL);
     match access {
-        Verdict::Accepted => {
+        Ok(()) => {
             let w = controller.write(Writer::Operator, parameters::SL, 650);
             let mut reply = [0u8; terminal::REPLY_LENGTH];
             let t = terminal::answer(w.controller, Writer::Engineer, b"TI>10", &mut reply);
             t.controller
         }
-        Verdict::Refused(refusal) => controller,
+        Err(_) => controller,
     }
 }
 
@@ -77,7 +76,7 @@ fn restarted(controller: Controller) -> Controller
     ensures { Valid result }
 {
     let mut image = [0u8; fields::IMAGE_LENGTH];
-    controller.save(&mut image);
+    let _ = controller.save(&mut image);
     let back = controller.restart(&image);
     back.controller
 }
@@ -128,8 +127,8 @@ fn print(rt: &impl Print, number: u64) {
 fn main(rt: HostRuntime) {
     let dryer = dry(100);
     match dryer.controller.read(parameters::OP) {
-        ReadAnswer::Value(op) => print(&rt, integers::magnitude(integers::wide(op))),
-        ReadAnswer::Refused(refusal) => print(&rt, refusal.number() as u64),
+        Ok(op) => print(&rt, u64::from(op.unsigned_abs())),
+        Err(refusal) => print(&rt, u64::from(u8::from(refusal))),
     }
     print(&rt, dryer.sheet.scans() as u64);
 }

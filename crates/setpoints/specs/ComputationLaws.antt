@@ -6,7 +6,7 @@ use Rattle.std.specs.Int.{w64}
 use Rattle.std.proofs.Common.{to_z, of_z}
 use Rattle.integers.specs.Choice.{by_cases}
 use Rattle.integers.specs.Limit.{limited}
-use Rattle.integers.specs.Machine.{Small, back}
+use Rattle.integers.specs.Machine.{Small, back, read_back}
 use Rattle.integers.specs.Operations.{number, sum, difference, negation}
 use Rattle.integers.specs.Parts.{integers, apart}
 use Rattle.signals.specs.Signals.{is_open}
@@ -173,3 +173,18 @@ computed_legal p s measuredpower mode i legal =
 -- a reading is read back from the machine as it is
 pub reading_back : {z : ℤ} → InReadingRange z → to_z w64 (of_z w64 z) ≡ z
 reading_back {z} h = back w64 z (omega (arith, h.reading, number z))
+
+-- for `grind`, where readings are computed
+pub ruleset readings = (
+  read_back,
+  root_most,
+  range1,
+  range2,
+  range3,
+  reading_small,
+  scaled_reading,
+  deviation_small,
+  bias_small,
+  ratio_range,
+  quotient_small,
+)

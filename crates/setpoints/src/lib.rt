@@ -45,30 +45,32 @@ fn channel(p: Parameters, low: u64, high: u64, sample: u16) -> i64
     scaling::scale(l, h, sample)
 }
 
+#[tactic(auto, using(crate::specs::ComputationLaws::readings), unfolding(crate::specs::Setpoints::first_sample))]
 fn first_sample(p: Parameters, sample: u16) -> u16
     requires { sample ≤ 10000 }
     ensures { (result ≡ first_sample p sample) × (result ≤ 10000) }
 {
-    let ic = p.get(parameters::IC);
-    let rooted = integers::magnitude(ic) == ROOT;
-    if rooted {
+    if p.get(parameters::IC).unsigned_abs() == ROOT {
         scaling::root(sample)
     } else {
         sample
     }
 }
 
+#[tactic(auto, using(crate::specs::ComputationLaws::readings), unfolding(crate::specs::Setpoints::process_variable))]
 fn process_variable(p: Parameters, input: Input) -> i64
     requires { Legal p × SampleRange input }
     ensures { result ≡ process_variable p input }
 {
-    let sample = first_sample(p, input.sample1);
-    let low = p.get(parameters::L1);
-    let scaled = channel(p, parameters::L1, parameters::H1, sample);
-    let isopen = signals::is_open(input);
-    integers::choose(isopen, low, scaled)
+    if signals::is_open(input) {
+        p.get(parameters::L1)
+    } else {
+        let sample = first_sample(p, input.sample1);
+        channel(p, parameters::L1, parameters::H1, sample)
+    }
 }
 
+#[tactic(auto, using(crate::specs::ComputationLaws::readings), unfolding(crate::specs::Setpoints::third_channel))]
 fn third_channel(p: Parameters, input: Input) -> i64
     requires { Legal p × SampleRange input }
     ensures { result ≡ third_channel p input }
@@ -76,29 +78,31 @@ fn third_channel(p: Parameters, input: Input) -> i64
     channel(p, parameters::L3, parameters::H3, input.sample3)
 }
 
+#[tactic(auto, using(crate::specs::ComputationLaws::readings), unfolding(crate::specs::Setpoints::trim_of))]
 fn trim_of(p: Parameters, measuredpower: bool, mode: Mode, input: Input) -> i64
     requires { Legal p × SampleRange input }
     ensures { result ≡ trim_of p measuredpower mode input }
 {
-    let third = third_channel(p, input);
-    let track = modes::is_track(mode);
-    integers::choose(track | measuredpower, 0, third)
+    if (mode == Mode::Track) | measuredpower {
+        0
+    } else {
+        third_channel(p, input)
+    }
 }
 
+#[tactic(auto, using(crate::specs::ComputationLaws::readings), unfolding(crate::specs::Setpoints::local_setpoint))]
 fn local_setpoint(sl: i64, ratioswitch: bool, trim: i64) -> i64
     requires { Small sl × Small trim }
     ensures { result ≡ local_setpoint sl ratioswitch trim }
 {
-    let added = integers::choose(ratioswitch, 0, trim);
-    integers::plus(sl, added)
+    if ratioswitch { sl } else { sl + trim }
 }
 
 fn remote_setpoint(p: Parameters, trim: i64, input: Input) -> i64
     requires { Legal p × SampleRange input × Small trim }
     ensures { result ≡ remote_setpoint p trim input }
 {
-    let second = channel(p, parameters::L1, parameters::H1, input.sample2);
-    integers::plus(second, trim)
+    channel(p, parameters::L1, parameters::H1, input.sample2) + trim
 }
 
 fn ratio_quotient(inverse: bool, q: i64, s: u64) -> i64
@@ -112,6 +116,7 @@ fn ratio_quotient(inverse: bool, q: i64, s: u64) -> i64
     }
 }
 
+#[tactic(auto, using(crate::specs::ComputationLaws::readings), unfolding(crate::specs::Setpoints::ratio_setpoint))]
 fn ratio_setpoint(p: Parameters, inverse: bool, rs: i64, trim: i64, input: Input) -> i64
     requires { Legal p × SampleRange input × Small rs × Small trim }
     ensures { result ≡ ratio_setpoint p inverse rs trim input }
@@ -119,14 +124,11 @@ fn ratio_setpoint(p: Parameters, inverse: bool, rs: i64, trim: i64, input: Input
     let q = channel(p, parameters::L2, parameters::H2, input.sample2);
     let low = p.get(parameters::LR);
     let high = p.get(parameters::HR);
-    let sum = integers::plus(rs, trim);
-    let limited = integers::limit(low, high, sum);
-    let s = integers::magnitude(limited);
-    let quotient = ratio_quotient(inverse, q, s);
-    let bias = p.get(parameters::RB);
-    integers::plus(quotient, bias)
+    let s = integers::limit(low, high, rs + trim).unsigned_abs();
+    ratio_quotient(inverse, q, s) + p.get(parameters::RB)
 }
 
+#[tactic(auto, using(crate::specs::ComputationLaws::readings), unfolding(crate::specs::Setpoints::setpoint_in))]
 fn setpoint_in(
     p: Parameters,
     s: Switches,
@@ -139,23 +141,23 @@ fn setpoint_in(
     requires { Legal p × SampleRange input × Small sl × Small rs × Small trim }
     ensures { result ≡ setpoint_in p s mode sl rs trim input }
 {
-    let remote = modes::is_remote(mode);
-    let ratio = modes::is_ratio(mode);
-    if remote {
-        return remote_setpoint(p, trim, input);
+    match mode {
+        Mode::Remote => remote_setpoint(p, trim, input),
+        Mode::Ratio => ratio_setpoint(p, s.inverseratio, rs, trim, input),
+        _ => local_setpoint(sl, s.ratio, trim),
     }
-    if ratio {
-        return ratio_setpoint(p, s.inverseratio, rs, trim, input);
-    }
-    local_setpoint(sl, s.ratio, trim)
 }
 
+#[tactic(auto, using(crate::specs::ComputationLaws::readings), unfolding(crate::specs::Setpoints::measured_power))]
 fn measured_power(p: Parameters, measuredpower: bool, input: Input) -> i64
     requires { Legal p × SampleRange input }
     ensures { result ≡ measured_power p measuredpower input }
 {
-    let third = third_channel(p, input);
-    integers::choose(measuredpower, third, 0)
+    if measuredpower {
+        third_channel(p, input)
+    } else {
+        0
+    }
 }
 
 // Steps 1, 4 and 5 of an accepted scan in this mode. The contract rules out a rule of another mode, a
@@ -176,7 +178,7 @@ pub fn compute(
     let trim = trim_of(p, measuredpower, mode, input);
     let unlimited = setpoint_in(p, s, mode, sl, rs, trim, input);
     let sp = local_setpoint::limited_setpoint(p, unlimited);
-    let er = integers::minus(pv, sp);
+    let er = pv - sp;
     let mp = measured_power(p, measuredpower, input);
     let to = local_setpoint::following_setpoint(p, mode, sl, sp, trim);
     let moved = p.with(parameters::SL, to);
@@ -192,21 +194,13 @@ pub fn low_alarm(p: Parameters, r: Readings) -> bool
     requires { Legal p }
     ensures { result ≡ low_alarm p r }
 {
-    let la = p.get(parameters::LA);
-    let ld = p.get(parameters::LD);
-    let least = integers::minus(0, ld);
-    let low = integers::less(r.pv, la);
-    let under = integers::less(r.er, least);
-    low | under
+    (r.pv < p.get(parameters::LA)) | (r.er < -p.get(parameters::LD))
 }
 
 // The same for the high alarm.
+#[tactic(auto, using(crate::specs::ComputationLaws::readings), unfolding(crate::specs::Computation::high_alarm))]
 pub fn high_alarm(p: Parameters, r: Readings) -> bool
     ensures { result ≡ high_alarm p r }
 {
-    let ha = p.get(parameters::HA);
-    let hd = p.get(parameters::HD);
-    let high = integers::less(ha, r.pv);
-    let over = integers::less(hd, r.er);
-    high | over
+    (p.get(parameters::HA) < r.pv) | (p.get(parameters::HD) < r.er)
 }

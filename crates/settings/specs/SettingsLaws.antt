@@ -14,7 +14,8 @@ use Rattle.std.proofs.lemmas.List.{get_or_at}
 use borrow.Author.Tests.{lt-ltb, eq-eqb, ne_eqb, le-leb, leb-true, eqb-true}
 use Rattle.integers.specs.Choice.{both}
 use Rattle.integers.specs.Listed.{listed, listed_at, listed_length, listed_same}
-use Rattle.integers.specs.TwosComplement.{as_word, word_back, value_back, word_most}
+use Rattle.integers.specs.Machine.{read_back}
+use Rattle.integers.specs.TwosComplement.{as_word, word_back, value_back, word_most, as_word_is, from_word_is}
 use Rattle.fields.specs.Fields.{length_of, sum_of, with_sumcheck}
 use Rattle.fields.specs.RoundTrip.{Fit}
 use Rattle.modes.specs.declared.Request.{Request}
@@ -248,3 +249,6 @@ module _ (vs : List ℕ) (size : length vs ≡ 28) (words : (n : ℕ) → get_or
       let last : get_or vs 27 0 ≡ sum_of (take 27 vs) = eqb-true _ _ right in
       let whole : vs ≡ take 27 vs ++ (get_or vs 27 0 ∷ []) = sym (take_all 28 vs (omega arith)) ∙ take-suc vs 27 0 (omega arith) in
       rw front (ap (λ (n : ℕ). take 27 vs ++ (n ∷ [])) (sym last) ∙ sym whole)
+
+-- for `grind`, where a parameter becomes a word or is read off one
+pub ruleset words = (read_back, from_word_is, as_word_is, value_most)

@@ -4,6 +4,7 @@ ghost use Rattle.settings.specs.Settings.{request_in, user_bits_in, parameter_in
 ghost use Rattle.settings.specs.Settings.{settings_in, is_sum_right, are_others_legal, legal_user_bits};
 
 use crate::Settings;
+use fields::FieldValues;
 use modes::Request;
 use parameters::Parameters;
 use words::UserBits;
@@ -18,6 +19,7 @@ fn request_in(value: u16) -> Request
     }
 }
 
+#[tactic(auto, unfolding(crate::specs::Settings::user_bits_in))]
 fn user_bits_in(value: u16) -> UserBits
     ensures { result ≡ user_bits_in value }
 {
@@ -30,60 +32,52 @@ fn user_bits_in(value: u16) -> UserBits
 
 // User bits and MD bit 4 under a wrong sumcheck: an illegal 44h is 0. The contract rules out that some
 // of its bits are kept.
-pub fn legal_user_bits(values: [u16; fields::FIELD_COUNT]) -> UserBits
+#[tactic(auto, unfolding(crate::specs::Settings::legal_user_bits))]
+pub fn legal_user_bits(values: FieldValues) -> UserBits
     ensures { result ≡ legal_user_bits values }
 {
     let value = values[fields::USER_BITS];
-    if value <= crate::USER_BITS_MOST {
-        user_bits_in(value)
-    } else {
-        user_bits_in(0)
-    }
+    let legal = value <= crate::USER_BITS_MOST;
+    user_bits_in(if legal { value } else { 0 })
 }
 
 // The value of the parameter with this number; 0 for the entry that is not used.
-fn parameter_in(values: [u16; fields::FIELD_COUNT], number: usize) -> i64
+#[tactic(auto, using(crate::specs::SettingsLaws::words), unfolding(crate::specs::Settings::parameter_in))]
+fn parameter_in(values: FieldValues, number: usize) -> i64
     requires { number ≤ 23 }
     ensures { result ≡ parameter_in values number }
 {
     if number == 0 {
-        return 0;
+        0
+    } else {
+        i64::from(values[number - 1].cast_signed())
     }
-    integers::from_word(values[number - 1])
 }
 
 // The contract rules out a parameter that is taken from another one's field.
-pub fn parameters_in(values: [u16; fields::FIELD_COUNT]) -> Parameters
+pub fn parameters_in(values: FieldValues) -> Parameters
     ensures { result ≡ parameters_in values }
 {
-    let mut decoded: [i64; parameters::VALUE_COUNT] = [0; parameters::VALUE_COUNT];
-    let mut number: usize = 0;
-    while number < parameters::VALUE_COUNT {
-        let v = parameter_in(values, number);
-        decoded[number] = v;
-        number += 1;
-    }
-    Parameters::of(decoded)
+    Parameters::of(std::array::from_fn(|number| parameter_in(values, number)))
 }
 
 // The contract rules out a setting that is taken from another one's field.
-pub fn settings_in(values: [u16; fields::FIELD_COUNT]) -> Settings
+#[tactic(auto, unfolding(crate::specs::Settings::settings_in))]
+pub fn settings_in(values: FieldValues) -> Settings
     ensures { result ≡ settings_in values }
 {
-    let parameters = parameters_in(values);
-    let request = request_in(values[fields::REQUEST]);
-    let userbits = user_bits_in(values[fields::USER_BITS]);
     Settings {
-        parameters,
+        parameters: parameters_in(values),
         op: values[fields::OP],
-        request,
+        request: request_in(values[fields::REQUEST]),
         fault: values[fields::FAULT] == crate::FAULT_SET,
-        userbits,
+        userbits: user_bits_in(values[fields::USER_BITS]),
     }
 }
 
 // The contract rules out a sum over fewer values than all earlier ones.
-pub fn is_sum_right(values: [u16; fields::FIELD_COUNT]) -> bool
+#[tactic(auto, unfolding(crate::specs::Settings::is_sum_right))]
+pub fn is_sum_right(values: FieldValues) -> bool
     ensures { result ≡ is_sum_right values }
 {
     values[fields::SUMCHECK] == fields::sumcheck(values)
@@ -91,7 +85,8 @@ pub fn is_sum_right(values: [u16; fields::FIELD_COUNT]) -> bool
 
 // Whether OP, request, fault and 44h are legal. The contract rules out a fault with another request
 // than Manual, and ends that are off by one.
-pub fn are_others_legal(values: [u16; fields::FIELD_COUNT]) -> bool
+#[tactic(auto, unfolding(crate::specs::Settings::are_others_legal))]
+pub fn are_others_legal(values: FieldValues) -> bool
     ensures { result ≡ are_others_legal values }
 {
     let op = values[fields::OP] <= parameters::OP_MOST;

@@ -7,9 +7,10 @@ ghost use Rattle.fields.specs.Fields.{with_sumcheck, save_tests, saved_in};
 ghost use Rattle.parameters.specs.Legal.{Legal};
 ghost use Rattle.settings.specs.Settings.{request_number, fault_number, user_bits_number, value_at, values_of, image_of};
 
+use fields::FieldValues;
 use modes::Request;
 use parameters::Parameters;
-use signals::Verdict;
+use signals::Refusal;
 use words::UserBits;
 
 pub mod decoding;
@@ -63,6 +64,7 @@ fn fault_number(fault: bool) -> u16
     if fault { FAULT_SET } else { FAULT_CLEAR }
 }
 
+#[tactic(auto, unfolding(crate::specs::Settings::user_bits_number))]
 fn user_bits_number(userbits: UserBits) -> u16
     ensures { result ≡ user_bits_number userbits }
 {
@@ -73,43 +75,37 @@ fn user_bits_number(userbits: UserBits) -> u16
 
 impl Settings {
     // The value of the field with this place, the sumcheck's not among them.
+    #[tactic(auto, using(crate::specs::SettingsLaws::words), unfolding(crate::specs::Settings::value_at))]
     fn value_at(self, place: usize) -> u16
-        requires { Legal self.parameters × place ≤ 26 }
+        requires { Legal self.parameters }
         ensures { result ≡ value_at self place }
     {
-        let parameters = self.parameters;
-        let request = self.request;
-        let userbits = self.userbits;
         match place {
-            0..=LAST_PARAMETER => integers::as_word(parameters.get((place + 1) as u64)),
+            0..=LAST_PARAMETER => {
+                let value = self.parameters.get((place + 1) as u64);
+                (value as i16).cast_unsigned()
+            }
             fields::OP => self.op,
-            fields::REQUEST => request_number(request),
+            fields::REQUEST => request_number(self.request),
             fields::FAULT => fault_number(self.fault),
-            _ => user_bits_number(userbits),
+            _ => user_bits_number(self.userbits),
         }
     }
 
-    // The values of all fields, the sumcheck behind them.
-    fn values(self) -> [u16; fields::FIELD_COUNT]
+    // The values of all fields. What `value_at` gives at the sumcheck's place gives way to the sumcheck.
+    fn values(self) -> FieldValues
         requires { Legal self.parameters }
         ensures { result ≡ with_sumcheck (values_of self) }
     {
-        let mut values: [u16; fields::FIELD_COUNT] = [0; fields::FIELD_COUNT];
-        let mut place: usize = 0;
-        while place < fields::SUMCHECK {
-            values[place] = self.value_at(place);
-            place += 1;
-        }
-        fields::with_sumcheck(values)
+        fields::with_sumcheck(std::array::from_fn(|place| self.value_at(place)))
     }
 
     // Encodes the image in the caller's buffer. The contract gives the verdict and every byte of the buffer.
-    pub fn save(self, buffer: &mut [u8]) -> Verdict
+    pub fn save(self, buffer: &mut [u8]) -> Result<(), Refusal>
         requires { Legal self.parameters }
         ensures { (number_in result ≡ refused_by (save_tests buffer.old))
             × (buffer.new ≡ saved_in (image_of self) buffer.old) }
     {
-        let values = self.values();
-        fields::save(values, buffer)
+        fields::save(self.values(), buffer)
     }
 }

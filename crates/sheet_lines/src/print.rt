@@ -40,7 +40,7 @@ fn append_sum(out: &mut [u8], used: usize, name: &[u8], sum: i64) -> usize
 fn append_occurrence(out: &mut [u8], used: usize, first: Occurrence) -> usize
     ensures { TextAppended out.old out.new used result (occurrence_text first) 22 }
 {
-    let pv = formatting::append_signed(out, used, integers::wide(first.pv));
+    let pv = formatting::append_signed(out, used, i64::from(first.pv));
     let at = formatting::append_byte(out, pv, b'@');
     formatting::append_decimal(out, at, first.number as u64)
 }

@@ -1,11 +1,14 @@
 -- Which of the tests that hold gives the number of a refusal: the first in the order of the list. Where the tests are
 -- listed by ascending numbers that is the lowest number of all that hold, "Within a group the lowest number wins."
-use Rattle.std.specs.Prelude.{◌≡◌, refl, Bool, true, false, List, [], ◌∷◌, ◌++◌, ℕ, ◌≤◌, ◌<◌, if◌then◌else◌}
-use Rattle.std.proofs.Common.{ap, arith}
+use Rattle.std.specs.Prelude.{◌≡◌, refl, Bool, true, false, List, [], ◌∷◌, ◌++◌, ℕ, ◌≤◌, ◌<◌, Result, Err, if◌then◌else◌}
+use Rattle.std.proofs.Common.{ap, ◌∙◌, arith}
+use Rattle.std.specs.Result.{IsErrAnd}
 use Rattle.std.proofs.Math.Option.{some}
+use Rattle.std.proofs.lemmas.Result.{err_from_is_err_and}
 use Rattle.signals.specs.Refusals.{first_of, refused_by, scan_tests}
 use Rattle.signals.specs.declared.Input.{Input}
-use Rattle.signals.specs.declared.clock.ClockReading.{ClockReading}
+use Rattle.signals.specs.declared.Refusal.{Refusal}
+use Rattle.signals.specs.Clock.{ClockReading}
 
 -- ---- tests of one list behind those of another
 
@@ -18,6 +21,11 @@ refused_append (t ∷ ts) us = go t.0 (refused_append ts us)
         (if b then some t.1 else refused_by (ts ++ us)) ≡ first_of (if b then some t.1 else refused_by ts) (refused_by us)
     go true e = refl
     go false e = e
+
+-- ---- what `?` hands on: the refusal that it met
+
+pub handed_on : {T : Type 0} (r : Result T Refusal) (refusal : Refusal) → IsErrAnd r (λ e. e ≡ refusal) → r ≡ Err refusal
+handed_on r refusal h = let e = err_from_is_err_and r h in e.1 ∙ ap Err e.2
 
 -- ---- an order of refusals: each number has a rank
 

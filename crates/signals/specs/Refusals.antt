@@ -1,17 +1,14 @@
 -- Document 01, "By whose hand a call is declined", and document 02: the numbers, and the tests of a scan.
-use Rattle.std.specs.Prelude.{Bool, ◌||◌, List, [], ◌∷◌, ℕ, ltb, if◌then◌else◌}
+use Rattle.std.specs.Prelude.{Bool, ◌||◌, List, [], ◌∷◌, ℕ, ltb, Result, Ok, Err, ⊤, if◌then◌else◌}
 use Rattle.std.proofs.Math.Option.{Option, some, none}
 use Rattle.signals.specs.Bits.{bit}
-use Rattle.signals.specs.Clock.{is_too_early}
+use Rattle.signals.specs.Clock.{ClockReading, is_too_early}
 use Rattle.signals.specs.declared.Input.{Input}
 use Rattle.signals.specs.declared.Refusal.{Refusal}
 use Rattle.signals.specs.declared.Refusal.TheVariants.{Sample, ButtonBits, SensorBits, Number, ReadOnly, Range, Pair}
 use Rattle.signals.specs.declared.Refusal.TheVariants.{Setpoint, RequestBits, RemotePin, Cause}
 use Rattle.signals.specs.declared.Refusal.TheVariants.{ImageLength, ImageField, ImageValue, ShortBuffer, Clock, Mnemonic, ValueForm}
 use Rattle.signals.specs.declared.Refusal.TheVariants.{ComputerPin, WriterRight}
-use Rattle.signals.specs.declared.Verdict.{Verdict}
-use Rattle.signals.specs.declared.Verdict.TheVariants.{Accepted, Refused}
-use Rattle.signals.specs.declared.clock.ClockReading.{ClockReading}
 
 -- the paper's number of each refusal
 abbrev pub number_of : Refusal → ℕ
@@ -36,10 +33,14 @@ number_of ValueForm = 18
 number_of ComputerPin = 19
 number_of WriterRight = 20
 
--- and of a verdict: none where the call is accepted
+-- what a call that answers no value comes to: accepted, or why not
+abbrev pub Verdict : Type 0
+Verdict = Result ⊤ Refusal
+
+-- the number in a verdict: none where the call is accepted
 abbrev pub number_in : Verdict → Option ℕ
-number_in Accepted = none
-number_in (Refused refusal) = some (number_of refusal)
+number_in (Ok accepted) = none
+number_in (Err refusal) = some (number_of refusal)
 
 -- of two refusals that may apply, the first that does
 abbrev pub first_of : Option ℕ → Option ℕ → Option ℕ

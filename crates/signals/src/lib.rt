@@ -3,10 +3,8 @@
 
 ghost use Rattle.std.specs.Prelude.{◌≡◌, ◌<◌};
 ghost use Rattle.signals.specs.Bits.{bit};
-ghost use Rattle.signals.specs.Refusals.{number_of, number_in, first_of, refused_by, scan_tests};
+ghost use Rattle.signals.specs.Refusals.{number_of, number_in, refused_by, scan_tests};
 ghost use Rattle.signals.specs.Signals.{switches_of, pins_of, computer_pin, buttons_of, adjustment_of, is_open, battery_low};
-
-use crate::clock::ClockReading;
 
 mod bits;
 pub mod clock;
@@ -116,13 +114,6 @@ pub enum Refusal {
     WriterRight,
 }
 
-// What a call that answers no value comes to: accepted, or why not.
-#[derive(Clone, Copy)]
-pub enum Verdict {
-    Accepted,
-    Refused(Refusal),
-}
-
 // Bit `number` of a word. The contract rules out a neighbouring bit.
 pub fn bit(word: u16, number: u16) -> bool
     requires { number < 16 }
@@ -182,21 +173,14 @@ pub fn buttons_of(byte: u8) -> Buttons
 }
 
 // The contract rules out a push while both are pressed.
+#[tactic(auto, unfolding(crate::specs::Signals::adjustment_of))]
 pub fn adjustment_of(b: Buttons) -> Adjustment
     ensures { result ≡ adjustment_of b }
 {
-    if b.raise {
-        if b.lower {
-            Adjustment::Neither
-        } else {
-            Adjustment::Raise
-        }
-    } else {
-        if b.lower {
-            Adjustment::Lower
-        } else {
-            Adjustment::Neither
-        }
+    match (b.raise, b.lower) {
+        (true, false) => Adjustment::Raise,
+        (false, true) => Adjustment::Lower,
+        _ => Adjustment::Neither,
     }
 }
 
@@ -214,12 +198,12 @@ pub fn battery_low(input: Input) -> bool
     bit(input.sensors as u16, bits::BATTERY_LOW)
 }
 
-impl Refusal {
+impl From<Refusal> for u8 {
+    ghost from_gives = { λ refusal n. n ≡ number_of refusal };
+
     // The paper's number. The contract rules out another.
-    pub fn number(self) -> u8
-        ensures { result ≡ number_of self }
-    {
-        match self {
+    fn from(refusal: Refusal) -> u8 {
+        match refusal {
             Refusal::Sample => 1,
             Refusal::ButtonBits => 2,
             Refusal::SensorBits => 3,
@@ -244,22 +228,11 @@ impl Refusal {
     }
 }
 
-// The first of two verdicts that refuses, where one does. The contract rules out the later refusal where the earlier
-// one applies.
-pub fn first_refusal(earlier: Verdict, later: Verdict) -> Verdict
-    ensures { number_in result ≡ first_of (number_in earlier) (number_in later) }
-{
-    if let Verdict::Refused(refusal) = earlier {
-        return Verdict::Refused(refusal);
-    }
-    later
-}
-
 // Whether a scan's input is acceptable after the last accepted reading, or the first refusal that applies: 16 comes
 // after 3. The contract rules out a refusal for a cause that is not listed, one that is forgotten, and a later one
 // where an earlier one applies.
 #[tactic(auto, unfolding(crate::specs::Refusals::refused_by, crate::specs::Refusals::scan_tests))]
-pub fn scan_verdict(last: ClockReading, input: Input) -> Verdict
+pub fn scan_verdict(last: Option<u64>, input: Input) -> Result<(), Refusal>
     ensures { number_in result ≡ refused_by (scan_tests last input) }
 {
     let sample = (GREATEST_SAMPLE < input.sample1)
@@ -270,16 +243,16 @@ pub fn scan_verdict(last: ClockReading, input: Input) -> Verdict
     let sensors = GREATEST_SENSORS < input.sensors;
     let early = clock::is_too_early(last, input.milliseconds);
     if sample {
-        return Verdict::Refused(Refusal::Sample);
+        return Err(Refusal::Sample);
     }
     if buttons {
-        return Verdict::Refused(Refusal::ButtonBits);
+        return Err(Refusal::ButtonBits);
     }
     if sensors {
-        return Verdict::Refused(Refusal::SensorBits);
+        return Err(Refusal::SensorBits);
     }
     if early {
-        return Verdict::Refused(Refusal::Clock);
+        return Err(Refusal::Clock);
     }
-    Verdict::Accepted
+    Ok(())
 }

@@ -1,9 +1,10 @@
 -- Document 02, request 4: what comes of a line, whole; request 6: "Terminal lines carry a writer as well. Reading stays
 -- free."
-use Rattle.std.specs.Prelude.{List, ◌∷◌, ◌++◌, ℕ, ltb, ℤ, nat_abs, length, drop, if◌then◌else◌}
+use Rattle.std.specs.Prelude.{List, ◌∷◌, ◌++◌, ℕ, ltb, ℤ, nat_abs, Result, Ok, Err, length, drop, if◌then◌else◌}
 use Rattle.std.proofs.Math.Option.{Option, some, none}
 use Rattle.numerals.specs.Numerals.{decimal, hexadecimal_word}
 use Rattle.signals.specs.Refusals.{number_of, refused_by}
+use Rattle.signals.specs.declared.Refusal.{Refusal}
 use Rattle.rights.specs.declared.Writer.{Writer}
 use Rattle.controller.specs.Answers.{op_of}
 use Rattle.controller.specs.Read.{value_in}
@@ -11,8 +12,6 @@ use Rattle.controller.specs.Write.{write_tests, write}
 use Rattle.controller.specs.declared.Controller.{Controller}
 use Rattle.terminal.specs.Commands.{is_word, command_in}
 use Rattle.terminal.specs.Mnemonics.{mnemonic}
-use Rattle.terminal.specs.declared.LineAnswer.{LineAnswer}
-use Rattle.terminal.specs.declared.LineAnswer.TheVariants as answer
 use Rattle.terminal.specs.declared.LineResult.{LineResult}
 use Rattle.terminal.specs.declared.command.Command.{Command}
 use Rattle.terminal.specs.declared.command.Command.TheVariants.{Read, Write, NoMnemonic, NoValue}
@@ -84,9 +83,13 @@ answered c w line buffer = answered_to c w buffer (command_in line)
 
 -- ---- the code's answer, in the paper's numbers
 
+-- how many bytes the reply has, or why the line isn't taken
+abbrev pub LineAnswer : Type 0
+LineAnswer = Result ℕ Refusal
+
 abbrev pub reply_of_line : LineAnswer → LineReply
-reply_of_line (answer.Reply length) = reply length
-reply_of_line (answer.Refused refusal) = number (number_of refusal)
+reply_of_line (Ok length) = reply length
+reply_of_line (Err refusal) = number (number_of refusal)
 
 -- of the result and the buffer afterwards
 abbrev pub outcome_of : LineResult → List ℕ → LineOutcome

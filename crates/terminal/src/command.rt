@@ -44,7 +44,7 @@ fn decimal(number: u64, bytes: &[u8]) -> Command
 {
     let reading = numerals::number(bytes, 5);
     match reading {
-        ParsedNumber::Number(value) => Command::Write(number, integers::narrow(value)),
+        ParsedNumber::Number(value) => Command::Write(number, value as i32),
         ParsedNumber::Malformed => Command::NoValue,
     }
 }

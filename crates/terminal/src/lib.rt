@@ -1,42 +1,35 @@
 // A line of the hand-held terminal: a parameter read or written by its mnemonic, and the reply in a lent buffer.
 #![tactic(auto)]
 
-ghost use Rattle.std.specs.Prelude.{◌≡◌, ◌≤◌, length};
+ghost use Rattle.std.specs.Prelude.{◌≡◌, ◌≤◌, Err, length};
 ghost use Rattle.controller.specs.Valid.{Valid};
 ghost use Rattle.terminal.specs.Terminal.{replied, outcome_of, read_to, written_to, answered};
-ghost use Rattle.terminal.specs.declared.LineAnswer.TheVariants.{Refused};
 
 use command::Command;
-use controller::{Controller, ReadAnswer};
+use controller::Controller;
 use rights::Writer;
-use signals::{Refusal, Verdict};
+use signals::Refusal;
 
 mod command;
 mod mnemonic;
 mod reply;
 
-// How many bytes the reply has, at the front of the buffer; or why the line isn't taken.
-#[derive(Clone, Copy)]
-pub enum LineAnswer {
-    Reply(usize),
-    Refused(Refusal),
-}
-
+// The next controller; and how many bytes the reply has, at the front of the buffer, or why the line isn't taken.
 #[derive(Clone, Copy)]
 pub struct LineResult {
     pub controller: Controller,
-    pub answer: LineAnswer,
+    pub answer: Result<usize, Refusal>,
 }
 
 // The fewest bytes that a reply buffer may have: those of the longest reply.
 pub const REPLY_LENGTH: usize = 9;
 
 fn refused(controller: Controller, refusal: Refusal) -> LineResult
-    ensures { result ≡ record { controller = controller; answer = Refused refusal } }
+    ensures { result ≡ record { controller = controller; answer = Err refusal } }
 {
     LineResult {
         controller,
-        answer: LineAnswer::Refused(refusal),
+        answer: Err(refusal),
     }
 }
 
@@ -48,11 +41,11 @@ fn show(controller: Controller, number: u64, reply: &mut [u8]) -> LineResult
 {
     let present = controller.read(number);
     match present {
-        ReadAnswer::Value(value) => LineResult {
+        Ok(value) => LineResult {
             controller,
-            answer: LineAnswer::Reply(reply::write(number, value, reply)),
+            answer: Ok(reply::write(number, value, reply)),
         },
-        ReadAnswer::Refused(refusal) => refused(controller, refusal),
+        Err(refusal) => refused(controller, refusal),
     }
 }
 
@@ -83,11 +76,9 @@ fn write(
         return refused(controller, Refusal::ShortBuffer);
     }
     let result = controller.write(writer, number, value);
-    let next = result.controller;
-    let verdict = result.verdict;
-    match verdict {
-        Verdict::Refused(refusal) => refused(controller, refusal),
-        Verdict::Accepted => show(next, number, reply),
+    match result.verdict {
+        Ok(()) => show(result.controller, number, reply),
+        Err(refusal) => refused(controller, refusal),
     }
 }
 

@@ -9,7 +9,7 @@ fn append_value(out: &mut [u8], used: usize, number: u64, value: i64) -> usize
     ensures { buffer out.new result ≡ append_all (buffer out.old used) (value_text number value) }
 {
     if crate::command::is_word(number) {
-        return formatting::append_word(out, used, integers::magnitude(value));
+        return formatting::append_word(out, used, value.unsigned_abs());
     }
     formatting::append_signed(out, used, value)
 }
@@ -24,5 +24,5 @@ pub fn write(number: u64, value: i32, out: &mut [u8]) -> usize
     let first = formatting::append_byte(out, 0, crate::mnemonic::letter(number, 0));
     let second = formatting::append_byte(out, first, crate::mnemonic::letter(number, 1));
     let sign = formatting::append_byte(out, second, b'>');
-    append_value(out, sign, number, integers::wide(value))
+    append_value(out, sign, number, i64::from(value))
 }

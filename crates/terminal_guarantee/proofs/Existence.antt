@@ -1,5 +1,5 @@
 -- For every switch word and every list with lines there are controllers that the contracts lead to.
-use Rattle.std.specs.Prelude.{if◌then◌else◌}
+use Rattle.std.specs.Prelude.{if◌then◌else◌, Err, Ok}
 use mathlib.Core.Path.{◌≡◌, refl, sym, ap, subst}
 use mathlib.Core.Bool.{Bool, true, false}
 use mathlib.Core.List.{List, []}
@@ -7,11 +7,9 @@ use Prim.Native.Nat.{ℕ}
 use lib.Dec.{ltb}
 use lib.IntN.{ℤ}
 use lib.ListN.{length, replicate, length-replicate}
-use Rattle.signals.specs.Refusals.{number_of, refused_by}
+use Rattle.signals.specs.Refusals.{number_of, refused_by, Verdict}
 use Rattle.signals.specs.declared.Refusal.{Refusal}
 use Rattle.signals.specs.declared.Refusal.TheVariants.{ShortBuffer, Mnemonic, ValueForm}
-use Rattle.signals.specs.declared.Verdict.{Verdict}
-use Rattle.signals.specs.declared.Verdict.TheVariants as verdict
 use Rattle.rights.specs.declared.Writer.{Writer}
 use Rattle.controller.specs.Answers as answers
 use Rattle.controller.specs.Answers.{Response}
@@ -29,7 +27,6 @@ use Rattle.terminal.specs.Terminal.{LineOutcome, reply_text, present_value, refu
 use Rattle.terminal.specs.Terminal.{read_to, written_to, outcome_of}
 use Rattle.controller.specs.WriteLaws.{write_accepted_lem, write_refused}
 use Rattle.terminal.specs.TerminalLaws.{with_valid}
-use Rattle.terminal.specs.declared.LineAnswer.TheVariants.{Reply, Refused}
 use Rattle.terminal.specs.declared.LineResult.{LineResult}
 use Rattle.terminal.specs.declared.command.Command.{Command}
 use Rattle.terminal.specs.declared.command.Command.TheVariants.{Read, Write, NoMnemonic, NoValue}
@@ -44,12 +41,12 @@ record Result (o : LineOutcome) : Type 0 where
   described : outcome_of result after ≡ o
 
 refused_result : (refusal : Refusal) (c : Controller) (buffer : List ℕ) → Result (refused_line c buffer (number_of refusal))
-refused_result refusal c buffer = record { result = record { controller = c; answer = Refused refusal }; after = buffer; described = refl }
+refused_result refusal c buffer = record { result = record { controller = c; answer = Err refusal }; after = buffer; described = refl }
 
 replied_result : (c : Controller) (n : ℕ) (buffer : List ℕ) → Result (replied c n buffer)
 unfolding replied
 replied_result c n buffer =
-    record { result = record { controller = c; answer = Reply (length (reply_text n (present_value c n))) }; after = _; described = refl }
+    record { result = record { controller = c; answer = Ok (length (reply_text n (present_value c n))) }; after = _; described = refl }
 
 wrote_result : (c : Controller) (who : Writer) (n : ℕ) (v : ℤ) (buffer : List ℕ) → Valid c →
     Result (wrote_or (refused_by (write_tests c.core who n v)) c who n v buffer)
@@ -59,8 +56,8 @@ wrote_result c who n v buffer valid =
   where
     by_verdict_lem : (d : Verdict) → answers.reply_of_verdict d ≡ (writes.write c who n v).answer →
         Result (wrote_or (refused_by (write_tests c.core who n v)) c who n v buffer)
-    by_verdict_lem verdict.Accepted e = rw (write_accepted_lem c who n v (sym e)) (replied_result (writes.write c who n v).next n buffer)
-    by_verdict_lem (verdict.Refused refusal) e = rw (write_refused c who n v (number_of refusal) (sym e)) (refused_result refusal c buffer)
+    by_verdict_lem (Ok accepted) e = rw (write_accepted_lem c who n v (sym e)) (replied_result (writes.write c who n v).next n buffer)
+    by_verdict_lem (Err refusal) e = rw (write_refused c who n v (number_of refusal) (sym e)) (refused_result refusal c buffer)
 
 with_room : (t : Bool) (c : Controller) (buffer : List ℕ) (o : LineOutcome) → Result o → Result (if t then refused_line c buffer 15 else o)
 with_room true c buffer o r = refused_result ShortBuffer c buffer

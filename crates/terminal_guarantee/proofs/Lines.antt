@@ -1,5 +1,5 @@
 -- Every line does what its bytes ask, and is refused in the order of the request.
-use Rattle.std.specs.Prelude.{if◌then◌else◌}
+use Rattle.std.specs.Prelude.{if◌then◌else◌, Err, Ok}
 use mathlib.Core.Path.{◌≡◌, refl, sym, ap, subst, ◌∙◌}
 use mathlib.Core.Bool.{Bool, true, false}
 use mathlib.Core.List.{List, ◌∷◌, ◌++◌}
@@ -18,21 +18,17 @@ use Rattle.numerals.specs.Shortest.{decimal_shortest}
 use Rattle.signals.specs.Refusals.{number_of, refused_by}
 use Rattle.signals.specs.declared.Refusal.{Refusal}
 use Rattle.rights.specs.declared.Writer.{Writer}
-use Rattle.controller.specs.Answers.{Response, reading, reply_by, reply_of_read}
+use Rattle.controller.specs.Answers.{Response, reading, reply_by, reply_of_read, ReadAnswer}
 use Rattle.controller.specs.Read.{value_in}
 use Rattle.controller.specs.Scan.{mode_now}
 use Rattle.controller.specs.Valid.{Valid}
 use Rattle.controller.specs.Write.{write_tests, write}
 use Rattle.controller.specs.WriteLaws.{valid_write, write_answer}
 use Rattle.controller.specs.declared.Controller.{Controller}
-use Rattle.controller.specs.declared.ReadAnswer.{ReadAnswer}
-use Rattle.controller.specs.declared.ReadAnswer.TheVariants as read
 use Rattle.terminal.specs.Commands.{is_word, value_of, command_in}
 use Rattle.terminal.specs.Terminal.{value_text, reply_text, present_value, LineOutcome, reply, number, refused_line, replied}
-use Rattle.terminal.specs.Terminal.{wrote_or, read_to, written_to, answered_to, answered, outcome_of, reply_of_line}
+use Rattle.terminal.specs.Terminal.{wrote_or, read_to, written_to, answered_to, answered, outcome_of, reply_of_line, LineAnswer}
 use Rattle.terminal.specs.TerminalLaws.{read_named, value_few, word_value}
-use Rattle.terminal.specs.declared.LineAnswer.{LineAnswer}
-use Rattle.terminal.specs.declared.LineAnswer.TheVariants.{Reply, Refused}
 use Rattle.terminal.specs.declared.LineResult.{LineResult}
 use Rattle.promises.specs.RefusalCauses.{NumberEnsures}
 use Rattle.promises.proofs.Words.{byte_most}
@@ -112,23 +108,23 @@ displayed c n valid =
 
 -- ---- an answer in the code's terms
 
-pub is_reply : (a : LineAnswer) (k : ℕ) → reply_of_line a ≡ reply k → a ≡ Reply k
-is_reply (Reply l) k e = cc
-is_reply (Refused refusal) k e = let z : ◌≡◌ {A = ℕ} 0 1 = cc in apart z
+pub is_reply : (a : LineAnswer) (k : ℕ) → reply_of_line a ≡ reply k → a ≡ Ok k
+is_reply (Ok l) k e = cc
+is_reply (Err refusal) k e = let z : ◌≡◌ {A = ℕ} 0 1 = cc in apart z
 
-is_value : (q : ReadAnswer) (v : ℤ) → reply_of_read q ≡ reading v → q ≡ read.Value v
-is_value (read.Value w) v e = cc
-is_value (read.Refused refusal) v e = let z : ◌≡◌ {A = ℕ} 0 1 = cc in apart z
+is_value : (q : ReadAnswer) (v : ℤ) → reply_of_read q ≡ reading v → q ≡ Ok v
+is_value (Ok w) v e = cc
+is_value (Err refusal) v e = let z : ◌≡◌ {A = ℕ} 0 1 = cc in apart z
 
 -- a refusal, and that its number is k
 record IsRefusal (a : LineAnswer) (k : ℕ) : Type 0 where
   refusal : Refusal
-  is : a ≡ Refused refusal
+  is : a ≡ Err refusal
   numbered : (m : ℕ) → NumberEnsures refusal m → m ≡ k
 
 is_refusal : (a : LineAnswer) (k : ℕ) → reply_of_line a ≡ number k → IsRefusal a k
-is_refusal (Reply l) k e = let z : ◌≡◌ {A = ℕ} 0 1 = cc in apart z
-is_refusal (Refused refusal) k e =
+is_refusal (Ok l) k e = let z : ◌≡◌ {A = ℕ} 0 1 = cc in apart z
+is_refusal (Err refusal) k e =
     let same : number_of refusal ≡ k = cc in record { refusal = refusal; is = refl; numbered = λ m f. f ∙ same }
 
 -- ---- a reply

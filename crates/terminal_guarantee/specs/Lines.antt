@@ -3,20 +3,17 @@
 -- results, what a valid controller is, and the paper's numbers for the answers of a read and a write, whose refusals
 -- are promised by themselves (promises). What a line asks and how a value is displayed are told apart from the rules
 -- (Forms.antt).
-use Rattle.std.specs.Prelude.{◌≡◌, List, ◌∷◌, ◌++◌, ℕ, ◌%◌, ◌≤◌, ◌<◌, ℤ, pos, length, take, drop}
+use Rattle.std.specs.Prelude.{◌≡◌, List, ◌∷◌, ◌++◌, ℕ, ◌%◌, ◌≤◌, ◌<◌, ℤ, pos, length, take, drop, Err, Ok}
 use contract.Lifetimes.{Lfts}
 use denote.Ref.{at_last}
 use Rattle.terminal_guarantee.specs.PlaceValue.{Number}
 use Rattle.signals.specs.declared.Refusal.{Refusal}
 use Rattle.rights.specs.declared.Writer.{Writer}
 use Rattle.controller.specs.Answers as calls
-use Rattle.controller.specs.Answers.{reply_of_verdict, reply_of_read}
+use Rattle.controller.specs.Answers.{reply_of_verdict, reply_of_read, ReadAnswer}
 use Rattle.controller.specs.Valid.{Valid}
 use Rattle.controller.specs.declared.CallResult.{CallResult}
 use Rattle.controller.specs.declared.Controller.{Controller}
-use Rattle.controller.specs.declared.ReadAnswer.{ReadAnswer}
-use Rattle.controller.specs.declared.ReadAnswer.TheVariants as read
-use Rattle.terminal.specs.declared.LineAnswer.TheVariants.{Reply, Refused}
 use Rattle.terminal.specs.declared.LineResult.{LineResult}
 use Rattle.terminal.proofs.answer.Reads as answer-reads
 use Rattle.guarantee.specs.Linked.{Slice, MutSlice, ReadEnsures, WriteEnsures}
@@ -53,17 +50,17 @@ pub data Displayed (n : ℕ) : ℤ → List ℕ → Type 0 where
 pub record Replied (c : Controller) (n : ℕ) (buffer : List ℕ) (r : LineResult) (after : List ℕ) : Type 0 where
   pub value : ℤ
   pub text : List ℕ
-  pub present : (q : ReadAnswer) → ReadEnsures c n q → (q ≡ read.Value value) × (reply_of_read q ≡ calls.reading value)
+  pub present : (q : ReadAnswer) → ReadEnsures c n q → (q ≡ Ok value) × (reply_of_read q ≡ calls.reading value)
   pub display : Displayed n value text
   -- "and goes to the front of a lent buffer; its length is the answer and the bytes behind it stay"
-  pub answer : r.answer ≡ Reply (length (letters n ++ (62 ∷ text)))
+  pub answer : r.answer ≡ Ok (length (letters n ++ (62 ∷ text)))
   pub bytes : after ≡ (letters n ++ (62 ∷ text)) ++ drop (length (letters n ++ (62 ∷ text))) buffer
 
 -- a line that is refused leaves the controller and the buffer
 pub record RefusedWith (k : ℕ) (c : Controller) (buffer : List ℕ) (r : LineResult) (after : List ℕ) : Type 0 where
   pub controller : r.controller ≡ c
   pub refusal : Refusal
-  pub answer : r.answer ≡ Refused refusal
+  pub answer : r.answer ≡ Err refusal
   -- the number that a caller gets of it
   pub numbered : (m : ℕ) → NumberEnsures refusal m → m ≡ k
   pub bytes : after ≡ buffer

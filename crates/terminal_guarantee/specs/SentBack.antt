@@ -1,9 +1,8 @@
 -- Document 02, request 4: "A mechanic who may write a parameter and sends its decimal reply back must get the same
 -- reply while nothing comes between, unless it is SL and refusal 8 applies." Who may is request 6's.
-use Rattle.std.specs.Prelude.{◌≡◌, true, false, List, ℕ, ◌≤◌, length, take, drop}
+use Rattle.std.specs.Prelude.{◌≡◌, true, false, List, ℕ, ◌≤◌, length, take, drop, Ok}
 use Rattle.rights.specs.declared.Writer.{Writer}
 use Rattle.controller.specs.declared.Controller.{Controller}
-use Rattle.terminal.specs.declared.LineAnswer.TheVariants.{Reply}
 use Rattle.terminal.specs.declared.LineResult.{LineResult}
 use Rattle.guarantee.specs.Linked.{Slice, MutSlice}
 use Rattle.guarantee.specs.Rights.{has_right, number_without}
@@ -16,7 +15,7 @@ use Rattle.terminal_guarantee.specs.Visits.{Events, Visited}
 -- output included
 pub record SameAgain (c : Controller) (k : ℕ) (text buffer : List ℕ) (r : LineResult) (after : List ℕ) : Type 0 where
   pub controller : r.controller ≡ c
-  pub answer : r.answer ≡ Reply k
+  pub answer : r.answer ≡ Ok k
   pub bytes : take k after ≡ text
   pub behind : drop k after ≡ drop k buffer
 
@@ -40,7 +39,7 @@ ReplySentBack =
     (word : ℕ) (es : Events) (c : Controller) → Visited word es c → (n : ℕ) → 1 ≤ n → n ≤ 23 →
     (lives : Lifetimes) (w : Writer) (bytes : Slice) (buffer : MutSlice) (r : LineResult) (after : List ℕ) →
     LineEnsures lives c w bytes buffer r after →
-    take 2 bytes.now ≡ letters n → (k : ℕ) → r.answer ≡ Reply k →
+    take 2 bytes.now ≡ letters n → (k : ℕ) → r.answer ≡ Ok k →
     (lives2 : Lifetimes) (w2 : Writer) (again : Slice) (buffer2 : MutSlice) (r2 : LineResult) (after2 : List ℕ) →
     LineEnsures lives2 r.controller w2 again buffer2 r2 after2 → again.now ≡ take k after → 9 ≤ length buffer2.now →
     SendingBack w2 r.controller.core.conditions.pins n r (take k after) buffer2.now r2 after2 k

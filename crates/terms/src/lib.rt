@@ -96,8 +96,8 @@ pub fn proportional(t: Tuning, change: i64) -> i64
     requires { TuningRange t × (nat_abs change ≤ 39996) }
     ensures { result ≡ stored_term (proportional_term t change) }
 {
-    let numerator = GAIN * integers::magnitude(change);
-    stored_term(integers::negative(change), numerator, band(t))
+    let numerator = GAIN * change.unsigned_abs();
+    stored_term(change < 0, numerator, band(t))
 }
 
 // The integral term of c, which is SP - PV, or PV - SP with S2.4 ON. With S2.4 OFF that is the other way round than ER.
@@ -109,9 +109,9 @@ pub fn integral(t: Tuning, c: i64) -> i64
     if t.ti == 0 {
         return 0;
     }
-    let numerator = GAIN * integers::magnitude(c) * scan_numerator(t);
+    let numerator = GAIN * c.unsigned_abs() * scan_numerator(t);
     let denominator = band(t) * scan_denominator(t) * t.ti;
-    stored_term(integers::negative(c), numerator, denominator)
+    stored_term(c < 0, numerator, denominator)
 }
 
 // The derivative term of D, which is PV - 2 × previous PV + the one before and so lies in
@@ -121,8 +121,8 @@ pub fn derivative(t: Tuning, d: i64) -> i64
     requires { TuningRange t × (nat_abs d ≤ 39996) }
     ensures { result ≡ stored_term (derivative_term t d) }
 {
-    let numerator = GAIN * integers::magnitude(d) * scan_denominator(t) * t.td;
+    let numerator = GAIN * d.unsigned_abs() * scan_denominator(t) * t.td;
     let denominator = scan_numerator(t) * band(t);
-    let minus = turn(t.inverted, integers::negative(d));
+    let minus = turn(t.inverted, d < 0);
     stored_term(minus, numerator, denominator)
 }

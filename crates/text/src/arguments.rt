@@ -90,8 +90,8 @@ pub fn is_call(word: &[u8], name: &[u8], arguments: Arguments, count: usize) -> 
 pub fn natural_in(value: i64, least: u64, most: u64) -> Natural
     ensures { (result ≡ natural_in value least most) × (least ≤ result.value) × (result.value ≤ max least most) }
 {
-    let size = integers::magnitude(value);
-    if integers::negative(value) {
+    let size = value.unsigned_abs();
+    if value < 0 {
         return Natural {
             ok: false,
             value: least,
@@ -119,10 +119,10 @@ pub fn natural_in(value: i64, least: u64, most: u64) -> Natural
 pub fn integer_in(value: i64) -> Integer
     ensures { result ≡ integer_in value }
 {
-    if integers::not_above(-2147483648, value) & integers::not_above(value, 2147483647) {
+    if (-2147483648 <= value) & (value <= 2147483647) {
         return Integer {
             ok: true,
-            value: integers::narrow(value),
+            value: value as i32,
         };
     }
     Integer {

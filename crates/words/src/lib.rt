@@ -34,6 +34,7 @@ pub fn weight(b: bool, w: u16) -> u16
 }
 
 // Four bits, the highest first.
+#[tactic(auto, unfolding(crate::specs::Words::nibble_of))]
 fn nibble(b3: bool, b2: bool, b1: bool, b0: bool) -> u16
     ensures { (result ≡ nibble_of b3 b2 b1 b0) × (result ≤ 15) }
 {
@@ -41,6 +42,7 @@ fn nibble(b3: bool, b2: bool, b1: bool, b0: bool) -> u16
 }
 
 // A byte by its bits 7 to 0. The contract rules out bits that are exchanged.
+#[tactic(auto, using(crate::specs::WordLaws::byte_nibbles))]
 fn byte(b7: bool, b6: bool, b5: bool, b4: bool, b3: bool, b2: bool, b1: bool, b0: bool) -> u16
     ensures { (result ≡ byte_of b7 b6 b5 b4 b3 b2 b1 b0) × (result ≤ 255) }
 {
@@ -54,12 +56,9 @@ fn mode_bit(mode: Mode) -> u16
     match mode {
         Mode::Hold => bits::HOLD,
         Mode::Track => bits::TRACK,
-        Mode::Forced => bits::MANUAL,
-        Mode::Manual => bits::MANUAL,
-        Mode::Auto => bits::AUTO,
-        Mode::Fallback => bits::AUTO,
-        Mode::Remote => bits::REMOTE,
-        Mode::Ratio => bits::REMOTE,
+        Mode::Forced | Mode::Manual => bits::MANUAL,
+        Mode::Auto | Mode::Fallback => bits::AUTO,
+        Mode::Remote | Mode::Ratio => bits::REMOTE,
     }
 }
 
@@ -67,42 +66,36 @@ fn mode_bit(mode: Mode) -> u16
 fn ds_bit_5(mode: Mode) -> bool
     ensures { result ≡ ds_bit5 mode }
 {
-    match mode {
-        Mode::Hold | Mode::Manual | Mode::Forced => false,
-        _ => true,
-    }
+    !matches!(mode, Mode::Hold | Mode::Manual | Mode::Forced)
 }
 
 // The same of bit 4.
 fn ds_bit_4(mode: Mode) -> bool
     ensures { result ≡ ds_bit4 mode }
 {
-    match mode {
-        Mode::Remote | Mode::Ratio => false,
-        _ => true,
-    }
+    !matches!(mode, Mode::Remote | Mode::Ratio)
 }
 
 // MD bits 15 to 8.
+#[tactic(auto, unfolding(crate::specs::Words::md_high))]
 fn md_high(mode: Mode, c: Conditions) -> u16
     ensures { (result ≡ md_high mode c) × (result ≤ 255) }
 {
     let n = mode_bit(mode);
-    let p = signals::pins_of(c.pins);
-    let opencause = modes::is_open_cause(c.opencount);
     byte(
         n == bits::HOLD,
         n == bits::TRACK,
         n == bits::MANUAL,
         n == bits::AUTO,
         n == bits::REMOTE,
-        p.remote,
-        opencause,
+        signals::pins_of(c.pins).remote,
+        modes::is_open_cause(c.opencount),
         c.fault,
     )
 }
 
 // MD bits 7 to 0.
+#[tactic(auto, unfolding(crate::specs::Words::md_low))]
 fn md_low(userbits: UserBits, indications: Indications) -> u16
     ensures { (result ≡ md_low userbits indications) × (result ≤ 255) }
 {
@@ -121,26 +114,24 @@ fn md_low(userbits: UserBits, indications: Indications) -> u16
 
 // MD. The contract rules out a mode's bit that is wrong or missing, one fault indicated for the other, and a button
 // that is not indicated.
+#[tactic(auto, unfolding(crate::specs::Words::MD))]
 pub fn md(mode: Mode, c: Conditions, userbits: UserBits, indications: Indications) -> u16
     ensures { result ≡ MD mode c userbits indications }
 {
-    let high = md_high(mode, c);
-    let low = md_low(userbits, indications);
-    256 * high + low
+    256 * md_high(mode, c) + md_low(userbits, indications)
 }
 
 // DS bits 7 to 0.
+#[tactic(auto, unfolding(crate::specs::Words::ds_low))]
 fn ds_low(mode: Mode, c: Conditions, userbits: UserBits, indications: Indications) -> u16
     ensures { (result ≡ ds_low mode c userbits indications) × (result ≤ 255) }
 {
     let cause = modes::is_cause(c.fault, c.opencount);
-    let b5 = ds_bit_5(mode);
-    let b4 = ds_bit_4(mode);
     byte(
         userbits.user2,
         userbits.user1,
-        b5,
-        b4,
+        ds_bit_5(mode),
+        ds_bit_4(mode),
         !indications.batterylow,
         !cause,
         !indications.lowalarm,
@@ -150,9 +141,9 @@ fn ds_low(mode: Mode, c: Conditions, userbits: UserBits, indications: Indication
 
 // DS. The contract rules out an alarm that is indicated for one cause only, a bit that is 1 where it should be 0, and
 // the pin byte of another scan.
+#[tactic(auto, unfolding(crate::specs::Words::DS))]
 pub fn ds(mode: Mode, c: Conditions, userbits: UserBits, indications: Indications) -> u16
     ensures { result ≡ DS mode c userbits indications }
 {
-    let low = ds_low(mode, c, userbits, indications);
-    256 * (c.pins as u16) + low
+    256 * u16::from(c.pins) + ds_low(mode, c, userbits, indications)
 }

@@ -6,21 +6,19 @@ ghost use Rattle.words.specs.Written.{power_written, user_bits_written, exactly_
 
 use crate::{UserBits, bits};
 use modes::{Conditions, Request};
-use signals::{Refusal, Verdict};
+use signals::Refusal;
 
 // The request that a word with exactly one of its three bits set asks for.
 fn request_of(word: u16) -> Request
     ensures { result ≡ request_of word }
 {
-    let manual = signals::bit(word, bits::MANUAL);
-    let auto = signals::bit(word, bits::AUTO);
-    if manual {
-        return Request::Manual;
+    if signals::bit(word, bits::MANUAL) {
+        Request::Manual
+    } else if signals::bit(word, bits::AUTO) {
+        Request::Auto
+    } else {
+        Request::Remote
     }
-    if auto {
-        return Request::Auto;
-    }
-    Request::Remote
 }
 
 // The contract rules out a fault that a one in bit 8 clears.
@@ -34,47 +32,46 @@ fn clears_fault(fault: bool, word: u16) -> bool
 fn fault_written(fault: bool, word: u16) -> bool
     ensures { result ≡ fault_written fault word }
 {
-    let clears = clears_fault(fault, word);
-    if clears { false } else { fault }
+    fault & !clears_fault(fault, word)
 }
 
 // The request that it leaves. The contract rules out another than Manual where the write clears a fault.
 fn request_written(fault: bool, word: u16) -> Request
     ensures { result ≡ request_written fault word }
 {
-    let clears = clears_fault(fault, word);
-    let asked = request_of(word);
-    if clears { Request::Manual } else { asked }
+    if clears_fault(fault, word) {
+        Request::Manual
+    } else {
+        request_of(word)
+    }
 }
 
 // What an accepted write of MD leaves of the conditions. The contract rules out a request taken from another bit, a
 // fault that a write clears or leaves wrongly, and a write that moves the pins or the open count.
+#[tactic(auto, unfolding(crate::specs::Written::conditions_written))]
 pub fn conditions_written(c: Conditions, word: u16) -> Conditions
     ensures { result ≡ conditions_written c word }
 {
-    let request = request_written(c.fault, word);
-    let fault = fault_written(c.fault, word);
     Conditions {
-        request,
-        fault,
-        opencount: c.opencount,
-        pins: c.pins,
+        request: request_written(c.fault, word),
+        fault: fault_written(c.fault, word),
+        ..c
     }
 }
 
 // MD bit 4. The contract rules out another bit, and a write of MD that moves the user bits.
+#[tactic(auto, unfolding(crate::specs::Written::power_written))]
 pub fn power_written(userbits: UserBits, word: u16) -> UserBits
     ensures { result ≡ power_written userbits word }
 {
-    let measuredpower = signals::bit(word, bits::MEASURED_POWER);
     UserBits {
-        user1: userbits.user1,
-        user2: userbits.user2,
-        measuredpower,
+        measuredpower: signals::bit(word, bits::MEASURED_POWER),
+        ..userbits
     }
 }
 
 // DS bits 7 and 6. The contract rules out user bits that are exchanged.
+#[tactic(auto, unfolding(crate::specs::Written::user_bits_written))]
 pub fn user_bits_written(userbits: UserBits, word: u16) -> UserBits
     ensures { result ≡ user_bits_written userbits word }
 {
@@ -83,7 +80,7 @@ pub fn user_bits_written(userbits: UserBits, word: u16) -> UserBits
     UserBits {
         user1,
         user2,
-        measuredpower: userbits.measuredpower,
+        ..userbits
     }
 }
 
@@ -98,13 +95,12 @@ fn exactly_one(a: bool, b: bool, c: bool) -> bool
 fn cause_remains(c: Conditions, word: u16) -> bool
     ensures { result ≡ cause_remains c word }
 {
-    let fault = fault_written(c.fault, word);
-    modes::is_cause(fault, c.opencount)
+    modes::is_cause(fault_written(c.fault, word), c.opencount)
 }
 
 // Whether MD takes this word. The contract rules out a refusal for another cause, one that is forgotten, and a higher
 // number where a lower one applies.
-pub fn md_verdict(c: Conditions, word: u16) -> Verdict
+pub fn md_verdict(c: Conditions, word: u16) -> Result<(), Refusal>
     ensures { number_in result ≡ refused_by (md_tests c word) }
 {
     let auto = signals::bit(word, bits::AUTO);
@@ -113,13 +109,13 @@ pub fn md_verdict(c: Conditions, word: u16) -> Verdict
     let pins = signals::pins_of(c.pins);
     let remains = cause_remains(c, word);
     if !one {
-        return Verdict::Refused(Refusal::RequestBits);
+        return Err(Refusal::RequestBits);
     }
     if remote & !pins.remote {
-        return Verdict::Refused(Refusal::RemotePin);
+        return Err(Refusal::RemotePin);
     }
     if (auto | remote) & remains {
-        return Verdict::Refused(Refusal::Cause);
+        return Err(Refusal::Cause);
     }
-    Verdict::Accepted
+    Ok(())
 }

@@ -1,5 +1,6 @@
 -- Document 01's figures worked by hand, and further ones, hold of the rules: each side of each equation computes to the
 -- same number.
+use Rattle.std.specs.Prelude.{Ok}
 use mathlib.Core.Path.{◌≡◌, refl, sym}
 use mathlib.Core.List.{[], ◌∷◌}
 use Prim.Native.Nat.{ℕ, ◌+◌, ◌*◌}
@@ -13,7 +14,6 @@ use Rattle.integers.specs.Parts.{integers}
 use Rattle.integers.specs.Rounding.{half_up, half_even, nearest_even}
 use Rattle.integers.specs.TwosComplement.{as_word}
 use Rattle.signals.specs.Refusals.{refused_by, scan_tests}
-use Rattle.signals.specs.declared.Verdict.TheVariants as verdict
 use Rattle.signals.specs.Signals.{buttons_of, pins_of, switches_of, adjustment_of}
 use Rattle.fields.specs.Fields as f
 use Rattle.modes.specs.Modes as m
@@ -50,7 +50,6 @@ use Rattle.controller.specs.State.{fresh_controller}
 use Rattle.controller.specs.ValidLaws.{valid_fresh}
 use Rattle.controller.specs.Write as w
 use Rattle.controller.specs.Write.{write}
-use Rattle.controller.specs.declared.Answer.TheVariants.{Accepted}
 use Rattle.controller.specs.declared.CallResult.{CallResult}
 use Rattle.controller.specs.declared.Controller.{Controller}
 use Rattle.controller.specs.declared.ScanResult.{ScanResult}
@@ -91,14 +90,14 @@ trimmed_chain c e d =
     record { responses = _; chain = wrote Engineer 5 (pos 100) (accepted (trimmed 0)) one second }
   where
     accepted : Controller → CallResult
-    accepted next = record { controller = next; verdict = verdict.Accepted }
+    accepted next = record { controller = next; verdict = Ok tt }
 
 -- and so do two scans that are accepted
 abbrev remote_result : ScanResult
-remote_result = record { controller = after_remote (trimmed 0) 5000 5750; answer = Accepted remote_values }
+remote_result = record { controller = after_remote (trimmed 0) 5000 5750; answer = Ok remote_values }
 
 abbrev fall_back_result : ScanResult
-fall_back_result = record { controller = after_fall_back (after_remote (trimmed 0) 5000 5750) 5750; answer = Accepted fall_back_values }
+fall_back_result = record { controller = after_fall_back (after_remote (trimmed 0) 5000 5750) 5750; answer = Ok fall_back_values }
 
 remote_made : {calls : Calls} → ChainTo 0 calls (trimmed 0) → response_of remote_result ≡ scan (trimmed 0) (pin_at_one 5000 5750 0) →
     ScanEnsures (trimmed 0) (pin_at_one 5000 5750 0) remote_result

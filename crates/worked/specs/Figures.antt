@@ -1,9 +1,8 @@
 -- Document 01, "Worked by hand (all to be proved)": one list of statements about the rules, in the paper's order, with
 -- what document 02 makes of them. Further figures, which are ours, stand in two lists of their own behind it.
 -- proofs/Worked.antt proves them all.
-use Rattle.std.specs.Prelude.{◌≡◌, true, false, List, [], ◌∷◌, ℕ, zero, suc, ℤ, pos, neg_ℤ, ◌*ℤ◌, drop}
+use Rattle.std.specs.Prelude.{◌≡◌, true, false, List, [], ◌∷◌, ℕ, zero, suc, ℤ, pos, neg_ℤ, ◌*ℤ◌, drop, Some}
 use Rattle.signals.specs.declared.Input.{Input}
-use Rattle.signals.specs.declared.clock.ClockReading.TheVariants.{At}
 use Rattle.modes.specs.Modes.{is_cause, counted, open_count_after}
 use Rattle.modes.specs.declared.Conditions.{Conditions}
 use Rattle.modes.specs.declared.Mode.TheVariants.{Auto}
@@ -145,7 +144,7 @@ scan_figures =
     ∷ ((scan once_scanned (next_scan 1042)).next.core.history ≡ Two (pos 510) (pos 0) (pos 500))
     ∷ ((scan once_scanned (next_scan 1043)).next.core.history ≡ One (pos 510) (pos 0))
     -- and its reading is the last
-    ∷ ((scan once_scanned (next_scan 1043)).next.core.clock ≡ At 1043)
+    ∷ ((scan once_scanned (next_scan 1043)).next.core.clock ≡ Some 1043)
     -- document 02, request 5: q 101 with s 200 is 50, and with S2.3 ON q 103 with s 50 is 52; RB is added after
     ∷ ((scan (biased 0x8000 200) (ratio_scan 1010)).next.core.readings.sp ≡ pos 51)
     ∷ ((scan (biased 0xA000 50) (ratio_scan 1030)).next.core.readings.sp ≡ pos 53)

@@ -6,7 +6,7 @@ use lib.IntN.{ℤ, ◌+ℤ◌}
 use mir.Facts.{to_z-of_z}
 use mir.Syntax.{w64}
 use mir.Val.{to_z, of_z}
-use Rattle.integers.specs.Machine.{back}
+use Rattle.integers.specs.Machine.{back, sum_fits}
 use Rattle.terms.specs.Terms.{stored_term, proportional_term, integral_term, derivative_term, TuningRange}
 use Rattle.terms.specs.TermLaws.{proportional_positive, integral_positive, derivative_positive}
 use Rattle.terms.specs.declared.Tuning.{Tuning}
@@ -18,7 +18,7 @@ use Rattle.outputs.specs.Instruction.{changed, stored_arithmetic}
 use Rattle.outputs.specs.Outputs.{terms_of}
 use Rattle.outputs.specs.OutputLaws.{PastRange, recalled_read, control_difference_most, change_most, second_most}
 use Rattle.outputs.specs.OutputLaws.{tuning_range, stored_size, stored_small, term_sized, small_of, sum_most}
-use Rattle.outputs.proofs.with_terms.Goals.{After-derivative, After-integral, After-plus-one, After-plus-two, After-proportional}
+use Rattle.outputs.proofs.with_terms.Goals.{After-derivative, After-integral, After-proportional}
 use Rattle.outputs.proofs.with_terms.Goals.{After-recalled-past, After-second_difference-d}
 use Rattle.outputs.proofs.with_terms.Goals as goal
 
@@ -92,19 +92,16 @@ proportional_is c =
     back w64 c.proportional.result c.proportional.type_inv ∙ c.proportional.ensures ∙
     simp (tuning_is c.before, change_is c.before)
 
-pub plus-one-requires : goal.plus-one-requires
-plus-one-requires c =
-    simp (to_z-of_z c.ranges.output, proportional_is c) (
-      stored_small c.args.output c.requires.3,
-      small_of (term_sized _ (proportional_positive _ (tuned (goal.at.plus-one-requires c).After-second_difference-d) _)) (omega arith),
-    )
+pub overflow_add-result : goal.overflow_add-result
+overflow_add-result c =
+    simp (to_z-of_z c.ranges.output, proportional_is c)
+    (sum_fits _ _ (stored_small c.args.output c.requires.3)
+    (small_of (term_sized _ (proportional_positive _ (tuned c.before) _)) (omega arith)))
 
-one_is : (c : After-plus-one) →
-    to_z w64 (of_z w64 c.plus-one.result) ≡ c.args.output +ℤ stored_term
-    (proportional_term (tuning c.before.before) (change c.before.before))
-one_is c =
-    back w64 c.plus-one.result c.plus-one.type_inv ∙ c.plus-one.ensures ∙
-    simp (to_z-of_z c.ranges.output, proportional_is c.before)
+one_is : (c : After-proportional) →
+    to_z w64 (of_z w64 (to_z w64 (of_z w64 c.args.output) +ℤ to_z w64 (of_z w64 c.proportional.result)))
+    ≡ c.args.output +ℤ stored_term (proportional_term (tuning c.before) (change c.before))
+one_is c = to_z-of_z (overflow_add-result c) ∙ simp (to_z-of_z c.ranges.output, proportional_is c)
 
 pub integral-requires : goal.integral-requires
 unfolding now
@@ -114,24 +111,25 @@ integral-requires c =
     (tuned (goal.at.integral-requires c).After-second_difference-d, control_difference_most _ _ _ read.sp_read read.pv_read)
 
 integral_is : (c : After-integral) →
-    to_z w64 (of_z w64 c.integral.result) ≡ stored_term (integral_term (tuning c.before.before.before) (now c.before.before.before))
+    to_z w64 (of_z w64 c.integral.result) ≡ stored_term (integral_term (tuning c.before.before) (now c.before.before))
 integral_is c =
     back w64 c.integral.result c.integral.type_inv ∙ c.integral.ensures ∙
-    simp (tuning_is c.before.before.before, now_is c.before.before.before)
+    simp (tuning_is c.before.before, now_is c.before.before)
 
-pub plus-two-requires : goal.plus-two-requires
-plus-two-requires c =
-    simp (one_is (goal.at.plus-two-requires c).After-plus-one, integral_is c) (
-      small_of (sum_most (stored_size c.requires.3)
-          (term_sized _ (proportional_positive _ (tuned (goal.at.plus-two-requires c).After-second_difference-d) _))) (omega arith),
-      small_of (term_sized _ (integral_positive _ (tuned (goal.at.plus-two-requires c).After-second_difference-d) _)) (omega arith),
-    )
+pub overflow_add-result-2 : goal.overflow_add-result-2
+overflow_add-result-2 c =
+    let tuned = tuned c.before.before in
+    simp (one_is c.before, integral_is c)
+    (sum_fits _ _
+    (small_of (sum_most (stored_size c.requires.3) (term_sized _ (proportional_positive _ tuned _))) (omega arith))
+    (small_of (term_sized _ (integral_positive _ tuned _)) (omega arith)))
 
-two_is : (c : After-plus-two) → to_z w64 (of_z w64 c.plus-two.result)
-    ≡ (c.args.output +ℤ stored_term (proportional_term (tuning c.before.before.before.before) (change c.before.before.before.before))) +ℤ
-    stored_term (integral_term (tuning c.before.before.before.before) (now c.before.before.before.before))
-two_is c =
-    back w64 c.plus-two.result c.plus-two.type_inv ∙ c.plus-two.ensures ∙ simp (one_is c.before.before, integral_is c.before)
+two_is : (c : After-integral) →
+    to_z w64 (of_z w64 (to_z w64 (of_z w64 (to_z w64 (of_z w64 c.args.output) +ℤ to_z w64 (of_z w64 c.proportional.result)))
+    +ℤ to_z w64 (of_z w64 c.integral.result)))
+    ≡ (c.args.output +ℤ stored_term (proportional_term (tuning c.before.before) (change c.before.before))) +ℤ
+    stored_term (integral_term (tuning c.before.before) (now c.before.before))
+two_is c = to_z-of_z (overflow_add-result-2 c) ∙ simp (one_is c.before, integral_is c)
 
 pub derivative-requires : goal.derivative-requires
 unfolding second
@@ -146,22 +144,20 @@ derivative-requires c =
 
 derivative_is : (c : After-derivative) →
     to_z w64 (of_z w64 c.derivative.result) ≡ stored_term
-    (derivative_term (tuning c.before.before.before.before.before) (second c.before.before.before.before.before))
+    (derivative_term (tuning c.before.before.before) (second c.before.before.before))
 derivative_is c =
     back w64 c.derivative.result c.derivative.type_inv ∙ c.derivative.ensures ∙
-    simp (tuning_is c.before.before.before.before.before, second_is c.before.before.before.before.before)
+    simp (tuning_is c.before.before.before, second_is c.before.before.before)
 
-pub plus-requires : goal.plus-requires
-plus-requires c =
-    simp (two_is (goal.at.plus-requires c).After-plus-two, derivative_is c) (
-      small_of (sum_most (sum_most (stored_size c.requires.3)
-          (term_sized _ (proportional_positive _ (tuned (goal.at.plus-requires c).After-second_difference-d) _)))
-          (term_sized _ (integral_positive _ (tuned (goal.at.plus-requires c).After-second_difference-d) _))) (omega arith),
-      small_of (term_sized _ (derivative_positive _ (tuned (goal.at.plus-requires c).After-second_difference-d) _)) (omega arith),
-    )
+pub overflow_add-result-3 : goal.overflow_add-result-3
+overflow_add-result-3 c =
+    let tuned = tuned c.before.before.before in
+    simp (two_is c.before, derivative_is c)
+    (sum_fits _ _
+    (small_of (sum_most (sum_most (stored_size c.requires.3) (term_sized _ (proportional_positive _ tuned _)))
+        (term_sized _ (integral_positive _ tuned _))) (omega arith))
+    (small_of (term_sized _ (derivative_positive _ tuned _)) (omega arith)))
 
 pub returns : goal.returns
 unfolding changed stored_arithmetic terms_of tuning past inverse change now second
-returns c =
-    back w64 c.plus.result c.plus.type_inv ∙ c.plus.ensures ∙
-    simp (two_is (goal.at.returns c).After-plus-two, derivative_is (goal.at.returns c).After-derivative)
+returns c = to_z-of_z (overflow_add-result-3 c) ∙ simp (two_is c.before, derivative_is c)

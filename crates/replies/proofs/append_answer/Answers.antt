@@ -17,7 +17,7 @@ returns c =
     let to-mode = then o _ _ to-blank c.append_mode-word.ensures in
     let to-gap = then o _ _ to-mode c.append_byte-end.ensures in
     let fits = c.struct_told-1.given.1.1.1.1.1.0.1 in
-    let pv_is = back w64 c.wide.result c.wide.type_inv ∙ c.wide.ensures ∙ back w32 c.args.values.pv fits in (
+    let pv_is = back w64 c.from.result c.from.type_inv ∙ c.from.ensures ∙ back w32 c.args.values.pv fits in (
       then o _ _ to-gap (c.append_signed.ensures ∙ ap (append_all _) (ap decimal pv_is)),
       record { words = c.append_words-words.ensures.1; pv = value_most c.args.values.pv fits },
     )

@@ -11,10 +11,10 @@ returns-in-None c =
     let e = c.in-None.is in
     (rw e c.append_bytes.ensures, rw e tt)
 
-pub returns-in-At : goal.returns-in-At
+pub returns-in-Some : goal.returns-in-Some
 unfolding clock_text
-returns-in-At c =
-    let e = c.in-At.is in (
+returns-in-Some c =
+    let e = c.in-Some.is in (
       rw e (then (buffer c.args.out.now c.args.used) _ _ c.append_bytes-name.ensures c.append_spaced.ensures),
       rw e (search rules),
     )

@@ -10,5 +10,5 @@ use Rattle.replies.proofs.append_value.Goals as goal
 pub returns : goal.returns
 unfolding value_text
 returns c =
-    let d = rw (back w64 c.wide.result c.wide.type_inv, c.wide.ensures, to_z-of_z c.ranges.v) at c.append_signed.ensures in
+    let d = rw (back w64 c.from.result c.from.type_inv, c.from.ensures, to_z-of_z c.ranges.v) at c.append_signed.ensures in
     then (buffer c.args.out.now c.args.used) _ _ c.append_bytes-name.ensures d

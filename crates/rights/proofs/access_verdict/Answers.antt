@@ -2,12 +2,14 @@
 use mathlib.Core.Bool.{Bool}
 use mathlib.Core.List.{List, ◌++◌}
 use mathlib.Core.Option.{Option, some, none}
-use mathlib.Core.Path.{◌≡◌, refl, sym, ◌∙◌}
+use mathlib.Core.Path.{◌≡◌, refl, sym, ap, ◌∙◌}
 use Prim.Native.Nat.{ℕ}
-use Rattle.signals.specs.RefusalLaws.{refused_append}
-use Rattle.signals.specs.Refusals.{first_of, refused_by}
+use Rattle.signals.specs.RefusalLaws.{handed_on, refused_append}
+use Rattle.signals.specs.Refusals.{number_in, first_of, refused_by}
 use Rattle.parameters.specs.Legal.{unknown_refusal, read_only_refusal}
+use Rattle.parameters.specs.declared.Rule.{Rule}
 use Rattle.rights.specs.Rights.{named, pin_tests, right_tests, access_tests}
+use Rattle.rights.specs.declared.Writer.{Writer}
 use Rattle.rights.proofs.access_verdict.Goals as goal
 
 -- a refusal that a row names, as a test
@@ -17,33 +19,34 @@ named_is none = refl
 named_is (some n) = refl
 
 -- the tests one list after the other
-grouped : (a b c d : Option ℕ) → first_of (first_of a (first_of b c)) d ≡ first_of a (first_of b (first_of c d))
-grouped none none c d = refl
-grouped none (some n) c d = refl
-grouped (some n) b c d = refl
+in_order_lem : (rule : Rule) (writer : Writer) (pins number : ℕ) → refused_by (access_tests rule writer pins number) ≡
+    first_of (unknown_refusal rule) (first_of (refused_by (pin_tests writer pins))
+      (first_of (refused_by (right_tests writer number)) (read_only_refusal rule)))
+unfolding access_tests
+in_order_lem rule writer pins number =
+    let right = right_tests writer number in
+    let readonly = named (read_only_refusal rule) in
+    rw (refused_append (named (unknown_refusal rule)) (pin_tests writer pins ++ (right ++ readonly)),
+      refused_append (pin_tests writer pins) (right ++ readonly), refused_append right readonly,
+      named_is (unknown_refusal rule), named_is (read_only_refusal rule)) refl
 
-in_order_lem : (unknown readonly : Option ℕ) (pin right : List (Bool × ℕ)) →
-    refused_by (named unknown ++ (pin ++ (right ++ named readonly))) ≡
-    first_of (first_of unknown (first_of (refused_by pin) (refused_by right))) readonly
-in_order_lem unknown readonly pin right =
-    refused_append (named unknown) (pin ++ (right ++ named readonly)) ∙
-    rw (named_is unknown, refused_append pin (right ++ named readonly), refused_append right (named readonly), named_is readonly)
-    (sym (grouped unknown (refused_by pin) (refused_by right) readonly))
+pub returns-in_err-unknown_verdict : goal.returns-in_err-unknown_verdict
+returns-in_err-unknown_verdict c =
+    ap number_in (handed_on _ _ c.from_residual.ensures.1) ∙
+    rw (in_order_lem c.args.rule c.args.writer c.args.pins c.args.number, ← c.in_err-unknown_verdict.ensures) refl
+
+pub returns-in_err-pin_verdict : goal.returns-in_err-pin_verdict
+returns-in_err-pin_verdict c =
+    ap number_in (handed_on _ _ c.from_residual-in_err-pin_verdict.ensures.1) ∙
+    rw (in_order_lem c.args.rule c.args.writer c.args.pins c.args.number, ← c.in_ok-unknown_verdict.ensures, ← c.in_err-pin_verdict.ensures) refl
+
+pub returns-in_err-right_verdict : goal.returns-in_err-right_verdict
+returns-in_err-right_verdict c =
+    ap number_in (handed_on _ _ c.from_residual-in_err-right_verdict.ensures.1) ∙
+    rw (in_order_lem c.args.rule c.args.writer c.args.pins c.args.number, ← c.in_ok-unknown_verdict.ensures, ← c.in_ok-pin_verdict.ensures,
+      ← c.in_err-right_verdict.ensures) refl
 
 pub returns : goal.returns
-unfolding access_tests
 returns c =
-    let row = c.args.rule in
-    let w = c.args.writer in
-    let pins = c.args.pins in
-    let n = c.args.number in
-    simp (
-      c.first_refusal.ensures,
-      c.first_refusal-known.ensures,
-      c.first_refusal-permission.ensures,
-      c.read_only_verdict-readonly.ensures,
-      c.right_verdict-right.ensures,
-      c.pin_verdict-pin.ensures,
-      c.unknown_verdict-unknown.ensures,
-      in_order_lem (unknown_refusal row) (read_only_refusal row) (pin_tests w pins) (right_tests w n),
-    )
+    rw (in_order_lem c.args.rule c.args.writer c.args.pins c.args.number, ← c.in_ok-unknown_verdict.ensures, ← c.in_ok-pin_verdict.ensures,
+      ← c.in_ok-right_verdict.ensures) c.read_only_verdict.ensures

@@ -12,29 +12,29 @@ use Rattle.integers.specs.Parts.{integers}
 use Rattle.integers.specs.Rounding.{half_up}
 use Rattle.integers.specs.RoundingLaws.{half_up-quotient}
 use Rattle.scaling.specs.Scale.{scaled}
-use Rattle.scaling.proofs.scale.Goals.{After-magnitude-span, Start}
+use Rattle.scaling.proofs.scale.Goals.{After-unsigned_abs-span, Start}
 use Rattle.scaling.proofs.scale.Goals as goal
 
 span_fits : (c : Start) → SFits w64 (c.args.high -ℤ c.args.low)
 span_fits c = omega (arith, integers, difference c.args.high c.args.low)
 
-module _ (c : After-magnitude-span) where
-  span_is : c.magnitude-span.result ≡ nat_abs (c.args.high -ℤ c.args.low)
-  span_is = let s = c.before in simp (to_z-of_z, s.ranges.high, s.ranges.low, span_fits s) at c.magnitude-span.ensures
+module _ (c : After-unsigned_abs-span) where
+  span_is : c.unsigned_abs-span.result ≡ nat_abs (c.args.high -ℤ c.args.low)
+  span_is = let s = c.before in simp (to_z-of_z, s.ranges.high, s.ranges.low, span_fits s) at c.unsigned_abs-span.ensures.value
 
-  small : c.args.sample * c.magnitude-span.result ≤ 10000 * 39996
+  small : c.args.sample * c.unsigned_abs-span.result ≤ 10000 * 39996
   small =
       bounded 10000 39996 c.requires.sampled
       (omega (arith, integers, span_is, difference c.args.high c.args.low))
 
   -- the code's quotient, in the definition's words
-  part_is : (2 * (c.args.sample * c.magnitude-span.result) + 10000) / 20000
+  part_is : (2 * (c.args.sample * c.unsigned_abs-span.result) + 10000) / 20000
       ≡ half_up (c.args.sample * nat_abs (c.args.high -ℤ c.args.low)) 10000
   part_is =
-      half_up-quotient (c.args.sample * c.magnitude-span.result) 10000 (omega arith) ∙
+      half_up-quotient (c.args.sample * c.unsigned_abs-span.result) 10000 (omega arith) ∙
       ap (λ (span : ℕ). half_up (c.args.sample * span) 10000) span_is
 
-  part_most : (2 * (c.args.sample * c.magnitude-span.result) + 10000) / 20000 ≤ 40000
+  part_most : (2 * (c.args.sample * c.unsigned_abs-span.result) + 10000) / 20000 ≤ 40000
   part_most = omega (arith, small)
 
   sum_fits : (n : ℕ) → n ≤ 40000 → SFits w64 (c.args.low +ℤ pos n)

@@ -1,10 +1,11 @@
 -- `setpoints::compute` meets its contract.
+use mir.Facts.{to_z-of_z}
 use mir.Syntax.{w64}
+use Rattle.integers.specs.Machine.{back, difference_fits}
 use Rattle.local_setpoint.specs.LocalSetpointLaws.{ratio_inside, setpoint_inside, setpoint_limited}
 use Rattle.setpoints.specs.ComputationLaws.{reading_small, setpoint_read, ratio_read, trim_reading, pv_reading}
-use Rattle.setpoints.specs.Setpoints.{setpoint_of}
-use Rattle.integers.specs.Machine.{back}
 use Rattle.setpoints.specs.Computation.{computed}
+use Rattle.setpoints.specs.Setpoints.{setpoint_of}
 use Rattle.setpoints.proofs.compute.Goals as goal
 
 pub setpoint_in-unlimited-requires : goal.setpoint_in-unlimited-requires
@@ -23,17 +24,17 @@ setpoint_in-unlimited-requires c =
       rw c.trim_of-trim.ensures (reading_small _ (trim_reading p legal _ c.requires.1 _ _)),
     )
 
-pub minus-er-requires : goal.minus-er-requires
-minus-er-requires c =
+pub overflow_sub-er : goal.overflow_sub-er
+overflow_sub-er c =
     let p = c.args.p in
     let legal = c.requires.0 in
     simp (
       back w64 c.limited_setpoint-sp.result c.limited_setpoint-sp.type_inv,
       back w64 c.process_variable-pv.result c.process_variable-pv.type_inv,
-    ) (
-      rw c.process_variable-pv.ensures (reading_small _ (pv_reading p legal _ c.requires.1)),
-      rw c.limited_setpoint-sp.ensures (reading_small _ (setpoint_read p legal (setpoint_limited p legal _))),
     )
+    (difference_fits c.process_variable-pv.result c.limited_setpoint-sp.result
+    (rw c.process_variable-pv.ensures (reading_small _ (pv_reading p legal _ c.requires.1)))
+    (rw c.limited_setpoint-sp.ensures (reading_small _ (setpoint_read p legal (setpoint_limited p legal _)))))
 
 pub following_setpoint-to-requires : goal.following_setpoint-to-requires
 following_setpoint-to-requires c =
@@ -47,9 +48,9 @@ following_setpoint-to-requires c =
 pub returns : goal.returns
 unfolding computed setpoint_of
 returns c =
-    simp (
+    simp (to_z-of_z (overflow_sub-er c.before.before.before.before))
+    (simp (
       back w64 c.measured_power-mp.result c.measured_power-mp.type_inv,
-      back w64 c.minus-er.result c.minus-er.type_inv,
       back w64 c.limited_setpoint-sp.result c.limited_setpoint-sp.type_inv,
       back w64 c.process_variable-pv.result c.process_variable-pv.type_inv,
     )
@@ -62,11 +63,6 @@ returns c =
       back w64 c.trim_of-trim.result c.trim_of-trim.type_inv,
     )
     (simp c.measured_power-mp.ensures
-    (simp (
-      c.minus-er.ensures,
-      back w64 c.limited_setpoint-sp.result c.limited_setpoint-sp.type_inv,
-      back w64 c.process_variable-pv.result c.process_variable-pv.type_inv,
-    )
     (simp (c.limited_setpoint-sp.ensures, back w64 c.setpoint_in-unlimited.result c.setpoint_in-unlimited.type_inv)
     (simp (
       c.setpoint_in-unlimited.ensures,

@@ -11,19 +11,19 @@ pub returns-then-reply-lt-REPLY_LENGTH : goal.returns-then-reply-lt-REPLY_LENGTH
 unfolding written_to
 returns-then-reply-lt-REPLY_LENGTH c = rw c.refused.ensures (simp (lt-ltb _ _ c.if-reply-lt-REPLY_LENGTH.true))
 
-pub returns-in-Refused : goal.returns-in-Refused
+pub returns-in-Err : goal.returns-in-Err
 unfolding written_to
-returns-in-Refused c =
+returns-in-Err c =
     let is = rw (to_z-of_z c.ranges.value) at c.write-result.ensures.0 in
     let refusal = write_refused c.args.controller c.args.writer c.args.number c.args.value _
-    (sym (ap (λ (r' : Response). r'.answer) is) ∙ ap reply_of_verdict c.in-Refused.is) in
-    rw c.refused-in-Refused.ensures (simp (le-ltb _ _ c.if-reply-lt-REPLY_LENGTH.false, refusal))
+    (sym (ap (λ (r' : Response). r'.answer) is) ∙ ap reply_of_verdict c.in-Err.is) in
+    rw c.refused-in-Err.ensures (simp (le-ltb _ _ c.if-reply-lt-REPLY_LENGTH.false, refusal))
 
-pub returns-in-Accepted : goal.returns-in-Accepted
+pub returns-in-Ok : goal.returns-in-Ok
 unfolding written_to
-returns-in-Accepted c =
+returns-in-Ok c =
     let is = rw (to_z-of_z c.ranges.value) at c.write-result.ensures.0 in
     let accepted = write_accepted_lem c.args.controller c.args.writer c.args.number c.args.value
-    (sym (ap (λ (r' : Response). r'.answer) is) ∙ ap reply_of_verdict c.in-Accepted.is) in
+    (sym (ap (λ (r' : Response). r'.answer) is) ∙ ap reply_of_verdict c.in-Ok.is) in
     let next = ap (λ (r' : Response). r'.next) is in
     simp (le-ltb _ _ c.if-reply-lt-REPLY_LENGTH.false, accepted) (c.show.ensures ∙ rw next refl)

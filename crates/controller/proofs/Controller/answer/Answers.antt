@@ -1,4 +1,5 @@
 -- `controller::Controller::answer` meets its contract.
+use Rattle.std.specs.Prelude.{Ok}
 use mathlib.Core.Path.{◌≡◌, refl, ap, ◌∙◌}
 use mir.Syntax.{w32}
 use Rattle.integers.specs.Machine.{back}
@@ -6,7 +7,6 @@ use Rattle.outputs.specs.OutputLaws.{stored_back}
 use Rattle.answers.specs.declared.ScanValues.{ScanValues}
 use Rattle.controller.specs.Answers.{op_of, electrical_of, reply_of}
 use Rattle.controller.specs.Scan.{mode_now, md_now, ds_now, status_of, with_output}
-use Rattle.controller.specs.declared.Answer.TheVariants.{Accepted}
 use Rattle.controller.specs.declared.Controller.{Controller}
 use Rattle.controller.specs.ValidLaws.{reading_back}
 use Rattle.controller.proofs.Controller.answer.Goals as goal
@@ -14,7 +14,7 @@ use Rattle.controller.proofs.Controller.answer.Goals as goal
 -- values that are those of a controller make its answer
 answered : (c : Controller) (v : ScanValues) → v.md ≡ md_now c.core → v.ds ≡ ds_now c.core → v.op ≡ op_of c.output →
     v.electrical ≡ electrical_of c.core.sw c.output → v.mode ≡ mode_now c.core → v.pv ≡ c.core.readings.pv →
-    reply_of (Accepted v) ≡ with_output (status_of c.core) c.core.sw c.output
+    reply_of (Ok v) ≡ with_output (status_of c.core) c.core.sw c.output
 unfolding status_of
 answered c v md ds op electrical mode pv = rw (md, ds, op, electrical, mode, pv) refl
 

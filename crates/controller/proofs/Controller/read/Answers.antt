@@ -1,25 +1,18 @@
 -- `controller::Controller::read` meets its contract.
-use mathlib.Core.Path.{◌≡◌, sym, ap, ◌∙◌}
+use mathlib.Core.Path.{refl, sym, ap, ◌∙◌}
 use mir.Syntax.{w32}
 use Rattle.integers.specs.Machine.{back}
-use Rattle.signals.specs.Refusals.{number_in}
-use Rattle.parameters.specs.Legal.{unknown_refusal}
-use Rattle.parameters.specs.Table.{rule_of}
+use Rattle.signals.specs.RefusalLaws.{handed_on}
+use Rattle.controller.specs.Answers.{reply_of_read}
 use Rattle.controller.specs.Read.{read, read_in}
-use Rattle.controller.proofs.Controller.read.Goals.{After-unknown_verdict-unknown}
 use Rattle.controller.proofs.Controller.read.Goals as goal
 
--- the refusal that the row names, by what the code found
-unknown_is : (c : After-unknown_verdict-unknown) →
-    unknown_refusal (rule_of c.args.number) ≡ number_in c.unknown_verdict-unknown.result
-unknown_is c = ap unknown_refusal (sym c.rule-rule.ensures) ∙ sym c.unknown_verdict-unknown.ensures
-
-pub returns-in-Refused : goal.returns-in-Refused
+pub returns-in_err-unknown_verdict : goal.returns-in_err-unknown_verdict
 unfolding read read_in
-returns-in-Refused c = simp (unknown_is (goal.at.returns-in-Refused c).After-unknown_verdict-unknown ∙ ap number_in c.in-Refused.is)
+returns-in_err-unknown_verdict c =
+    ap reply_of_read (handed_on _ _ c.from_residual.ensures.1) ∙ rw (← c.rule.ensures, ← c.in_err-unknown_verdict.ensures) refl
 
-pub returns-in-Accepted : goal.returns-in-Accepted
+pub returns : goal.returns
 unfolding read read_in
-returns-in-Accepted c =
-    simp (back w32 c.value.result c.value.type_inv)
-    (simp (c.value.ensures, unknown_is (goal.at.returns-in-Accepted c).After-unknown_verdict-unknown ∙ ap number_in c.in-Accepted.is))
+returns c =
+    rw (back w32 c.value.result c.value.type_inv, ← c.rule.ensures, ← c.in_ok-unknown_verdict.ensures, c.value.ensures) refl

@@ -8,33 +8,33 @@ use Rattle.controller.specs.RestartLaws.{taken, taken_legal, restarted_valid}
 use Rattle.controller.specs.Scan.{controller_after, refused, response_from}
 use Rattle.controller.proofs.Controller.restart.Goals as goal
 
-pub values_of-values-requires : goal.values_of-values-requires
-values_of-values-requires c =
+pub values_of-requires : goal.values_of-requires
+values_of-requires c =
     let e : refused_by (restart_tests c.args.image.now) ≡ none =
-    sym c.restart_verdict-verdict.ensures ∙ ap number_in c.in-Accepted.is in
+    sym c.restart_verdict-verdict.ensures ∙ ap number_in c.in-Ok.is in
     (taken c.args.image.now e).size
 
 pub restarted-controller-requires : goal.restarted-controller-requires
 restarted-controller-requires c =
     let e : refused_by (restart_tests c.args.image.now) ≡ none =
-    sym c.restart_verdict-verdict.ensures ∙ ap number_in c.in-Accepted.is in
-    simp c.values_of-values.ensures
+    sym c.restart_verdict-verdict.ensures ∙ ap number_in c.in-Ok.is in
+    simp c.values_of.ensures
     (taken_legal (values_in c.args.image.now)
     (taken c.args.image.now e).legal)
 
-pub returns-in-Refused : goal.returns-in-Refused
+pub returns-in-Err : goal.returns-in-Err
 unfolding restart restart_core response_from controller_after refused executed changed limited_to
-returns-in-Refused c =
+returns-in-Err c =
     let e : refused_by (restart_tests c.args.image.now)
-    ≡ some (number_of c.in-Refused.refusal) =
-    sym c.restart_verdict-verdict.ensures ∙ ap number_in c.in-Refused.is in
-    (simp e, c.requires)
+    ≡ some (number_of c.in-Err.field-0) =
+    sym c.restart_verdict-verdict.ensures ∙ ap number_in c.in-Err.is in
+    (simp (c.in-Err.is, e), c.requires)
 
-pub returns-in-Accepted : goal.returns-in-Accepted
+pub returns-in-Ok : goal.returns-in-Ok
 unfolding restart restart_core response_from controller_after controller_restarted restart_accepted
-returns-in-Accepted c =
+returns-in-Ok c =
     let e : refused_by (restart_tests c.args.image.now) ≡ none =
-    sym c.restart_verdict-verdict.ensures ∙ ap number_in c.in-Accepted.is in
+    sym c.restart_verdict-verdict.ensures ∙ ap number_in c.in-Ok.is in
     let args = c.args in
-    let is = simp c.values_of-values.ensures at c.restarted-controller.ensures in
-    (simp (e, is), rw is (restarted_valid args.self (values_in args.image.now) (taken args.image.now e).legal))
+    let is = simp c.values_of.ensures at c.restarted-controller.ensures in
+    (simp (c.in-Ok.is, e, is), rw is (restarted_valid args.self (values_in args.image.now) (taken args.image.now e).legal))

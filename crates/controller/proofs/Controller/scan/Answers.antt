@@ -5,35 +5,35 @@ use Rattle.signals.specs.Refusals.{number_of, number_in, refused_by, scan_tests}
 use Rattle.controller.specs.Scan.{controller_after, accepted, core_after, scan, scan_core, refused, stepped, response_from}
 use Rattle.controller.specs.ValidLaws.{sampled, stepped_valid}
 use Rattle.outputs.specs.Instruction.{executed, changed, limited_to}
-use Rattle.controller.proofs.Controller.scan.Goals.{In-Accepted, In-Refused}
+use Rattle.controller.proofs.Controller.scan.Goals.{In-Ok, In-Err}
 use Rattle.controller.proofs.Controller.scan.Goals as goal
 
 -- what an accepted verdict says
-none_refuses : (c : In-Accepted) → refused_by (scan_tests c.args.self.core.clock c.args.input) ≡ none
-none_refuses c = sym c.scan_verdict-verdict.ensures ∙ ap number_in c.in-Accepted.is
+none_refuses : (c : In-Ok) → refused_by (scan_tests c.args.self.core.clock c.args.input) ≡ none
+none_refuses c = sym c.scan_verdict-verdict.ensures ∙ ap number_in c.in-Ok.is
 
 pub stepped-controller-requires : goal.stepped-controller-requires
 stepped-controller-requires c =
     (c.requires, sampled c.args.self.core.clock c.args.input (none_refuses c))
 
-pub answer-answer-requires : goal.answer-answer-requires
-answer-answer-requires c =
+pub answer-values-requires : goal.answer-values-requires
+answer-values-requires c =
     rw c.stepped-controller.ensures
     (stepped_valid c.args.self c.args.input c.requires
-    (sampled c.args.self.core.clock c.args.input (none_refuses (goal.at.answer-answer-requires c).In-Accepted)))
+    (sampled c.args.self.core.clock c.args.input (none_refuses (goal.at.answer-values-requires c).In-Ok)))
 
-some_refuses : (c : In-Refused) → refused_by (scan_tests c.args.self.core.clock c.args.input) ≡ some (number_of c.in-Refused.refusal)
-some_refuses c = sym c.scan_verdict-verdict.ensures ∙ ap number_in c.in-Refused.is
+some_refuses : (c : In-Err) → refused_by (scan_tests c.args.self.core.clock c.args.input) ≡ some (number_of c.in-Err.refusal)
+some_refuses c = sym c.scan_verdict-verdict.ensures ∙ ap number_in c.in-Err.is
 
-pub returns-in-Refused : goal.returns-in-Refused
+pub returns-in-Err : goal.returns-in-Err
 unfolding scan scan_core response_from controller_after refused executed changed limited_to
-returns-in-Refused c = (simp (some_refuses (goal.at.returns-in-Refused c).In-Refused), c.requires)
+returns-in-Err c = (simp (some_refuses (goal.at.returns-in-Err c).In-Err), c.requires)
 
-pub returns-in-Accepted : goal.returns-in-Accepted
+pub returns-in-Ok : goal.returns-in-Ok
 unfolding scan scan_core response_from controller_after stepped accepted core_after
-returns-in-Accepted c = (
-  simp (none_refuses (goal.at.returns-in-Accepted c).In-Accepted, c.answer-answer.ensures) (simp c.stepped-controller.ensures),
+returns-in-Ok c = (
+  simp (none_refuses (goal.at.returns-in-Ok c).In-Ok, c.answer-values.ensures) (simp c.stepped-controller.ensures),
   rw c.stepped-controller.ensures
       (stepped_valid c.args.self c.args.input c.requires
-      (sampled c.args.self.core.clock c.args.input (none_refuses (goal.at.returns-in-Accepted c).In-Accepted))),
+      (sampled c.args.self.core.clock c.args.input (none_refuses (goal.at.returns-in-Ok c).In-Ok))),
 )

@@ -6,19 +6,19 @@ use Rattle.controller_calls.proofs.image.reply_to_save.Goals as goal
 pub returns-then-is_unchanged : goal.returns-then-is_unchanged
 unfolding checked_reply
 returns-then-is_unchanged c =
-    rw (c.in-Accepted.is, sym c.is_unchanged.ensures ∙ c.if-is_unchanged.true) refl
+    rw (c.in-Ok.is, sym c.is_unchanged.ensures ∙ c.if-is_unchanged.true) refl
 
 pub returns-else-is_unchanged : goal.returns-else-is_unchanged
 unfolding checked_reply
 returns-else-is_unchanged c =
-    rw (c.in-Accepted.is, sym c.is_unchanged.ensures ∙ c.if-is_unchanged.false) refl
+    rw (c.in-Ok.is, sym c.is_unchanged.ensures ∙ c.if-is_unchanged.false) refl
 
 pub returns-then-is_unchanged-2 : goal.returns-then-is_unchanged-2
 unfolding checked_reply
 returns-then-is_unchanged-2 c =
-    rw (c.in-Refused.is, sym c.is_unchanged-in-Refused.ensures ∙ c.if-is_unchanged-2.true, c.number.ensures) refl
+    rw (c.in-Err.is, sym c.is_unchanged-in-Err.ensures ∙ c.if-is_unchanged-2.true, c.from.ensures) refl
 
 pub returns-else-is_unchanged-2 : goal.returns-else-is_unchanged-2
 unfolding checked_reply
 returns-else-is_unchanged-2 c =
-    rw (c.in-Refused.is, sym c.is_unchanged-in-Refused.ensures ∙ c.if-is_unchanged-2.false) refl
+    rw (c.in-Err.is, sym c.is_unchanged-in-Err.ensures ∙ c.if-is_unchanged-2.false) refl

@@ -8,5 +8,5 @@ pub returns : goal.returns
 unfolding refusal_text
 returns c =
     let o = buffer c.args.out.now c.args.used in
-    let number = rw c.number.ensures at c.append_decimal-number.ensures in
+    let number = rw c.from.ensures at c.append_decimal-number.ensures in
     then o _ _ (then o _ _ (then o _ _ c.append_bytes-sign.ensures number) c.append_byte-blank.ensures) c.append_name.ensures

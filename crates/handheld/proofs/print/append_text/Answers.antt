@@ -2,10 +2,10 @@
 use Rattle.handheld.specs.Answers.{answer_text}
 use Rattle.handheld.proofs.print.append_text.Goals as goal
 
-pub returns-in-Reply : goal.returns-in-Reply
+pub returns-in-Ok : goal.returns-in-Ok
 unfolding answer_text
-returns-in-Reply c = rw c.in-Reply.is c.append_front.ensures
+returns-in-Ok c = rw c.in-Ok.is c.append_front.ensures
 
-pub returns-in-Refused : goal.returns-in-Refused
+pub returns-in-Err : goal.returns-in-Err
 unfolding answer_text
-returns-in-Refused c = rw c.in-Refused.is c.append_refusal.ensures
+returns-in-Err c = rw c.in-Err.is c.append_refusal.ensures

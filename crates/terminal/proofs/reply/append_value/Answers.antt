@@ -7,7 +7,7 @@ use Rattle.terminal.proofs.reply.append_value.Goals as goal
 pub returns-then-is_word : goal.returns-then-is_word
 unfolding value_text
 returns-then-is_word c =
-    let word = rw (c.magnitude.ensures, to_z-of_z c.ranges.value) at c.append_word.ensures in
+    let word = rw (c.unsigned_abs.ensures.value, to_z-of_z c.ranges.value) at c.append_word.ensures in
     simp (sym c.is_word.ensures ∙ c.if-is_word.true) word
 
 pub returns : goal.returns
