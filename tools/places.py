@@ -31,15 +31,20 @@ LINES = {
 FACT = re.compile(r"\b([A-Z]\w+|start ≤ length \w+\.now|1 ≤ number|most ≤ 18|9 ≤ length \w+\.old)\b")
 
 
+def git(*words):
+    return subprocess.run(["git", *words], cwd=ROOT, check=True, capture_output=True, text=True).stdout
+
+
+def listed_at(commit, pattern):
+    return [name for name in git("ls-tree", "-r", "--name-only", commit, "crates").split() if re.fullmatch(pattern, name)]
+
+
 def files(commit):
     """The sources by path."""
     if commit is None:
         paths = sorted(ROOT.glob("crates/*/src/**/*.rt"))
         return {str(path.relative_to(ROOT)): path.read_text() for path in paths}
-    names = subprocess.run(["git", "ls-tree", "-r", "--name-only", commit, "crates"], cwd=ROOT, check=True, capture_output=True, text=True)
-    found = [name for name in names.stdout.split() if re.fullmatch(r"crates/\w+/src/.*\.rt", name)]
-    return {name: subprocess.run(["git", "show", f"{commit}:{name}"], cwd=ROOT, check=True, capture_output=True, text=True).stdout
-            for name in found}
+    return {name: git("show", f"{commit}:{name}") for name in listed_at(commit, r"crates/\w+/src/.*\.rt")}
 
 
 def code(text):
@@ -90,9 +95,7 @@ def answers(commit):
     if commit is None:
         texts = [path.read_text() for path in ROOT.glob("crates/*/proofs/**/*.antt")]
     else:
-        listed = subprocess.run(["git", "ls-tree", "-r", "--name-only", commit, "crates"], cwd=ROOT, check=True, capture_output=True, text=True)
-        texts = [subprocess.run(["git", "show", f"{commit}:{name}"], cwd=ROOT, check=True, capture_output=True, text=True).stdout
-                 for name in listed.stdout.split() if re.fullmatch(r"crates/\w+/proofs/.*\.antt", name)]
+        texts = [git("show", f"{commit}:{name}") for name in listed_at(commit, r"crates/\w+/proofs/.*\.antt")]
     goals = sum(len(re.findall(r"^pub [\w+-]+ : goal\.", text, flags=re.M)) for text in texts)
     return len(texts), goals, sum(text.count("\n") for text in texts)
 
