@@ -1,4 +1,5 @@
 pub mod Answers
+pub mod Contents
 pub mod ImageLaws
 pub mod Read
 pub mod Restart

@@ -15,6 +15,7 @@ use outputs::History;
 use parameters::Parameters;
 use setpoints::Readings;
 use signals::Refusal;
+use std::marker::Model;
 use words::{Indications, UserBits};
 
 mod read;
@@ -46,6 +47,22 @@ pub struct Core {
 pub struct Controller {
     core: Core,
     output: i64,
+}
+
+// A contract sees the state and the output. They are always those that some list of calls leads to, so every controller
+// can take the next call.
+impl Model for Controller {
+    ghost use Rattle.controller.specs.Contents.{Contents};
+
+    ghost Value = { Contents };
+
+    ghost use Rattle.controller.specs.Valid.{Valid};
+
+    ghost view = { λ c. record { core = c.core; output = c.output } };
+
+    ghost invariant = { λ c. Valid (record { core = c.core; output = c.output }) };
+
+    ghost inverse = { λ c. record { core = c.core; output = c.output } };
 }
 
 // What a scan returns: "Each call takes the controller and hands back the next one", after a refusal too.

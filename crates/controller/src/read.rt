@@ -4,7 +4,6 @@ ghost use Rattle.parameters.specs.Legal.{Legal};
 ghost use Rattle.parameters.specs.Table.{value};
 ghost use Rattle.controller.specs.Answers.{op_of, reply_of_read};
 ghost use Rattle.controller.specs.Read.{value_in, read};
-ghost use Rattle.controller.specs.Valid.{Valid};
 
 use crate::{Controller, Core};
 use signals::Refusal;
@@ -26,7 +25,6 @@ impl Controller {
 
     // "a read answers the value": by number, MD and DS as they stand now; MP, the last of the table, for any other.
     fn value(self, number: u64) -> i32
-        requires { Valid self }
         ensures { result ≡ value_in self.core (op_of self.output) number }
     {
         let core = self.core;
@@ -49,7 +47,6 @@ impl Controller {
     // it, the only one of a read. The contract rules out a neighbour's value, a word of an earlier state, and
     // any other refusal; nothing changes, since no controller is returned.
     pub fn read(self, number: u64) -> Result<i32, Refusal>
-        requires { Valid self }
         ensures { reply_of_read result ≡ read self number }
     {
         Controller::rule(number).unknown_verdict()?;

@@ -1,19 +1,19 @@
 // Restarts: whether an image is accepted, and what it leaves.
-ghost use Rattle.std.specs.Prelude.{◌≡◌};
+ghost use Rattle.std.specs.Prelude.{◌≡◌, false, ℤ};
 ghost use Rattle.signals.specs.Refusals.{number_in, refused_by};
-ghost use Rattle.parameters.specs.Legal.{Legal};
 ghost use Rattle.controller.specs.Answers.{response_of_verdict};
-ghost use Rattle.controller.specs.Restart.{is_legal, restart_tests, repaired_settings, restored_settings};
+ghost use Rattle.controller.specs.Restart.{is_legal, is_illegal, restart_tests, repaired_settings, restored_settings};
 ghost use Rattle.controller.specs.Restart.{restarted_request, controller_restarted, restart};
 ghost use Rattle.controller.specs.Valid.{Valid};
 
-use crate::{CallResult, Controller};
+use crate::{CallResult, Controller, Core};
+use fields::FieldValues;
 use modes::Request;
 use settings::Settings;
 use signals::Refusal;
 
 // Whether all values are legal.
-fn is_legal(values: [u16; fields::FIELD_COUNT]) -> bool
+fn is_legal(values: FieldValues) -> bool
     ensures { result ≡ is_legal values }
 {
     let parameters = settings::decoding::parameters_in(values);
@@ -40,7 +40,7 @@ fn restart_verdict(image: &[u8]) -> Result<(), Refusal>
 }
 
 // What is taken under a wrong sumcheck.
-fn repaired_settings(values: [u16; fields::FIELD_COUNT]) -> Settings
+fn repaired_settings(values: FieldValues) -> Settings
     ensures { result ≡ repaired_settings values }
 {
     let decoded = settings::decoding::parameters_in(values);
@@ -55,7 +55,7 @@ fn repaired_settings(values: [u16; fields::FIELD_COUNT]) -> Settings
     }
 }
 
-fn restored_settings(values: [u16; fields::FIELD_COUNT]) -> Settings
+fn restored_settings(values: FieldValues) -> Settings
     ensures { result ≡ restored_settings values }
 {
     let right = settings::decoding::is_sum_right(values);
@@ -72,22 +72,25 @@ fn restarted_request(powerfail: bool, request: Request) -> Request
     if powerfail { Request::Manual } else { request }
 }
 
-impl Controller {
-    // The controller after an accepted restart. The contract rules out that it keeps anything of the
-    // earlier state but SW.
-    fn restarted(self, values: [u16; fields::FIELD_COUNT]) -> Controller
-        requires { Legal (restored_settings values).parameters }
-        ensures { result ≡ controller_restarted self values }
+impl Core {
+    // The controller after an accepted restart, whatever the output was. The contract rules out that it keeps anything
+    // of the earlier state but SW.
+    fn restarted(self, values: FieldValues) -> Controller
+        requires { is_illegal values ≡ false }
+        ensures { (output : ℤ) → result ≡ controller_restarted (record { core = self; output = output }) values }
     {
-        let before = self.core;
-        let s = signals::switches_of(before.sw);
+        let s = signals::switches_of(self.sw);
         let restored = restored_settings(values);
-        let parameters = restored.parameters;
-        let userbits = restored.userbits;
-        let saved = restored.request;
         let right = settings::decoding::is_sum_right(values);
-        let request = restarted_request(s.powerfail, saved);
-        let core = crate::start_core(before.sw, parameters, request, restored.fault, userbits);
+        let request = restarted_request(s.powerfail, restored.request);
+        let parameters = restored.parameters;
+        let core = crate::start_core(
+            self.sw,
+            parameters,
+            request,
+            restored.fault,
+            restored.userbits,
+        );
         let output = outputs::restarted::output_restarted(
             parameters,
             s,
@@ -96,24 +99,27 @@ impl Controller {
         );
         Controller { core, output }
     }
+}
 
+impl Controller {
     // Restarts with an image, any bytes of any number: the next controller and that it was accepted, or refusal 12,
     // 13 or 14 and the controller as it was. The contract gives the whole of both and asks nothing of the image, so
     // it rules out an image that is refused for no listed cause, a setting other than the rules give, a wrong sumcheck
     // that goes unnoticed, anything that is kept of the earlier state but SW, and a controller that the next call
     // could not take.
     pub fn restart(self, image: &[u8]) -> CallResult
-        requires { Valid self }
         ensures { (response_of_verdict result ≡ restart self image.now) × Valid result.controller }
     {
-        let verdict = restart_verdict(image);
-        let controller = match verdict {
-            Ok(()) => self.restarted(fields::decoding::values_of(image)),
-            Err(_) => self,
-        };
-        CallResult {
-            controller,
-            verdict,
+        let before = self.core;
+        match restart_verdict(image) {
+            Ok(()) => CallResult {
+                controller: before.restarted(fields::decoding::values_of(image)),
+                verdict: Ok(()),
+            },
+            Err(refusal) => CallResult {
+                controller: self,
+                verdict: Err(refusal),
+            },
         }
     }
 }

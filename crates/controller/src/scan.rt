@@ -91,7 +91,7 @@ impl Core {
 impl Controller {
     // The controller after an accepted scan.
     fn stepped(self, input: Input) -> Controller
-        requires { Valid self × SampleRange input }
+        requires { SampleRange input }
         ensures { result ≡ stepped self input }
     {
         let core = self.core;
@@ -114,7 +114,6 @@ impl Controller {
     // MD, DS, OP, electrical output, mode and PV of the present state. The contract rules out a value that is
     // another's, and the mode or PV of before the scan.
     fn answer(self) -> ScanValues
-        requires { Valid self }
         ensures { reply_of (Ok result) ≡ with_output (status_of self.core) self.core.sw self.output }
     {
         let core = self.core;
@@ -140,11 +139,9 @@ impl Controller {
     // for no listed cause, an output or a word other than the rules', and a controller that the next call
     // could not take.
     pub fn scan(self, input: Input) -> ScanResult
-        requires { Valid self }
         ensures { (response_of result ≡ scan self input) × Valid result.controller }
     {
-        let verdict = signals::scan_verdict(self.core.clock, input);
-        match verdict {
+        match signals::scan_verdict(self.core.clock, input) {
             Ok(()) => {
                 let controller = self.stepped(input);
                 let values = controller.answer();

@@ -150,7 +150,7 @@ impl Core {
 impl Controller {
     // The controller after an accepted write, by whomever.
     fn written(self, number: u64, v: i64) -> Controller
-        requires { Valid self × (refused_by (common_tests self.core number v) ≡ none) }
+        requires { refused_by (common_tests self.core number v) ≡ none }
         ensures { result ≡ controller_written self number v }
     {
         let before = self.core;
@@ -178,18 +178,18 @@ impl Controller {
     // forgets what it should do besides, one by a writer without the right, a refusal for no listed cause, and a
     // controller that the next call could not take.
     pub fn write(self, writer: Writer, number: u64, value: i32) -> CallResult
-        requires { Valid self }
         ensures { (response_of_verdict result ≡ write self writer number value) × Valid result.controller }
     {
         let v = integers::wide(value);
-        let verdict = self.core.write_verdict(writer, number, v);
-        let controller = match verdict {
-            Ok(()) => self.written(number, v),
-            Err(_) => self,
-        };
-        CallResult {
-            controller,
-            verdict,
+        match self.core.write_verdict(writer, number, v) {
+            Ok(()) => CallResult {
+                controller: self.written(number, v),
+                verdict: Ok(()),
+            },
+            Err(refusal) => CallResult {
+                controller: self,
+                verdict: Err(refusal),
+            },
         }
     }
 }

@@ -132,15 +132,14 @@ guarantee word calls rs c l =
 -- every call's `requires` holds at every controller that the calls return: it shuts no call out
 pub ready : AlwaysReady
 ready word calls rs c l =
-    let valid = valid_linked l in
     record {
       fresh_ready = λ word. tt;
-      scan_ready = λ i. valid;
-      write_ready = λ w n v. valid;
+      scan_ready = λ i. tt;
+      write_ready = λ w n v. tt;
       access_ready = λ w n. tt;
-      restart_ready = λ life image. valid;
-      read_ready = λ n. valid;
+      restart_ready = λ life image. tt;
+      read_ready = λ n. tt;
       last_reading_ready = tt;
-      save_ready = λ life buffer. valid;
-      valid = valid;
+      save_ready = λ life buffer. tt;
+      valid = valid_linked l;
     }

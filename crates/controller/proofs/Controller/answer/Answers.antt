@@ -20,12 +20,13 @@ answered c v md ds op electrical mode pv = rw (md, ds, op, electrical, mode, pv)
 
 pub returns : goal.returns
 returns c =
-    let stored = stored_back c.requires.stored in
-    answered c.args.self _
+    let stored = stored_back c.self.invariant.stored in
+    rw (← c.self.view_is)
+    (answered (record { core = c.self.inside.core; output = c.self.inside.output }) _
     c.md-md.ensures
     c.ds-ds.ensures
     (c.op_of-op.ensures.0 ∙ ap op_of stored)
-    (c.electrical_of-electrical.ensures ∙ ap (electrical_of c.args.self.core.sw) stored)
+    (c.electrical_of-electrical.ensures ∙ ap (electrical_of c.self.inside.core.sw) stored)
     c.mode-mode.ensures
     (back w32 c.narrow-pv.result c.narrow-pv.type_inv ∙ c.narrow-pv.ensures ∙
-    reading_back c.args.self.core.readings.pv c.requires.readable.pv_most)
+    reading_back c.self.inside.core.readings.pv c.self.invariant.readable.pv_most))

@@ -2,7 +2,7 @@
 use mathlib.Core.Path.{refl, sym, ap, ◌∙◌}
 use mir.Syntax.{w32}
 use Rattle.integers.specs.Machine.{back}
-use Rattle.signals.specs.RefusalLaws.{handed_on}
+use Rattle.signals.specs.RefusalLaws.{refusal_returned}
 use Rattle.controller.specs.Answers.{reply_of_read}
 use Rattle.controller.specs.Read.{read, read_in}
 use Rattle.controller.proofs.Controller.read.Goals as goal
@@ -10,7 +10,7 @@ use Rattle.controller.proofs.Controller.read.Goals as goal
 pub returns-in_err-unknown_verdict : goal.returns-in_err-unknown_verdict
 unfolding read read_in
 returns-in_err-unknown_verdict c =
-    ap reply_of_read (handed_on _ _ c.from_residual.ensures.1) ∙ rw (← c.rule.ensures, ← c.in_err-unknown_verdict.ensures) refl
+    ap reply_of_read (refusal_returned _ _ c.from_residual.ensures.1) ∙ rw (← c.rule.ensures, ← c.in_err-unknown_verdict.ensures) refl
 
 pub returns : goal.returns
 unfolding read read_in

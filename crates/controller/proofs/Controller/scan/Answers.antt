@@ -10,30 +10,23 @@ use Rattle.controller.proofs.Controller.scan.Goals as goal
 
 -- what an accepted verdict says
 none_refuses : (c : In-Ok) → refused_by (scan_tests c.args.self.core.clock c.args.input) ≡ none
-none_refuses c = sym c.scan_verdict-verdict.ensures ∙ ap number_in c.in-Ok.is
+none_refuses c = rw (← c.self.view_is) (sym c.scan_verdict.ensures ∙ ap number_in c.in-Ok.is)
 
 pub stepped-controller-requires : goal.stepped-controller-requires
-stepped-controller-requires c =
-    (c.requires, sampled c.args.self.core.clock c.args.input (none_refuses c))
-
-pub answer-values-requires : goal.answer-values-requires
-answer-values-requires c =
-    rw c.stepped-controller.ensures
-    (stepped_valid c.args.self c.args.input c.requires
-    (sampled c.args.self.core.clock c.args.input (none_refuses (goal.at.answer-values-requires c).In-Ok)))
+stepped-controller-requires c = sampled c.args.self.core.clock c.args.input (none_refuses c)
 
 some_refuses : (c : In-Err) → refused_by (scan_tests c.args.self.core.clock c.args.input) ≡ some (number_of c.in-Err.refusal)
-some_refuses c = sym c.scan_verdict-verdict.ensures ∙ ap number_in c.in-Err.is
+some_refuses c = rw (← c.self.view_is) (sym c.scan_verdict.ensures ∙ ap number_in c.in-Err.is)
 
 pub returns-in-Err : goal.returns-in-Err
 unfolding scan scan_core response_from controller_after refused executed changed limited_to
-returns-in-Err c = (simp (some_refuses (goal.at.returns-in-Err c).In-Err), c.requires)
+returns-in-Err c = (simp (some_refuses (goal.at.returns-in-Err c).In-Err), (rw (← c.self.view_is) c.self.invariant))
 
 pub returns-in-Ok : goal.returns-in-Ok
 unfolding scan scan_core response_from controller_after stepped accepted core_after
 returns-in-Ok c = (
   simp (none_refuses (goal.at.returns-in-Ok c).In-Ok, c.answer-values.ensures) (simp c.stepped-controller.ensures),
   rw c.stepped-controller.ensures
-      (stepped_valid c.args.self c.args.input c.requires
+      (stepped_valid c.args.self c.args.input (rw (← c.self.view_is) c.self.invariant)
       (sampled c.args.self.core.clock c.args.input (none_refuses (goal.at.returns-in-Ok c).In-Ok))),
 )

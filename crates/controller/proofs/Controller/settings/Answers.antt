@@ -5,4 +5,4 @@ use Rattle.controller.proofs.Controller.settings.Goals as goal
 
 pub returns : goal.returns
 unfolding settings_now settings_of
-returns c = simp (c.op_of-op.ensures.0, stored_back c.requires.stored)
+returns c = (rw (← c.self.view_is) (simp (c.op_of.ensures.0, stored_back c.self.invariant.stored)), c.self.invariant.legal)

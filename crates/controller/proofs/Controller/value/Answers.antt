@@ -16,55 +16,60 @@ use Rattle.controller.proofs.Controller.value.Goals as goal
 
 pub returns-in-24 : goal.returns-in-24
 unfolding value_in
-returns-in-24 c = simp (cast_back w32 c.md.result (omega (arith, c.md.type_inv)), c.in-24.is) (simp c.md.ensures)
+returns-in-24 c = rw (← c.self.view_is) (simp (cast_back w32 c.md.result (omega (arith, c.md.type_inv)), c.in-24.is) (simp c.md.ensures))
 
 pub returns-in-25 : goal.returns-in-25
 unfolding value_in
-returns-in-25 c = simp (cast_back w32 c.ds.result (omega (arith, c.ds.type_inv)), c.in-25.is) (simp c.ds.ensures)
+returns-in-25 c = rw (← c.self.view_is) (simp (cast_back w32 c.ds.result (omega (arith, c.ds.type_inv)), c.in-25.is) (simp c.ds.ensures))
 
 pub returns-in-26 : goal.returns-in-26
 unfolding value_in
-returns-in-26 c = simp (cast_back w32 c.args.self.core.sw (search rules), c.in-26.is)
+returns-in-26 c = rw (← c.self.view_is) (simp (cast_back w32 c.self.inside.core.sw (search rules), c.in-26.is))
 
 pub returns-in-27 : goal.returns-in-27
 unfolding value_in
-returns-in-27 c = simp c.in-27.is
+returns-in-27 c = rw (← c.self.view_is) (simp c.in-27.is)
 
 pub returns-in-28 : goal.returns-in-28
 unfolding value_in
 returns-in-28 c =
-    simp (cast_back w32 c.op_of.result (omega (arith, c.op_of.type_inv)), c.in-28.is)
-    (simp (c.op_of.ensures.0, stored_back c.requires.stored))
+    rw (← c.self.view_is)
+    (simp (cast_back w32 c.op_of.result (omega (arith, c.op_of.type_inv)), c.in-28.is)
+    (simp (c.op_of.ensures.0, stored_back c.self.invariant.stored)))
 
 pub returns-in-29 : goal.returns-in-29
 unfolding value_in
 returns-in-29 c =
-    simp (back w32 c.narrow.result c.narrow.type_inv, c.in-29.is)
+    rw (← c.self.view_is)
+    (simp (back w32 c.narrow.result c.narrow.type_inv, c.in-29.is)
     (simp c.narrow.ensures
-    (simp (reading_back c.args.self.core.readings.sp
-    c.requires.readable.sp_most)))
+    (simp (reading_back c.self.inside.core.readings.sp
+    c.self.invariant.readable.sp_most))))
 
 pub returns-in-30 : goal.returns-in-30
 unfolding value_in
 returns-in-30 c =
-    simp (back w32 c.narrow-in-30.result c.narrow-in-30.type_inv, c.in-30.is)
+    rw (← c.self.view_is)
+    (simp (back w32 c.narrow-in-30.result c.narrow-in-30.type_inv, c.in-30.is)
     (simp c.narrow-in-30.ensures
-    (simp (reading_back c.args.self.core.readings.pv
-    c.requires.readable.pv_most)))
+    (simp (reading_back c.self.inside.core.readings.pv
+    c.self.invariant.readable.pv_most))))
 
 pub returns-in-31 : goal.returns-in-31
 unfolding value_in
 returns-in-31 c =
-    simp (back w32 c.narrow-in-31.result c.narrow-in-31.type_inv, c.in-31.is)
+    rw (← c.self.view_is)
+    (simp (back w32 c.narrow-in-31.result c.narrow-in-31.type_inv, c.in-31.is)
     (simp c.narrow-in-31.ensures
-    (simp (reading_back c.args.self.core.readings.er
-    c.requires.readable.er_most)))
+    (simp (reading_back c.self.inside.core.readings.er
+    c.self.invariant.readable.er_most))))
 
 pub returns-in-1-to-23 : goal.returns-in-1-to-23
 unfolding value_in
 returns-in-1-to-23 c = let n = c.args.number in
-    simp (back w32 c.parameter.result c.parameter.type_inv, le-leb 1 n (omega arith), le-leb n 23 (omega arith))
-    (simp c.parameter.ensures)
+    rw (← c.self.view_is)
+    (simp (back w32 c.parameter.result c.parameter.type_inv, le-leb 1 n (omega arith), le-leb n 23 (omega arith))
+    (simp c.parameter.ensures))
 
 -- neither below the numbers of the parameters nor among them
 outside : (c : In_default) → is_from c.args.number 1 23 ≡ false
@@ -80,7 +85,7 @@ pub returns-in_default : goal.returns-in_default
 unfolding value_in
 returns-in_default c = let n = c.args.number in
     let r = c.in_default-1.rest in
-    simp (
+    rw (← c.self.view_is) (simp (
       back w32 c.narrow-in_default.result c.narrow-in_default.type_inv,
       outside (goal.at.returns-in_default c).In_default,
       ne_eqb n 24 r.0.0.0.0.0.0.0.1,
@@ -92,4 +97,4 @@ returns-in_default c = let n = c.args.number in
       ne_eqb n 30 r.0.1,
       ne_eqb n 31 r.1,
     )
-    (simp c.narrow-in_default.ensures (simp (reading_back c.args.self.core.readings.mp c.requires.readable.mp_most)))
+    (simp c.narrow-in_default.ensures (simp (reading_back c.self.inside.core.readings.mp c.self.invariant.readable.mp_most))))

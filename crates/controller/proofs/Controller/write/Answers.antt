@@ -16,16 +16,16 @@ use Rattle.controller.specs.Write.{write_tests, write_accepted, write_core, cont
 use Rattle.controller.specs.RightLaws.{common_passed}
 use Rattle.controller.specs.Scan.{controller_after, refused, response_from}
 use Rattle.controller.specs.WriteLaws.{written_valid}
-use Rattle.controller.proofs.Controller.write.Goals.{After-write_verdict-verdict}
+use Rattle.controller.proofs.Controller.write.Goals.{After-write_verdict}
 use Rattle.controller.proofs.Controller.write.Goals as goal
 
 -- the value that was widened is the value
-value_is : (c : After-write_verdict-verdict) → to_z w64 (of_z w64 c.wide-v.result) ≡ c.args.value
+value_is : (c : After-write_verdict) → to_z w64 (of_z w64 c.wide-v.result) ≡ c.args.value
 value_is c = back w64 c.wide-v.result c.wide-v.type_inv ∙ c.wide-v.ensures ∙ to_z-of_z {w = w32} c.ranges.value
 
-verdict_is : (c : After-write_verdict-verdict) → number_in c.write_verdict-verdict.result
+verdict_is : (c : After-write_verdict) → number_in c.write_verdict.result
     ≡ refused_by (write_tests c.args.self.core c.args.writer c.args.number c.args.value)
-verdict_is c = rw (value_is c) at c.write_verdict-verdict.ensures
+verdict_is c = rw (← c.self.view_is) (rw (value_is c) at c.write_verdict.ensures)
 
 -- what an accepted verdict says, and a refusal
 none_refuses : {v : Verdict} (ts : List (Bool × ℕ)) → number_in v ≡ refused_by ts → v ≡ Ok tt → refused_by ts ≡ none
@@ -35,25 +35,23 @@ some_refuses : {v : Verdict} (r : Refusal) (ts : List (Bool × ℕ)) → number_
     refused_by ts ≡ some (number_of r)
 some_refuses r ts e is = sym e ∙ ap number_in is
 
-pub written-controller-requires : goal.written-controller-requires
-written-controller-requires c = simp (value_is (goal.at.written-controller-requires c).After-write_verdict-verdict) (
-  c.requires,
+pub written-requires : goal.written-requires
+written-requires c = simp (value_is (goal.at.written-requires c).After-write_verdict) (
   common_passed c.args.self.core c.args.writer c.args.number c.args.value
-      (none_refuses _ (verdict_is (goal.at.written-controller-requires c).After-write_verdict-verdict) c.in-Ok.is),
-)
+      (none_refuses _ (verdict_is (goal.at.written-requires c).After-write_verdict) c.in-Ok.is))
 
 pub returns-in-Err : goal.returns-in-Err
 unfolding write write_core response_from controller_after refused executed changed limited_to
 returns-in-Err c =
-    (simp (c.in-Err.is, some_refuses _ _ (verdict_is (goal.at.returns-in-Err c).After-write_verdict-verdict) c.in-Err.is), c.requires)
+    (simp (some_refuses _ _ (verdict_is (goal.at.returns-in-Err c).After-write_verdict) c.in-Err.is), (rw (← c.self.view_is) c.self.invariant))
 
 pub returns-in-Ok : goal.returns-in-Ok
 unfolding write write_core response_from controller_after controller_written write_accepted
 returns-in-Ok c =
-    let passed = none_refuses _ (verdict_is (goal.at.returns-in-Ok c).After-write_verdict-verdict) c.in-Ok.is in
-    let is = simp (value_is (goal.at.returns-in-Ok c).After-write_verdict-verdict) at c.written-controller.ensures in (
-      simp (c.in-Ok.is, passed, is),
+    let passed = none_refuses _ (verdict_is (goal.at.returns-in-Ok c).After-write_verdict) c.in-Ok.is in
+    let is = simp (value_is (goal.at.returns-in-Ok c).After-write_verdict) at c.written.ensures in (
+      simp (passed, is),
       rw is
-          (written_valid c.args.self c.args.number c.args.value c.requires
+          (written_valid c.args.self c.args.number c.args.value (rw (← c.self.view_is) c.self.invariant)
           (common_passed c.args.self.core c.args.writer c.args.number c.args.value passed)),
     )
