@@ -1,2 +1,1 @@
 pub mod Calculations
-pub mod Ranges

@@ -6,9 +6,9 @@ ghost use Rattle.text.specs.Hexadecimal.{count_in, bytes_in};
 ghost use Rattle.commands.specs.Commands.{named_command, restart_image, restart_of, command_in, bytes_after};
 
 use answers::ScanValues;
+use formatting::Text;
 use rights::Writer;
 use signals::Input;
-use text::hexadecimal::Count;
 
 mod numbers;
 mod scan_call;
@@ -57,66 +57,64 @@ pub enum Command {
     Sheet(SheetCall),
     // a line of the arithmetic, which is answered with this number
     Calculated(i64),
-    Invalid,
 }
 
 // A command that brings no bytes, by its name and what stands behind the name. The contract rules out the command of
 // another name.
-fn of_name(word: &[u8], call: &[u8], start: usize) -> Command
+#[tactic(auto, unfolding(crate::specs::Commands::named_command), using(text::specs::Words::same_pointwise))]
+fn of_name(word: &[u8], call: &[u8], start: usize) -> Option<Command>
     requires { start ≤ length call.now }
     ensures { result ≡ named_command word.now call.now start }
 {
-    if text::same(word, b"scan") {
+    if word == b"scan".as_slice() {
         return crate::scan_call::scan(call, start);
     }
-    if text::same(word, b"sheet-feed") {
+    if word == b"sheet-feed".as_slice() {
         return crate::sheet_call::feed(call, start);
     }
-    if text::same(word, b"write") {
+    if word == b"write".as_slice() {
         return crate::write_call::write(call, start);
     }
-    if text::same(word, b"access") {
+    if word == b"access".as_slice() {
         return crate::write_call::access(call, start);
     }
-    crate::numbers::of_numbers(word, text::arguments::parse(call, start))
+    let numbers = text::arguments::parse(call, start)?;
+    crate::numbers::of_numbers(word, numbers.as_slice())
 }
 
 // restart HEX, or - for no bytes: one argument, which is no number. The contract gives every byte of the buffer, so it
 // rules out other bytes than the line has.
-fn restart(line: &[u8], start: usize, bytes: &mut [u8]) -> Command
+#[tactic(auto, unfolding(crate::specs::Commands::restart_image))]
+fn restart(line: &[u8], start: usize, bytes: &mut [u8]) -> Option<Command>
     requires { start ≤ length line.now }
-    ensures { (result ≡ restart_of (count_in (restart_image line.now start) (length bytes.old)))
-        × (bytes.new ≡ bytes_in (restart_image line.now start) bytes.old) }
+    ensures command { result ≡ restart_of (count_in (restart_image line.now start) (length bytes.old)) }
+    ensures bytes_after { bytes.new ≡ bytes_in (restart_image line.now start) bytes.old }
 {
-    let w = text::only_word(line, start);
-    let from = w.from;
-    let to = w.to;
-    let count = text::hexadecimal::parse(&line[from..to], bytes);
-    match count {
-        Count::Bytes(n) => Command::Call(Call::Restart(n)),
-        Count::Malformed => Command::Invalid,
-    }
+    let word = text::only_word(line, start);
+    let count = text::hexadecimal::parse(&line[word.from..word.to], bytes)?;
+    Some(Command::Call(Call::Restart(count)))
 }
 
-// What a line asks, with a buffer for the bytes of a restart or of a terminal's line. A line that fills its whole
-// buffer is too long. The contract gives the command and every byte of the buffer, so it rules out a command that is
-// taken for another or for none.
-pub fn parse(line: &[u8], len: usize, bytes: &mut [u8]) -> Command
-    ensures { (result ≡ command_in line.now len (length bytes.old))
-        × (bytes.new ≡ bytes_after line.now len bytes.old) }
+// What a line asks, with a buffer for the bytes of a restart or of a terminal's line; `None` where it is no command. A
+// line that fills its text is too long. The contract gives the command and every byte of the buffer, so it
+// rules out a command that is taken for another or for none.
+#[tactic(auto, unfolding(crate::specs::Commands::command_in, crate::specs::Commands::bytes_after,
+    crate::specs::Commands::command_of, crate::specs::Commands::command_bytes), using(text::specs::Words::same_pointwise))]
+pub fn parse<const N: usize>(line: &Text<N>, bytes: &mut [u8]) -> Option<Command>
+    ensures command { result ≡ command_in line.now (length bytes.old) }
+    ensures bytes_after { bytes.new ≡ bytes_after line.now bytes.old }
 {
-    if line.len() <= len {
-        return Command::Invalid;
+    if line.is_full() {
+        return None;
     }
-    let call = &line[0..len];
-    let w = text::word(call, 0);
-    let from = w.from;
-    let to = w.to;
-    if text::same(&call[from..to], b"restart") {
-        return restart(call, to, bytes);
+    let call = line.as_slice();
+    let span = text::word(call, 0);
+    let word = &call[span.from..span.to];
+    if word == b"restart".as_slice() {
+        return restart(call, span.to, bytes);
     }
-    if text::same(&call[from..to], b"line") {
-        return crate::terminal_line::parse(call, to, bytes);
+    if word == b"line".as_slice() {
+        return crate::terminal_line::parse(call, span.to, bytes);
     }
-    of_name(&call[from..to], call, to)
+    of_name(word, call, span.to)
 }

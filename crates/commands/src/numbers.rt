@@ -1,57 +1,77 @@
 // Commands whose arguments are numbers.
 ghost use Rattle.std.specs.Prelude.{◌≡◌};
-ghost use Rattle.commands.specs.Commands.{parameter_number, fresh_command, save_command, numbers_command};
+ghost use Rattle.commands.specs.Commands.{parameter_number, alone, read_command, fresh_command, save_command, numbers_command};
 
 use crate::{Call, Command};
-use text::arguments::Arguments;
+use text::arguments::natural_in;
 
-// fresh SW. This contract and those below rule out another command than the line has, an argument of another place,
-// and one in range that is refused.
-fn fresh(values: [i64; 6]) -> Command
-    ensures { result ≡ fresh_command values }
+// A command without arguments. The contract rules out one that is taken with a number behind it.
+#[tactic(auto, unfolding(crate::specs::Commands::alone))]
+pub fn alone(command: Command, numbers: &[i64]) -> Option<Command>
+    ensures { result ≡ alone command numbers.now }
 {
-    let sw = text::arguments::natural_in(values[0], 0, 65535);
-    if sw.ok {
-        return Command::Call(Call::Fresh(sw.value as u16));
-    }
-    Command::Invalid
+    if numbers.is_empty() { Some(command) } else { None }
 }
 
 // The number of a parameter, as a line has it: one below zero is no parameter's, and 0 stands for it.
 pub fn number_in(value: i64) -> u64
     ensures { result ≡ parameter_number value }
 {
-    let size = integers::magnitude(value);
-    if integers::negative(value) { 0 } else { size }
+    u64::try_from(value).unwrap_or(0)
+}
+
+// read NUMBER. This contract and those below rule out another command than the line has, an argument of another place,
+// one in range that is refused, and a number too few or too many.
+#[tactic(auto, unfolding(crate::specs::Commands::read_command))]
+fn read(numbers: &[i64]) -> Option<Command>
+    ensures { result ≡ read_command numbers.now }
+{
+    let &[number] = numbers else {
+        return None;
+    };
+    Some(Command::Call(Call::Read(number_in(number))))
+}
+
+// fresh SW
+#[tactic(auto, unfolding(crate::specs::Commands::fresh_command))]
+fn fresh(numbers: &[i64]) -> Option<Command>
+    ensures { result ≡ fresh_command numbers.now }
+{
+    let &[sw] = numbers else {
+        return None;
+    };
+    let sw = natural_in(sw, 0, 65535)?;
+    Some(Command::Call(Call::Fresh(sw as u16)))
 }
 
 // save LENGTH
-fn save(values: [i64; 6]) -> Command
-    ensures { result ≡ save_command values }
+#[tactic(auto, unfolding(crate::specs::Commands::save_command))]
+fn save(numbers: &[i64]) -> Option<Command>
+    ensures { result ≡ save_command numbers.now }
 {
-    let size = text::arguments::natural_in(values[0], 0, 300);
-    if size.ok {
-        return Command::Call(Call::Save(size.value as usize));
-    }
-    Command::Invalid
+    let &[size] = numbers else {
+        return None;
+    };
+    let size = natural_in(size, 0, 300)?;
+    Some(Command::Call(Call::Save(size as usize)))
 }
 
 // A command whose arguments are numbers. The contract rules out the command of another name.
-pub fn of_numbers(word: &[u8], a: Arguments) -> Command
-    ensures { result ≡ numbers_command word.now a }
+#[tactic(auto, unfolding(crate::specs::Commands::numbers_command), using(text::specs::Words::same_pointwise))]
+pub fn of_numbers(word: &[u8], numbers: &[i64]) -> Option<Command>
+    ensures { result ≡ numbers_command word.now numbers.now }
 {
-    let values = a.values;
-    if text::arguments::is_call(word, b"read", a, 1) {
-        return Command::Call(Call::Read(number_in(values[0])));
+    if word == b"read".as_slice() {
+        return read(numbers);
     }
-    if text::arguments::is_call(word, b"fresh", a, 1) {
-        return fresh(values);
+    if word == b"fresh".as_slice() {
+        return fresh(numbers);
     }
-    if text::arguments::is_call(word, b"save", a, 1) {
-        return save(values);
+    if word == b"save".as_slice() {
+        return save(numbers);
     }
-    if text::arguments::is_call(word, b"clock", a, 0) {
-        return Command::Call(Call::Clock);
+    if word == b"clock".as_slice() {
+        return alone(Command::Call(Call::Clock), numbers);
     }
-    crate::sheet_call::of_word(word, a)
+    crate::sheet_call::of_word(word, numbers)
 }

@@ -2,64 +2,61 @@
 ghost use Rattle.std.specs.Prelude.{◌≡◌, ◌≤◌, length};
 ghost use Rattle.commands.specs.Commands.{sheet_number_command, sheet_command, feed_command, calculation_command};
 
+use crate::numbers::alone;
 use crate::{Command, SheetCall};
-use arithmetic_lines::Calculation;
-use sheet_lines::answer::ParsedAnswer;
-use text::arguments::Arguments;
+use text::arguments::natural_in;
 
-// sheet-number PLACE VALUE. The contract rules out a place that no number of a sheet has, and the two exchanged.
-fn number(values: [i64; 6]) -> Command
-    ensures { result ≡ sheet_number_command values }
+// sheet-number PLACE VALUE. The contract rules out a place that no number of a sheet has, the two exchanged, and a
+// number too few or too many.
+#[tactic(auto, unfolding(crate::specs::Commands::sheet_number_command))]
+fn number(numbers: &[i64]) -> Option<Command>
+    ensures { result ≡ sheet_number_command numbers.now }
 {
-    let place = text::arguments::natural_in(values[0], 0, 15);
-    if place.ok {
-        return Command::Sheet(SheetCall::Number(place.value as usize, values[1]));
-    }
-    Command::Invalid
+    let &[place, value] = numbers else {
+        return None;
+    };
+    let place = natural_in(place, 0, 15)?;
+    Some(Command::Sheet(SheetCall::Number(place as usize, value)))
 }
 
 // A line of the arithmetic. The contract rules out another number than the arithmetic gives.
-fn of_calculation(calculation: Calculation) -> Command
-    ensures { result ≡ calculation_command calculation }
+fn calculation(word: &[u8], numbers: &[i64]) -> Option<Command>
+    ensures { result ≡ calculation_command word.now numbers.now }
 {
-    match calculation {
-        Calculation::Number(number) => Command::Calculated(number),
-        Calculation::NoCall => Command::Invalid,
-    }
+    let number = arithmetic_lines::of_call(word, numbers)?;
+    Some(Command::Calculated(number))
 }
 
 // A command of the sheet whose arguments are numbers, or a line of the arithmetic. The contract rules out the command
 // of another word, and one with a number too few or too many.
-pub fn of_word(word: &[u8], a: Arguments) -> Command
-    ensures { result ≡ sheet_command word.now a }
+#[tactic(auto, unfolding(crate::specs::Commands::sheet_command), using(text::specs::Words::same_pointwise))]
+pub fn of_word(word: &[u8], numbers: &[i64]) -> Option<Command>
+    ensures { result ≡ sheet_command word.now numbers.now }
 {
-    let values = a.values;
-    if text::arguments::is_call(word, b"sheet-new", a, 0) {
-        return Command::Sheet(SheetCall::New);
+    if word == b"sheet-new".as_slice() {
+        return alone(Command::Sheet(SheetCall::New), numbers);
     }
-    if text::arguments::is_call(word, b"sheet-last", a, 0) {
-        return Command::Sheet(SheetCall::Last);
+    if word == b"sheet-last".as_slice() {
+        return alone(Command::Sheet(SheetCall::Last), numbers);
     }
-    if text::arguments::is_call(word, b"sheet", a, 0) {
-        return Command::Sheet(SheetCall::Read);
+    if word == b"sheet".as_slice() {
+        return alone(Command::Sheet(SheetCall::Read), numbers);
     }
-    if text::arguments::is_call(word, b"sheet-kept", a, 0) {
-        return Command::Sheet(SheetCall::Kept);
+    if word == b"sheet-kept".as_slice() {
+        return alone(Command::Sheet(SheetCall::Kept), numbers);
     }
-    if text::arguments::is_call(word, b"sheet-number", a, 2) {
-        return number(values);
+    if word == b"sheet-number".as_slice() {
+        return number(numbers);
     }
-    of_calculation(arithmetic_lines::of_call(word, a))
+    calculation(word, numbers)
 }
 
 // sheet-feed MODE PV DS OP. The contract rules out another answer than the line has.
-pub fn feed(line: &[u8], start: usize) -> Command
+#[tactic(auto, unfolding(crate::specs::Commands::feed_command))]
+pub fn feed(line: &[u8], start: usize) -> Option<Command>
     requires { start ≤ length line.now }
     ensures { result ≡ feed_command line.now start }
 {
-    let answer = sheet_lines::answer::parse(line, start);
-    match answer {
-        ParsedAnswer::Answer(values) => Command::Sheet(SheetCall::Feed(values)),
-        ParsedAnswer::Malformed => Command::Invalid,
-    }
+    let values = sheet_lines::answer::parse(line, start)?;
+    Some(Command::Sheet(SheetCall::Feed(values)))
 }

@@ -1,74 +1,56 @@
 // What a line asks of a writer's right: a write by this writer, or whether one may be made.
 ghost use Rattle.std.specs.Prelude.{◌≡◌, ◌≤◌, length};
-ghost use Rattle.commands.specs.Commands.{write_of, write_by, write_command, access_by, access_command};
+ghost use Rattle.commands.specs.Commands.{write_of, write_command, access_of, access_command};
 
+use crate::numbers::number_in;
 use crate::{Call, Command};
 use rights::Writer;
-use text::arguments::Arguments;
-use writer_lines::ParsedWriter;
+use text::arguments;
 
-// With a NUMBER and a VALUE: a value that 32 bits don't hold is no call.
-fn write_of(writer: Writer, values: [i64; 6]) -> Command
-    ensures { result ≡ write_of writer values }
+// With a NUMBER and a VALUE: a value that 32 bits don't hold is no call. The contract rules out a write with a number
+// too few or too many.
+#[tactic(auto, unfolding(crate::specs::Commands::write_of))]
+fn write_of(writer: Writer, numbers: &[i64]) -> Option<Command>
+    ensures { result ≡ write_of writer numbers.now }
 {
-    let number = crate::numbers::number_in(values[0]);
-    let v = text::arguments::integer_in(values[1]);
-    if v.ok {
-        return Command::Call(Call::Write(writer, number, v.value));
-    }
-    Command::Invalid
+    let &[number, value] = numbers else {
+        return None;
+    };
+    let value = arguments::integer_in(value)?;
+    Some(Command::Call(Call::Write(writer, number_in(number), value)))
 }
 
-// The contract rules out a write by nobody, and one with a number too few or too many.
-fn write_by(writer: ParsedWriter, a: Arguments) -> Command
-    ensures { result ≡ write_by writer a }
+// With a NUMBER. The contract rules out a question with no number or with two.
+#[tactic(auto, unfolding(crate::specs::Commands::access_of))]
+fn access_of(writer: Writer, numbers: &[i64]) -> Option<Command>
+    ensures { result ≡ access_of writer numbers.now }
 {
-    match writer {
-        ParsedWriter::Writer(w) => {
-            let values = a.values;
-            if text::arguments::has(a, 2) {
-                write_of(w, values)
-            } else {
-                Command::Invalid
-            }
-        }
-        ParsedWriter::Malformed => Command::Invalid,
-    }
+    let &[number] = numbers else {
+        return None;
+    };
+    Some(Command::Call(Call::Access(writer, number_in(number))))
 }
 
-// write WRITER NUMBER VALUE. The contract rules out a write by another writer than the line has, and other numbers.
-pub fn write(line: &[u8], start: usize) -> Command
+// write WRITER NUMBER VALUE. The contract rules out a write by nobody, by another writer than the line has, and other
+// numbers.
+#[tactic(auto, unfolding(crate::specs::Commands::write_command))]
+pub fn write(line: &[u8], start: usize) -> Option<Command>
     requires { start ≤ length line.now }
     ensures { result ≡ write_command line.now start }
 {
-    let writer = crate::writer::parse(line, start);
-    let behind = text::after_words(line, start, 1);
-    write_by(writer, text::arguments::parse(line, behind))
+    let writer = crate::writer::parse(line, start)?;
+    let numbers = arguments::parse(line, text::after_words(line, start, 1))?;
+    write_of(writer, numbers.as_slice())
 }
 
-// The contract rules out a question about nobody, and one with no number or with two.
-fn access_by(writer: ParsedWriter, a: Arguments) -> Command
-    ensures { result ≡ access_by writer a }
-{
-    match writer {
-        ParsedWriter::Writer(w) => {
-            let values = a.values;
-            if text::arguments::has(a, 1) {
-                Command::Call(Call::Access(w, crate::numbers::number_in(values[0])))
-            } else {
-                Command::Invalid
-            }
-        }
-        ParsedWriter::Malformed => Command::Invalid,
-    }
-}
-
-// access WRITER NUMBER. The contract rules out a question about another writer than the line has, and another number.
-pub fn access(line: &[u8], start: usize) -> Command
+// access WRITER NUMBER. The contract rules out a question about nobody, about another writer than the line has, and
+// another number.
+#[tactic(auto, unfolding(crate::specs::Commands::access_command))]
+pub fn access(line: &[u8], start: usize) -> Option<Command>
     requires { start ≤ length line.now }
     ensures { result ≡ access_command line.now start }
 {
-    let writer = crate::writer::parse(line, start);
-    let behind = text::after_words(line, start, 1);
-    access_by(writer, text::arguments::parse(line, behind))
+    let writer = crate::writer::parse(line, start)?;
+    let numbers = arguments::parse(line, text::after_words(line, start, 1))?;
+    access_of(writer, numbers.as_slice())
 }

@@ -1,5 +1,5 @@
 -- What a run of the console holds from line to line, and what each command does to it.
-use Rattle.std.specs.Prelude.{List, ℕ}
+use Rattle.std.specs.Prelude.{List, ℕ, Option, Some, None}
 use Rattle.controller.specs.State.{fresh_controller}
 use Rattle.controller.specs.Valid as controller
 use Rattle.commands.specs.declared.Command.{Command}
@@ -41,15 +41,15 @@ after_sheet_call s step = record { session = record { controller = s.controller;
 -- ---- every command
 
 -- the next session and the reply, with the buffer that holds a restart's bytes or a terminal's line
-unfoldable pub session_step : Session → Command → List ℕ → SessionStep
-session_step s (command.Call call) bytes = after_call s (performed s.controller call bytes)
-session_step s (command.Sheet call) bytes = after_sheet_call s (sheet_step s.sheet call)
-session_step s (command.Calculated number) bytes = staying s (Number number)
-session_step s command.Invalid bytes = staying s Error
+unfoldable pub session_step : Session → Option Command → List ℕ → SessionStep
+session_step s (Some (command.Call call)) bytes = after_call s (performed s.controller call bytes)
+session_step s (Some (command.Sheet call)) bytes = after_sheet_call s (sheet_step s.sheet call)
+session_step s (Some (command.Calculated number)) bytes = staying s (Number number)
+session_step s None bytes = staying s Error
 
 -- the buffer afterwards
-unfoldable pub session_buffer : Session → Command → List ℕ → List ℕ
-session_buffer s (command.Call call) bytes = buffer_after s.controller call bytes
-session_buffer s (command.Sheet call) bytes = bytes
-session_buffer s (command.Calculated number) bytes = bytes
-session_buffer s command.Invalid bytes = bytes
+unfoldable pub session_buffer : Session → Option Command → List ℕ → List ℕ
+session_buffer s (Some (command.Call call)) bytes = buffer_after s.controller call bytes
+session_buffer s (Some (command.Sheet call)) bytes = bytes
+session_buffer s (Some (command.Calculated number)) bytes = bytes
+session_buffer s None bytes = bytes

@@ -24,89 +24,39 @@
 // SW 0, an empty sheet, and all numbers of a kept one 0.
 #![tactic(auto)]
 
-ghost use Rattle.std.specs.Prelude.{◌≡◌, length};
 ghost use Rattle.console.specs.Lines.{Performed};
 ghost use Rattle.console.specs.Sessions.{ValidSession};
 
+use formatting::Text;
+use lines::answering::LineSession;
 use session::Session;
-use std::io::{Read, Write};
+use std::io::Write;
 
 mod session;
 
-// The session after a line, and how much of the output is used.
-#[derive(Clone, Copy)]
-struct Answered {
-    session: Session,
-    used: usize,
-}
+impl<const L: usize, const N: usize> LineSession<L, N> for Session {
+    ghost valid = { ValidSession };
 
-// Performs the command of a line and appends its reply. The contract rules out another command than the line has, a
-// session other than the one that it leaves, any bytes but the line of its reply, and a line that is cut in an output
-// of 65,536 bytes.
-fn line_answer<W: Write>(
-    writer: &mut W,
-    session: Session,
-    line: &[u8],
-    len: usize,
-    out: &mut [u8],
-    used: usize,
-) -> Answered
-    requires { ValidSession session }
-    ensures { ValidSession result.session
-        × Performed session result.session line.now len out.old out.new used result.used }
-{
-    let free = lines::room(writer, out, used);
-    let mut buffer = controller_calls::buffer();
-    let command = commands::parse(line, len, &mut buffer);
-    let step = session::perform(session, command, &mut buffer);
-    let next = step.session;
-    let reply = step.reply;
-    let held = next.sheet;
-    let sheet = held.sheet;
-    Answered {
-        session: next,
-        used: replies::append_reply(out, free, reply, &buffer, sheet),
+    // Performs the command of a line and appends its reply. The contract rules out another command than the line has, a
+    // session other than the one that it leaves, any bytes but the line of its reply, and a line that is cut in an
+    // output of 65,536 bytes.
+    fn answer<W: Write>(&mut self, writer: &mut W, line: &Text<L>, out: &mut Text<N>)
+        requires { ValidSession self.old }
+        ensures valid { ValidSession self.new }
+        ensures performed { Performed self.old self.new line.now out.old out.new }
+    {
+        lines::room(writer, out);
+        let mut buffer = controller_calls::buffer();
+        let command = commands::parse(line, &mut buffer);
+        let step = session::perform(*self, command, &mut buffer);
+        *self = step.session;
+        replies::append_reply(out, step.reply, &buffer, self.sheet.sheet);
     }
-}
-
-// Answers one line after another to the end of the input. A proved loop must end, so the lines are counted down from a
-// number that no run uses up.
-fn run<R: Read, W: Write>(
-    reader: &mut R,
-    writer: &mut W,
-    input: &mut [u8],
-    line: &mut [u8],
-    out: &mut [u8],
-) -> usize {
-    let mut session = session::first();
-    let mut place = lines::start();
-    let mut turns = u64::MAX;
-    while turns > 0 {
-        place = lines::next_line(reader, writer, input, line, out, place);
-        if !place.complete {
-            return place.used;
-        }
-        let answered = line_answer(writer, session, line, place.len, out, place.used);
-        session = answered.session;
-        place.used = answered.used;
-        turns -= 1;
-    }
-    place.used
-}
-
-// A line of up to 700 bytes, and one byte more to tell that a line is longer.
-fn line_buffer() -> [u8; 701]
-    ensures { 701 ≡ length result }
-{
-    [0; 701]
 }
 
 fn main(rt: HostRuntime) {
-    let mut reader = rt.stdin();
-    let mut writer = rt.stdout();
-    let mut input = [0u8; 65536];
-    let mut line = line_buffer();
-    let mut out = [0u8; 65536];
-    let used = run(&mut reader, &mut writer, &mut input, &mut line, &mut out);
-    lines::flush(&mut writer, &out, used);
+    // a line of up to 700 bytes, and one byte more to tell that a line is longer
+    let mut line = Text::<701>::new();
+    let mut session = session::first();
+    lines::answering::answer_lines(&mut rt.stdin(), &mut rt.stdout(), &mut session, &mut line);
 }

@@ -70,27 +70,27 @@ fn perform_sheet_call(session: Session, call: SheetCall) -> SessionStep
     }
 }
 
-// Performs a command, with the buffer that holds a restart's bytes and takes a saved image. The contract gives the next
+// Performs a command, or answers that there is none, with the buffer that holds a restart's bytes and takes a saved image. The contract gives the next
 // session, the reply and every byte of the buffer, so it rules out a command that is taken for another, and a session
 // that isn't handed on; and one that the next command could not take.
-pub fn perform(session: Session, command: Command, buffer: &mut [u8]) -> SessionStep
+pub fn perform(session: Session, command: Option<Command>, buffer: &mut [u8]) -> SessionStep
     requires { ValidSession session }
     ensures { (result ≡ session_step session command buffer.old)
         × (buffer.new ≡ session_buffer session command buffer.old)
         × ValidSession result.session }
 {
     match command {
-        Command::Call(call) => {
+        Some(Command::Call(call)) => {
             let controller = session.controller;
             let step = controller_calls::perform(controller, call, buffer);
             after_call(session, step)
         }
-        Command::Sheet(call) => perform_sheet_call(session, call),
-        Command::Calculated(number) => SessionStep {
+        Some(Command::Sheet(call)) => perform_sheet_call(session, call),
+        Some(Command::Calculated(number)) => SessionStep {
             session,
             reply: Reply::Number(number),
         },
-        Command::Invalid => SessionStep {
+        None => SessionStep {
             session,
             reply: Reply::Error,
         },

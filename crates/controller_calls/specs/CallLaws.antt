@@ -1,14 +1,14 @@
 -- Laws of the calls: the next controller is valid, a save changes no byte that isn't the image's, and a terminal's line
 -- none that isn't the reply's.
-use Rattle.std.specs.Prelude.{Bool, ◌&&◌, cond, ◌≡◌, ℕ, zero, suc, ◌+◌, ◌≤◌, ◌<◌, eqb, leb, ℤ, take, drop, get_or, replicate, Err, Ok}
+use Rattle.std.specs.Prelude.{Bool, ◌&&◌, cond, ◌≡◌, ℕ, zero, suc, ◌≤◌, ◌<◌, eqb, leb, ℤ, take, drop, replicate, Err, Ok}
 use Rattle.std.proofs.Math.Bool.{true, false}
 use mathlib.Core.List.{List, [], ◌∷◌, ◌++◌, append_assoc}
 use Rattle.std.proofs.Math.Option.{Option, some, none}
 use Rattle.std.proofs.Math.Path.{refl}
-use Rattle.std.proofs.Common.{add-one, drop_of_length-le, eq-eqb, ne_eqb, le-leb, leb-true, ltb-true, ltb-false}
+use Rattle.std.proofs.Common.{le-leb, leb-true, ltb-true, ltb-false}
 use Rattle.std.proofs.Math.Dec.{ltb}
 use Rattle.std.proofs.Math.ListN.{length}
-use Rattle.std.proofs.Math.Seq.{drop_at, drop-cons}
+use Rattle.std.proofs.Math.Seq.{drop_at}
 use Rattle.std.proofs.lemmas.Bool.{lt-leb}
 use Rattle.integers.specs.Choice.{by_cases, both}
 use Rattle.signals.specs.Refusals.{number_of, refused_by, Verdict}
@@ -28,8 +28,7 @@ use Rattle.terminal.specs.Commands.{command_in}
 use Rattle.terminal.specs.Terminal.{reply_text, present_value, replied, wrote_or, read_to, written_to, answered_to, answered}
 use Rattle.terminal.specs.Terminal.{refused_line, LineOutcome}
 use Rattle.terminal.specs.TerminalLaws.{valid_line}
-use Rattle.terminal.specs.declared.command.Command as terminal
-use Rattle.terminal.specs.declared.command.Command.TheVariants as command
+use Rattle.terminal.specs.Commands as command
 use Rattle.controller_calls.specs.Calls.{is_filled, step_of, unchanged_with, performed, checked_reply, save_reply}
 use Rattle.controller_calls.specs.Calls.{filled, terminal_fits, terminal_reply, terminal_step, checked_terminal}
 use Rattle.replies.specs.declared.Reply.TheVariants.{Image, Refused, Error}
@@ -90,20 +89,6 @@ filled_take (suc n) (x ∷ xs) e = go (eqb x 0xA5) e (filled_take n xs)
     go : (t : Bool) → t && is_filled xs ≡ true → (is_filled xs ≡ true → is_filled (take n xs) ≡ true) → t && is_filled (take n xs) ≡ true
     go true p r = r p
     go false p r = p
-
--- a search for a byte that isn't filled
-module _ (bytes : List ℕ) (i : ℕ) where
-  pub filled_more : i < length bytes → get_or bytes i 0 ≡ 0xA5 → is_filled (drop (i + 1) bytes) ≡ is_filled (drop i bytes)
-  unfolding is_filled
-  filled_more h e = rw (add-one, drop-cons bytes i 0 h) (simp (eq-eqb (get_or bytes i 0) 0xA5 e))
-
-  pub filled_fails : i < length bytes → (get_or bytes i 0 ≡ 0xA5 → ⊥) → is_filled (drop i bytes) ≡ false
-  unfolding is_filled
-  filled_fails h d = rw (drop-cons bytes i 0 h) (simp (ne_eqb (get_or bytes i 0) 0xA5 d))
-
-  pub filled_ends : length bytes ≤ i → is_filled (drop i bytes) ≡ true
-  unfolding is_filled
-  filled_ends h = rw (drop_of_length-le bytes {i = i} h)
 
 -- ---- a save
 
@@ -179,7 +164,7 @@ module _ (part rest : List ℕ) (p : is_filled part ≡ true) (r : is_filled res
     unchanged_wrote none n v = unchanged_replied (write c w n v).next n
     unchanged_wrote (some k) n v = unchanged_refused c k
 
-    unchanged_to : (asked : terminal.Command) → Unchanged (answered_to c w part asked)
+    unchanged_to : (asked : command.Command) → Unchanged (answered_to c w part asked)
     unfolding answered_to read_to written_to
     unchanged_to command.NoMnemonic = unchanged_refused c 17
     unchanged_to command.NoValue = unchanged_refused c 18

@@ -1,6 +1,7 @@
 -- What the console does with each call of the controller, by the controller's own definitions: the next controller, the
 -- reply, and the buffer.
-use Rattle.std.specs.Prelude.{Bool, true, ◌&&◌, List, [], ◌∷◌, ◌++◌, ℕ, eqb, leb, length, take, drop, replicate, if◌then◌else◌, Err, Ok}
+use Rattle.std.specs.List.{list_all}
+use Rattle.std.specs.Prelude.{Bool, ◌&&◌, List, ◌++◌, ℕ, eqb, leb, length, take, drop, replicate, if◌then◌else◌, Err, Ok}
 use Rattle.std.proofs.Math.Option.{Option, some, none}
 use Rattle.signals.specs.Refusals.{number_of, refused_by, Verdict}
 use Rattle.fields.specs.Fields.{save_tests, saved_in}
@@ -47,8 +48,7 @@ access_reply c w n = reply_by (refused_by (access_now c.core w n))
 
 -- whether every byte is 0xA5, to which the buffer is filled before a call writes into it
 unfoldable pub is_filled : List ℕ → Bool
-is_filled [] = true
-is_filled (b ∷ bs) = eqb b 0xA5 && is_filled bs
+is_filled bytes = list_all (λ b. eqb b 0xA5) bytes
 
 -- a buffer of this length, filled
 abbrev pub filled : List ℕ → List ℕ

@@ -9,23 +9,13 @@ const FILL: u8 = 0xA5;
 pub fn fill(buffer: &mut [u8])
     ensures { buffer.new ≡ filled buffer.old }
 {
-    let mut i = 0;
-    while i < buffer.len() {
-        buffer[i] = FILL;
-        i += 1;
-    }
+    buffer.fill(FILL);
 }
 
 // Whether the bytes of the buffer from a position on are as they were filled.
+#[tactic(auto, unfolding(crate::specs::Calls::is_filled))]
 pub fn is_unchanged(buffer: &[u8], from: usize) -> bool
     ensures { result ≡ is_filled (drop from buffer.now) }
 {
-    let mut i = from;
-    while i < buffer.len() {
-        if buffer[i] != FILL {
-            return false;
-        }
-        i += 1;
-    }
-    true
+    buffer.iter().skip(from).all(|byte| *byte == FILL)
 }

@@ -6,6 +6,7 @@ ghost use Rattle.controller_calls.specs.Calls.{terminal_fits, checked_terminal, 
 
 use crate::Step;
 use controller::Controller;
+use formatting::Text;
 use replies::Reply;
 use rights::Writer;
 use signals::Refusal;
@@ -39,12 +40,6 @@ fn reply_to_answer(answer: Result<usize, Refusal>, buffer: &[u8]) -> Reply
     }
 }
 
-fn line_buffer() -> [u8; 300]
-    ensures { 300 ≡ length result }
-{
-    [0; 300]
-}
-
 // Answers the line of a writer that so many bytes of the buffer are, into so many bytes of it. All others of it must
 // stay. The contract gives the reply by the terminal's answer alone, so it rules out that a byte changes which had to
 // stay; and every byte of the buffer.
@@ -60,10 +55,10 @@ pub fn perform(
         × (buffer.new ≡ terminal_buffer controller writer count size buffer.old) }
 {
     if fits(count, size, buffer) {
-        let mut line = line_buffer();
-        let end = formatting::append_bytes(&mut line, 0, &buffer[0..count]);
+        let mut line = Text::<300>::new();
+        line.push_all(&buffer[..count]);
         crate::filled::fill(buffer);
-        let result = terminal::answer(controller, writer, &line[0..end], &mut buffer[0..size]);
+        let result = terminal::answer(controller, writer, line.as_slice(), &mut buffer[..size]);
         let next = result.controller;
         let answer = result.answer;
         return Step {

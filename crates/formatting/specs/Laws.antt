@@ -1,9 +1,9 @@
 -- Laws of the output buffer.
 use Rattle.std.specs.Prelude.{◌≡◌, refl, List, [], ◌∷◌, ◌++◌, ℕ, suc, ◌+◌, ◌≤◌, ◌<◌, length, set, take, drop, get_or}
-use Rattle.std.proofs.Common.{sym, ap, ◌∙◌, add-one, add-zero, add-suc, suc-add, arith, length-set, length-append, take-append-drop}
+use Rattle.std.proofs.Common.{sym, ap, ◌∙◌, add-one, add-zero, zero-add, add-suc, suc-add, arith, length-set, take-append-drop}
 use Rattle.std.proofs.Common.{drop_of_length-le, drop-cons, take-suc-set, drop-set-lt, lt-ltb}
 use Rattle.std.proofs.Math.Seq.{take-append_seam, append_snoc}
-use Rattle.formatting.specs.Buffer.{Buffer, buffer, append, append_all}
+use Rattle.formatting.specs.Buffer.{Buffer, buffer, append, append_all, filled, capacity, written}
 
 -- bytes behind bytes
 pub append_append : (o : Buffer) (xs ys : List ℕ) → append_all o (xs ++ ys) ≡ append_all (append_all o xs) ys
@@ -44,34 +44,32 @@ append_room (b ∷ bs) out used h =
     (append_room bs (set out used b) (used + 1) (omega (arith, length-set out used b)) ∙
     rw (replaced_more used b bs out l) (ap (buffer (replaced used (b ∷ bs) out)) (omega arith)))
 
+-- the buffer with bytes behind those used
+abbrev pub with_bytes : Buffer → List ℕ → Buffer
+with_bytes (buffer out used) bytes = buffer (replaced used bytes out) (used + length bytes)
+
+pub append_fits : (bytes : List ℕ) (o : Buffer) → filled o + length bytes ≤ capacity o → append_all o bytes ≡ with_bytes o bytes
+append_fits bytes (buffer out used) h = append_room bytes out used h
+
 -- in front of a buffer of which nothing was used, the bytes stand by themselves
-pub append_front : (bytes out after : List ℕ) (end : ℕ) → length bytes ≤ length out → buffer after end ≡ append_all (buffer out 0) bytes
-    → (end ≤ length after) × (take end after ≡ bytes)
+pub append_front : (bytes out : List ℕ) (after : Buffer) → length bytes ≤ length out → after ≡ append_all (buffer out 0) bytes
+    → (filled after ≡ length bytes) × (written after ≡ bytes)
 unfolding replaced
-append_front bytes out after end h e =
-    let r = e ∙ append_room bytes out 0 (omega arith) in
-    let a : after ≡ bytes ++ drop (0 + length bytes) out = cc in
-    let n : end ≡ 0 + length bytes = cc in
-    let l : end ≡ length bytes = omega arith in
-    rw (a, l) (simp length-append (omega arith), take-append_seam bytes _)
+append_front bytes out after h e =
+    rw (e, append_room bytes out 0 (omega arith), zero-add (length bytes)) (refl, take-append_seam bytes _)
 
 -- ---- a loop over the bytes of a slice, each of which appends what f gives of it
 
--- what the bytes not yet passed append to the buffer as it is now is what all of them append to it as it was
-pub record Appending (f : List ℕ → List ℕ) (bytes out₀ : List ℕ) (used : ℕ) (out : List ℕ) (end i : ℕ) : Type 0 where
-  pub inside : i ≤ length bytes
-  pub size : length out ≡ length out₀
-  pub whole : append_all (buffer out end) (f (drop i bytes)) ≡ append_all (buffer out₀ used) (f bytes)
-
+-- what the bytes not yet passed append to the buffer as it is now, p, is what all of them append to it as it was, o
 module _ (f : List ℕ → List ℕ) (none : f [] ≡ []) (more : (b : ℕ) (bs : List ℕ) → f (b ∷ bs) ≡ f (b ∷ []) ++ f bs)
-    (bytes out₀ : List ℕ) (used : ℕ) (out : List ℕ) (end i : ℕ) (a : Appending f bytes out₀ used out end i) where
-  pub appending_turn : (out' : List ℕ) (end' : ℕ) → i < length bytes → length out' ≡ length out
-      → buffer out' end' ≡ append_all (buffer out end) (f (get_or bytes i 0 ∷ [])) → Appending f bytes out₀ used out' end' (i + 1)
-  appending_turn out' end' h l e =
-      let s : append_all (buffer out end) (f (drop i bytes)) ≡ append_all (buffer out' end') (f (drop (suc i) bytes)) =
-      rw (drop-cons bytes i 0 h, more (get_or bytes i 0) (drop (suc i) bytes), e) (append_append (buffer out end) _ _) in
-      record { inside = omega arith; size = l ∙ a.size; whole = rw add-one (sym s ∙ a.whole) }
+    (bytes : List ℕ) (i : ℕ) (o p : Buffer) (whole : append_all p (f (drop i bytes)) ≡ append_all o (f bytes)) where
+  pub appending_turn : (q : Buffer) → i < length bytes → q ≡ append_all p (f (get_or bytes i 0 ∷ []))
+      → append_all q (f (drop (i + 1) bytes)) ≡ append_all o (f bytes)
+  appending_turn q h e =
+      let s : append_all p (f (drop i bytes)) ≡ append_all q (f (drop (suc i) bytes)) =
+      rw (drop-cons bytes i 0 h, more (get_or bytes i 0) (drop (suc i) bytes), e) (append_append p _ _) in
+      rw add-one (sym s ∙ whole)
 
-  pub appending_ends : length bytes ≤ i → buffer out end ≡ append_all (buffer out₀ used) (f bytes)
+  pub appending_ends : length bytes ≤ i → p ≡ append_all o (f bytes)
   unfolding append_all
-  appending_ends h = rw (drop_of_length-le bytes {i = i} h, none) at a.whole
+  appending_ends h = rw (drop_of_length-le bytes {i = i} h, none) at whole

@@ -1,83 +1,140 @@
-// Bytes and numbers appended to an output buffer, behind the bytes used; a function's result is how many are used then.
-// What doesn't fit is left out, so no call has a condition, and the contracts state every byte of the buffer.
+// Text of at most so many bytes, in which bytes and numbers are written one behind the other. What doesn't fit is left
+// out, so no call has a condition, and the contracts state every byte.
 #![tactic(auto)]
 
-ghost use Rattle.std.specs.Prelude.{◌≡◌, [], ◌∷◌, ◌≤◌, ◌<◌};
+ghost use Rattle.std.specs.Prelude.{◌≡◌, [], ◌∷◌, ◌≤◌, ◌<◌, leb, take, replicate};
 ghost use Rattle.numerals.specs.Numerals.{last_digits, digits, decimal, hexadecimal, hexadecimal_word};
-ghost use Rattle.formatting.specs.Buffer.{buffer, append_all};
+ghost use Rattle.formatting.specs.Buffer.{buffer, append_all, filled, capacity, written, emptied};
 
-// One byte. The contract rules out a byte written past those used, and a count that is off by one.
-pub fn append_byte(out: &mut [u8], used: usize, byte: u8) -> usize
-    ensures { buffer out.new result ≡ append_all (buffer out.old used) (byte ∷ []) }
-{
-    if used < out.len() {
-        out[used] = byte;
-        return used + 1;
+use std::marker::Model;
+
+// Bytes, and how many of them are used.
+#[derive(Drop)]
+pub struct Text<const N: usize> {
+    bytes: [u8; N],
+    used: usize,
+}
+
+// Clauses see the buffer.
+impl<const N: usize> Model for Text<N> {
+    ghost use Rattle.std.specs.Prelude.{◌≤◌};
+    ghost use Rattle.formatting.specs.Buffer.{Buffer, buffer};
+
+    ghost Value = { Buffer };
+
+    ghost view = { λ t. buffer t.bytes t.used };
+
+    ghost invariant = { λ t. t.used ≤ N };
+}
+
+impl<const N: usize> Text<N> {
+    // With nothing in it.
+    pub fn new() -> Self
+        ensures { result ≡ buffer (replicate N 0) 0 }
+    {
+        Text {
+            bytes: [0; N],
+            used: 0,
+        }
     }
-    used
-}
 
-// The bytes of a slice. The contract rules out a byte that is lost, or out of its order.
-pub fn append_bytes(out: &mut [u8], used: usize, bytes: &[u8]) -> usize
-    ensures { buffer out.new result ≡ append_all (buffer out.old used) bytes.now }
-{
-    let mut end = used;
-    let mut i = 0;
-    while i < bytes.len() {
-        end = append_byte(out, end, bytes[i]);
-        i += 1;
+    // What was written. The contract rules out a byte more or less.
+    pub fn as_slice(&self) -> &[u8]
+        ensures { result.now ≡ written self.now }
+    {
+        &self.bytes[..self.used]
     }
-    end
-}
 
-// The last digits of a number, so many: at most twenty, as many as 64 bits have in decimal.
-fn append_digits(out: &mut [u8], used: usize, base: u64, count: usize, number: u64) -> usize
-    requires { (1 < base) × (base ≤ 16) × (count ≤ 20) }
-    ensures { buffer out.new result ≡ append_all (buffer out.old used) (last_digits base count number) }
-{
-    let mut text = [0u8; 20];
-    numerals::writing::write_digits(&mut text, base, count, number);
-    append_bytes(out, used, &text[..count])
-}
-
-// A natural number in decimal. The contract rules out a leading zero and a digit that is wrong.
-pub fn append_decimal(out: &mut [u8], used: usize, number: u64) -> usize
-    ensures { buffer out.new result ≡ append_all (buffer out.old used) (digits number) }
-{
-    let count = numerals::writing::places(number);
-    append_digits(out, used, 10, count, number)
-}
-
-// An integer in decimal. The contract rules out a sign that is lost.
-pub fn append_signed(out: &mut [u8], used: usize, number: i64) -> usize
-    ensures { buffer out.new result ≡ append_all (buffer out.old used) (decimal number) }
-{
-    let size = number.unsigned_abs();
-    if number < 0 {
-        let end = append_byte(out, used, b'-');
-        return append_decimal(out, end, size);
+    // How many bytes were written.
+    pub fn len(&self) -> usize
+        ensures { result ≡ filled self.now }
+    {
+        self.used
     }
-    append_decimal(out, used, size)
-}
 
-// A word in four hexadecimal digits, its low 16 bits. The contract rules out small letters and a digit too few or too
-// many.
-pub fn append_word(out: &mut [u8], used: usize, word: u64) -> usize
-    ensures { buffer out.new result ≡ append_all (buffer out.old used) (hexadecimal_word word) }
-{
-    append_digits(out, used, 16, 4, word)
-}
-
-// The bytes of a slice in hexadecimal, two digits to a byte. The contract rules out halves that are exchanged and small
-// letters.
-pub fn append_hexadecimal(out: &mut [u8], used: usize, bytes: &[u8]) -> usize
-    ensures { buffer out.new result ≡ append_all (buffer out.old used) (hexadecimal bytes.now) }
-{
-    let mut end = used;
-    let mut i = 0;
-    while i < bytes.len() {
-        end = append_digits(out, end, 16, 2, bytes[i] as u64);
-        i += 1;
+    // Whether there is no room for another byte.
+    pub fn is_full(&self) -> bool
+        ensures { result ≡ leb (capacity self.now) (filled self.now) }
+    {
+        self.used == N
     }
-    end
+
+    // From the front again. The contract rules out that a byte changes.
+    pub fn clear(&mut self)
+        ensures { self.new ≡ emptied self.old }
+    {
+        self.used = 0;
+    }
+
+    // One byte. The contract rules out a byte written past those used, and a count that is off by one.
+    pub fn push(&mut self, byte: u8)
+        ensures { self.new ≡ append_all self.old (byte ∷ []) }
+    {
+        if self.used < N {
+            self.bytes[self.used] = byte;
+            self.used += 1;
+        }
+    }
+
+    // The bytes of a slice. The contract rules out a byte that is lost, or out of its order.
+    pub fn push_all(&mut self, bytes: &[u8])
+        ensures { self.new ≡ append_all self.old bytes.now }
+    {
+        for byte in bytes {
+            self.push(*byte);
+        }
+    }
+
+    // The last digits of a number, so many: at most twenty, as many as 64 bits have in decimal.
+    fn push_digits(&mut self, base: u64, count: usize, number: u64)
+        requires { (1 < base) × (base ≤ 16) × (count ≤ 20) }
+        ensures { self.new ≡ append_all self.old (last_digits base count number) }
+    {
+        let mut digits = [0u8; 20];
+        numerals::writing::write_digits(&mut digits, base, count, number);
+        self.push_all(&digits[..count]);
+    }
+
+    // A natural number in decimal. The contract rules out a leading zero and a digit that is wrong.
+    pub fn push_decimal(&mut self, number: u64)
+        ensures { self.new ≡ append_all self.old (digits number) }
+    {
+        self.push_digits(10, numerals::writing::places(number), number);
+    }
+
+    // An integer in decimal. The contract rules out a sign that is lost.
+    pub fn push_signed(&mut self, number: i64)
+        ensures { self.new ≡ append_all self.old (decimal number) }
+    {
+        if number < 0 {
+            self.push(b'-');
+        }
+        self.push_decimal(number.unsigned_abs());
+    }
+
+    // A word in four hexadecimal digits, its low 16 bits. The contract rules out small letters and a digit too few or
+    // too many.
+    #[tactic(auto, unfolding(numerals::specs::Numerals::hexadecimal_word))]
+    pub fn push_word(&mut self, word: u64)
+        ensures { self.new ≡ append_all self.old (hexadecimal_word word) }
+    {
+        self.push_digits(16, 4, word);
+    }
+
+    // The bytes of a slice in hexadecimal, two digits to a byte. The contract rules out halves that are exchanged and
+    // small letters.
+    pub fn push_hexadecimal(&mut self, bytes: &[u8])
+        ensures { self.new ≡ append_all self.old (hexadecimal bytes.now) }
+    {
+        for byte in bytes {
+            self.push_digits(16, 2, *byte as u64);
+        }
+    }
+}
+
+// The first bytes of a slice, so many, or all where there are fewer. The contract rules out one byte more.
+pub fn front(bytes: &[u8], count: usize) -> &[u8]
+    ensures { result.now ≡ take count bytes.now }
+{
+    bytes.get(..count).unwrap_or(bytes)
 }

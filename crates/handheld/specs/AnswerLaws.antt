@@ -1,10 +1,10 @@
 -- Laws of the answers: how long they are, and that a reply is written as the terminal gave it.
-use Rattle.std.specs.Prelude.{◌≡◌, List, ℕ, ◌+◌, ◌≤◌, length, drop, Err, Ok}
+use Rattle.std.specs.Prelude.{◌≡◌, List, ℕ, ◌≤◌, length, drop, Err, Ok}
 use Rattle.std.proofs.Common.{arith, length-append, length-take}
 use Rattle.std.proofs.Math.Seq.{take-append_seam}
 use Rattle.numerals.specs.Numerals.{digit_byte, last_digits, places_within, places, digits}
-use Rattle.formatting.specs.Buffer.{buffer, append_all}
-use Rattle.formatting.specs.Laws.{replaced, append_room}
+use Rattle.formatting.specs.Buffer.{Buffer, append_all, filled, capacity}
+use Rattle.formatting.specs.Laws.{with_bytes, append_fits}
 use Rattle.signals.specs.Refusals.{number_of}
 use Rattle.signals.specs.declared.Refusal.{Refusal}
 use Rattle.signals.specs.declared.Refusal.TheVariants.{Sample, ButtonBits, SensorBits, Number, ReadOnly, Range, Pair}
@@ -52,10 +52,9 @@ text_length (Ok count) bytes h = omega (arith, length-take count bytes)
 text_length (Err refusal) bytes h = refusal_length refusal
 
 -- the line stands whole behind the bytes used, and no other byte has changed
-pub answer_fits : (a : LineAnswer) (bytes out : List ℕ) (used : ℕ) → length bytes ≤ 9 → used ≤ 64000 → 65536 ≤ length out →
-    let line = answer_line (reply_of_line a) bytes in
-    append_all (buffer out used) line ≡ buffer (replaced used line out) (used + length line)
+pub answer_fits : (a : LineAnswer) (bytes : List ℕ) (o : Buffer) → length bytes ≤ 9 → filled o ≤ 64000 → 65536 ≤ capacity o →
+    let line = answer_line (reply_of_line a) bytes in append_all o line ≡ with_bytes o line
 unfolding answer_line
-answer_fits a bytes out used short few size =
+answer_fits a bytes o short few size =
     let t = text_length a bytes short in
-    append_room _ out used (simp length-append (omega arith))
+    append_fits _ o (simp length-append (omega arith))

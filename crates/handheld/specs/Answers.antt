@@ -1,10 +1,10 @@
 -- What the terminal's display shows for a line: the reply, or the refusal's number and name.
-use Rattle.std.specs.Prelude.{◌≡◌, refl, List, [], ◌∷◌, ◌++◌, ℕ, ◌+◌, ◌≤◌, length, take, get_or, replicate}
+use Rattle.std.specs.Prelude.{◌≡◌, refl, List, [], ◌∷◌, ◌++◌, ℕ, ◌≤◌, take, get_or, replicate}
 use Rattle.numerals.specs.Numerals.{digit_byte, last_digits, places_within, places, digits}
 use Rattle.formatting.specs.Ascii.{ascii}
-use Rattle.formatting.specs.Buffer.{buffer, append_all}
-use Rattle.formatting.specs.Laws.{replaced}
-use Rattle.lines.specs.Lines.{start_of}
+use Rattle.formatting.specs.Buffer.{Buffer, append_all, capacity}
+use Rattle.formatting.specs.Laws.{with_bytes}
+use Rattle.lines.specs.Lines.{with_room}
 use Rattle.terminal.specs.Terminal.{LineReply, reply, number}
 use Rattle.handheld.specs.Sessions.{SessionOutcome, typed_outcome}
 use Rattle.handheld.specs.declared.session.Session.{Session}
@@ -46,12 +46,11 @@ abbrev pub output_line : Session → List ℕ → List ℕ
 output_line s line = let outcome = line_outcome s line in answer_line outcome.answer outcome.buffer
 
 -- A line is answered, and what is written for it is appended to the output.
-pub record Answers (s next : Session) (line before after : List ℕ) (used end : ℕ) : Type 0 where
+pub record Answers (s next : Session) (line : List ℕ) (before after : Buffer) : Type 0 where
   pub session : next ≡ (line_outcome s line).session
-  pub output : buffer after end ≡ append_all (buffer before (start_of used)) (output_line s line)
+  pub output : after ≡ append_all (with_room before) (output_line s line)
   -- it is not cut, and no other byte of the output changes
-  pub whole : 65536 ≤ length before →
-      buffer after end ≡ buffer (replaced (start_of used) (output_line s line) before) (start_of used + length (output_line s line))
+  pub whole : 65536 ≤ capacity before → after ≡ with_bytes (with_room before) (output_line s line)
 
 refusal_example : refusal_text 7 ≡ ascii "? 7 pair out of order"
 unfolding refusal_text digit_byte last_digits places_within places digits

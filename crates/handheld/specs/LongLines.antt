@@ -18,8 +18,7 @@ use Rattle.terminal.specs.Commands.{is_word, unsigned, value_of, writing, comman
 use Rattle.terminal.specs.MnemonicLaws.{search_begins}
 use Rattle.terminal.specs.Mnemonics.{named}
 use Rattle.terminal.specs.Terminal.{answered, answered_to}
-use Rattle.terminal.specs.declared.command.Command.{Command}
-use Rattle.terminal.specs.declared.command.Command.TheVariants.{NoMnemonic, NoValue}
+use Rattle.terminal.specs.Commands.{Command, NoMnemonic, NoValue}
 use Rattle.handheld.specs.Plant.{pins_from, pins_in, outcome_for}
 use Rattle.handheld.specs.Sessions.{with_writer, who_in, typed_outcome}
 use Rattle.handheld.specs.declared.plant.PlantLine.{PlantLine}

@@ -1,3 +1,4 @@
+pub mod Reading
 pub mod Lines
 pub mod LinesLaws
 pub mod ReadingLaws

@@ -1,81 +1,59 @@
 -- Laws of lines.
-use Rattle.std.specs.Prelude.{◌≡◌, refl, Bool, cond, List, [], ◌∷◌, ◌++◌, eqb, leb, ltb, length, take, get_or}
-use Rattle.std.proofs.Common.{sym, ◌∙◌, arith, length-take, drop_of_length-le, drop-cons, drop-drop, take_all, eq-eqb, ne_eqb, leb-true}
-use Rattle.std.proofs.Common.{leb-false, ltb-false}
+use Rattle.std.specs.Prelude.{◌≡◌, refl, Bool, not, cond, List, [], ◌∷◌, ◌++◌, eqb, ltb, length, take, drop, ℕ, ◌+◌, ◌≤◌}
+use Rattle.std.specs.List.{position_or_len}
+use Rattle.std.proofs.Common.{arith, ltb-false, sym}
 use Rattle.std.proofs.Math.Path.{ap}
 use Rattle.std.proofs.Math.Bool.{true, false}
-use Prim.Native.Nat.{ℕ, zero, suc, ◌+◌, ◌-◌, ◌≤◌, ◌<◌, min}
-use Rattle.std.proofs.Math.Nat.{sub-zero, zero-sub, suc-sub-suc}
-use Rattle.std.proofs.Math.ListN.{drop}
-use Rattle.std.proofs.Math.Seq.{take-nil}
+use Rattle.std.proofs.lemmas.Grind.{common_steps}
 use Rattle.integers.specs.Choice.{by_cases, never}
-use Rattle.lines.specs.Lines.{has_end, line_of, rest_of, unread, line_length, start_of}
-use Rattle.lines.specs.declared.ReaderState.{ReaderState}
+use Rattle.formatting.specs.Buffer.{Buffer, buffer, filled, capacity}
+use Rattle.lines.specs.Lines.{has_end, line_of, rest_of, start_of, with_room}
 
 pub start_most : (used : ℕ) → start_of used ≤ 64000
 start_most used =
     by_cases (λ (n : ℕ). n ≤ 64000) (ltb 64000 used) 0 used (λ e. omega arith) (λ e. let l = ltb-false 64000 used e in omega arith)
 
--- ---- a line byte by byte
+-- the output has room for an answer
+pub room_made : (o : Buffer) → filled (with_room o) ≤ 64000
+room_made (buffer out used) = start_most used
 
-one_more_lem : (t : Bool) (n : ℕ) → cond t (suc (suc n)) (suc n) ≡ suc (cond t (suc n) n)
-one_more_lem true n = refl
-one_more_lem false n = refl
+pub room_kept : (o : Buffer) → capacity (with_room o) ≡ capacity o
+room_kept (buffer out used) = refl
 
-module _ (s : List ℕ) (i : ℕ) (inside : i < length s) where
-  module _ (feed : get_or s i 0 ≡ 10) where
-    pub line_at_feed : line_of (drop i s) ≡ []
-    unfolding line_of
-    line_at_feed = rw (drop-cons s i 0) (simp (eq-eqb (get_or s i 0) 10 feed))
+-- ---- a line by the place of its line feed
 
-    pub end_at_feed : has_end (drop i s) ≡ true
-    unfolding has_end
-    end_at_feed = rw (drop-cons s i 0) (simp (eq-eqb (get_or s i 0) 10 feed))
-
-    pub length_at_feed : line_length (drop i s) ≡ 1
-    unfolding line_length
-    length_at_feed = rw (end_at_feed, line_at_feed)
-
-  module _ (other : get_or s i 0 ≡ 10 → ⊥) where
-    pub line_more : line_of (drop i s) ≡ get_or s i 0 ∷ line_of (drop (suc i) s)
-    unfolding line_of
-    line_more = rw (drop-cons s i 0) (simp (ne_eqb (get_or s i 0) 10 other))
-
-    pub end_more : has_end (drop i s) ≡ has_end (drop (suc i) s)
-    unfolding has_end
-    end_more = rw (drop-cons s i 0) (simp (ne_eqb (get_or s i 0) 10 other))
-
-    pub length_more : line_length (drop i s) ≡ suc (line_length (drop (suc i) s))
-    unfolding line_length
-    length_more = rw (end_more, line_more) (one_more_lem (has_end (drop (suc i) s)) (length (line_of (drop (suc i) s))))
-
-module _ (s : List ℕ) (i : ℕ) (past : length s ≤ i) where
-  pub line_at_end : line_of (drop i s) ≡ []
-  unfolding line_of
-  line_at_end = rw (drop_of_length-le s past)
-
-  pub end_at_end : has_end (drop i s) ≡ false
-  unfolding has_end
-  end_at_end = rw (drop_of_length-le s past)
-
-  pub length_at_end : line_length (drop i s) ≡ 0
-  unfolding line_length
-  length_at_end = rw (end_at_end, line_at_end)
+-- how many bytes stand in front of it; all of them where there is none
+abbrev pub before_feed : List ℕ → ℕ
+before_feed bytes = position_or_len (λ b. eqb b 10) bytes
 
 module _ (b : ℕ) (bs : List ℕ) where
-  -- what is used up and what is behind it
-  behind : (feed : Bool) → rest_of bs ≡ drop (line_length bs) bs → line_length bs ≤ length bs → eqb b 10 ≡ feed →
-      (rest_of (b ∷ bs) ≡ drop (line_length (b ∷ bs)) (b ∷ bs)) × (line_length (b ∷ bs) ≤ suc (length bs))
-  unfolding rest_of line_length line_of has_end
-  behind true e h f = simp f (refl, omega arith)
-  behind false e h f =
-      let more : line_length (b ∷ bs) ≡ suc (line_length bs) = simp f (one_more_lem (has_end bs) (length (line_of bs))) in
-      rw more (simp f e, omega arith)
+  before : (feed : Bool) → line_of bs ≡ take (before_feed bs) bs → cond feed [] (b ∷ line_of bs) ≡ take (cond (not feed) (1 + before_feed bs) 0) (b ∷ bs)
+  before true e = refl
+  before false e = grind (arith, common_steps)
 
-pub rest_behind_line : (bytes : List ℕ) → (rest_of bytes ≡ drop (line_length bytes) bytes) × (line_length bytes ≤ length bytes)
-unfolding rest_of line_length line_of has_end
-rest_behind_line [] = (refl, omega arith)
-rest_behind_line (b ∷ bs) = let h = rest_behind_line bs in behind b bs (eqb b 10) h.0 h.1 refl
+  ended : (feed : Bool) → has_end bs ≡ ltb (before_feed bs) (length bs) → cond feed true (has_end bs) ≡ ltb (cond (not feed) (1 + before_feed bs) 0) (length (b ∷ bs))
+  ended true e = grind (arith, common_steps)
+  ended false e = grind (arith, common_steps)
+
+  behind : (feed : Bool) → rest_of bs ≡ drop (before_feed bs + 1) bs → cond feed bs (rest_of bs) ≡ drop (cond (not feed) (1 + before_feed bs) 0 + 1) (b ∷ bs)
+  behind true e = grind (arith, common_steps)
+  behind false e = grind (arith, common_steps)
+
+-- the line, whether it ends, and what is behind it
+pub line_before : (bytes : List ℕ) → line_of bytes ≡ take (before_feed bytes) bytes
+unfolding line_of
+line_before [] = refl
+line_before (b ∷ bs) = before b bs (eqb b 10) (line_before bs)
+
+pub end_before : (bytes : List ℕ) → has_end bytes ≡ ltb (before_feed bytes) (length bytes)
+unfolding has_end
+end_before [] = refl
+end_before (b ∷ bs) = ended b bs (eqb b 10) (end_before bs)
+
+pub rest_before : (bytes : List ℕ) → rest_of bytes ≡ drop (before_feed bytes + 1) bytes
+unfolding rest_of
+rest_before [] = refl
+rest_before (b ∷ bs) = behind b bs (eqb b 10) (rest_before bs)
 
 -- ---- bytes with no line feed, and others behind them
 
@@ -121,49 +99,3 @@ rest_whole (x ∷ xs) e =
     let n = no_feed x xs (eqb x 10) refl e in
     simp n.0 (rest_whole xs n.1)
 
--- ---- the unread bytes, as a part of the input
-
-take_min : (e : ℕ) (l : List ℕ) → take (min e (length l)) l ≡ take e l
-take_min e l = go (leb e (length l)) refl
-  where
-    go : (t : Bool) → leb e (length l) ≡ t → take (min e (length l)) l ≡ take e l
-    go true h = let same : min e (length l) ≡ e = omega (arith, leb-true e (length l) h) in ap (λ (n : ℕ). take n l) same
-    go false h = let past = leb-false e (length l) h in take_all (min e (length l)) l (omega arith) ∙ sym (take_all e l (omega arith))
-
-drop_min : (a : ℕ) (l : List ℕ) → drop (min a (length l)) l ≡ drop a l
-drop_min a l = go (leb a (length l)) refl
-  where
-    go : (t : Bool) → leb a (length l) ≡ t → drop (min a (length l)) l ≡ drop a l
-    go true h = let same : min a (length l) ≡ a = omega (arith, leb-true a (length l) h) in ap (λ (n : ℕ). drop n l) same
-    go false h =
-        let past = leb-false a (length l) h in
-        drop_of_length-le l {i = min a (length l)} (omega arith) ∙ sym (drop_of_length-le l {i = a} (omega arith))
-
-take_drop : (a e : ℕ) (l : List ℕ) → take (e - a) (drop a l) ≡ drop a (take e l)
-take_drop zero e l = rw sub-zero
-take_drop (suc a) zero l = rw zero-sub
-take_drop (suc a) (suc e) [] = take-nil (suc e - suc a)
-take_drop (suc a) (suc e) (x ∷ xs) = rw suc-sub-suc (take_drop a e xs)
-
-module _ (input : List ℕ) (place : ReaderState) where
-  abbrev pub last_of : ℕ
-  last_of = min place.end (length input)
-
-  abbrev pub first_of : ℕ
-  first_of = min place.at last_of
-
-  clamped : drop first_of (take last_of input) ≡ unread input place
-  unfolding unread
-  clamped =
-      ap (drop first_of) (take_min place.end input) ∙
-      ap (λ (n : ℕ). drop (min place.at n) (take place.end input)) (sym (length-take place.end input)) ∙
-      drop_min place.at (take place.end input)
-
-  pub unread_part : take (last_of - first_of) (drop first_of input) ≡ unread input place
-  unread_part = take_drop first_of last_of input ∙ clamped
-
-  pub unread_rest : drop (first_of + line_length (unread input place)) (take last_of input) ≡ rest_of (unread input place)
-  unread_rest =
-      sym (drop-drop (line_length (unread input place)) first_of (take last_of input)) ∙
-      ap (drop (line_length (unread input place))) clamped ∙
-      sym (rest_behind_line (unread input place)).0

@@ -3,221 +3,166 @@
 // left, as of one over memory, they are those, in their order; of standard input nothing is known but how many.
 #![tactic(auto)]
 
-ghost use Rattle.std.specs.Prelude.{◌≡◌, ◌≤◌, cond, min, ltb, length, take};
-ghost use Rattle.std.specs.Io.KnownBytes.{Consumes};
-ghost use Rattle.lines.specs.Lines.{Appended, started, begun, ended, Advanced, Refilled, Continued, NextLine};
+ghost use Rattle.std.specs.Prelude.{◌≡◌, eqb, position};
+ghost use Rattle.formatting.specs.Buffer.{emptied};
+ghost use Rattle.lines.specs.Lines.{started, ended, Advanced, Refilled, Continued, NextLine, with_room};
 
+use formatting::Text;
 use std::io::{Read, Write};
+use std::marker::Model;
 
-// Where reading and writing stand: bytes `at` to `end` of the last read are unread, `len` bytes of the line buffer are
-// filled, `complete` says whether they are a line, `more` whether the input goes on, and `used` bytes of the output are
-// still to be written.
-#[derive(Clone, Copy)]
-pub struct ReaderState {
+pub mod answering;
+
+// A line feed ends a line, and no other byte.
+fn ends_line(byte: u8) -> bool
+    ensures { result ≡ eqb byte 10 }
+{
+    byte == b'\n'
+}
+
+// Where the first line feed stands, if there is one.
+fn feed(bytes: &[u8]) -> Option<usize>
+    ensures { result ≡ position (λ b. eqb b 10) bytes.now }
+{
+    bytes.iter().position(|byte| ends_line(*byte))
+}
+
+// Where reading stands: bytes `at` to `end` of the last read are unread, and `more` says whether the input goes on.
+#[derive(Drop)]
+pub struct Input<const N: usize> {
+    bytes: [u8; N],
     at: usize,
     end: usize,
-    pub len: usize,
-    pub complete: bool,
     more: bool,
-    pub used: usize,
 }
 
-// Nothing read, nothing written.
-pub fn start() -> ReaderState
-    ensures { result ≡ started }
-{
-    ReaderState {
-        at: 0,
-        end: 0,
-        len: 0,
-        complete: false,
-        more: true,
-        used: 0,
-    }
+// Clauses see the unread bytes, and whether there are more.
+impl<const N: usize> Model for Input<N> {
+    ghost use Rattle.std.specs.Prelude.{◌≤◌, take, drop};
+    ghost use Rattle.lines.specs.Reading.{Reading};
+
+    ghost Value = { Reading };
+
+    ghost view = { λ i. record { unread = drop i.at (take i.end i.bytes); more = i.more } };
+
+    ghost invariant = { λ i. (i.at ≤ i.end) × (i.end ≤ N) };
 }
 
-fn least(a: usize, b: usize) -> usize
-    ensures { result ≡ min a b }
-{
-    if a < b { a } else { b }
-}
-
-// What came of bytes: how many were used, how many bytes the line has then, and whether its end was met.
-#[derive(Clone, Copy)]
-struct AppendResult {
-    count: usize,
-    len: usize,
-    complete: bool,
-}
-
-// Appends bytes to the line up to the first line feed.
-fn append_line(bytes: &[u8], line: &mut [u8], len: usize) -> AppendResult
-    ensures { Appended bytes.now line.old line.new len result }
-{
-    let mut filled = len;
-    let mut i = 0;
-    while i < bytes.len() {
-        let b = bytes[i];
-        if b == b'\n' {
-            return AppendResult {
-                count: i + 1,
-                len: filled,
-                complete: true,
-            };
+impl<const N: usize> Input<N> {
+    // Nothing read.
+    pub fn new() -> Self
+        ensures { result ≡ started }
+    {
+        Input {
+            bytes: [0; N],
+            at: 0,
+            end: 0,
+            more: true,
         }
-        filled = formatting::append_byte(line, filled, b);
-        i += 1;
     }
-    AppendResult {
-        count: i,
-        len: filled,
-        complete: false,
+
+    // Appends what is unread to the line up to the first line feed, and says whether there is one: a line may have
+    // begun in an earlier read and may go on in a later one.
+    fn advance<const L: usize>(&mut self, line: &mut Text<L>) -> bool
+        ensures { Advanced self.old line.old self.new line.new result }
+    {
+        let read = &self.bytes[..self.end];
+        let unread = &read[self.at..];
+        match feed(unread) {
+            Some(count) => {
+                line.push_all(&unread[..count]);
+                self.at += count + 1;
+                true
+            }
+            None => {
+                line.push_all(unread);
+                self.at = self.end;
+                false
+            }
+        }
+    }
+
+    // Reads more; at the end of the input, or where it cannot be read, there is no more.
+    fn refill<R: Read>(&mut self, reader: &mut R)
+        ensures { Refilled (R.remaining reader.old) (R.remaining reader.new) self.new }
+    {
+        self.end = reader.read(&mut self.bytes).unwrap_or(0);
+        self.at = 0;
+        self.more = 0 < self.end;
+    }
+
+    // There is no more.
+    fn finish(&mut self)
+        ensures { self.new ≡ ended }
+    {
+        self.at = self.end;
+        self.more = false;
     }
 }
 
-// Appends what is unread to the line up to the first line feed: a line may have begun in an earlier read and may go on
-// in a later one.
-fn advance(input: &[u8], line: &mut [u8], place: ReaderState) -> ReaderState
-    ensures { Advanced input.now line.old line.new place result }
-{
-    let end = least(place.end, input.len());
-    let at = least(place.at, end);
-    let part = append_line(&input[at..end], line, place.len);
-    ReaderState {
-        at: at + part.count,
-        end,
-        len: part.len,
-        complete: part.complete,
-        more: place.more,
-        used: place.used,
-    }
-}
-
-// How many bytes a read hands over; none where it fails.
-fn received<R: Read>(reader: &mut R, input: &mut [u8]) -> usize
-    ensures fits { result ≤ length input.new }
-    ensures taken { Consumes (R.remaining reader.old) (R.remaining reader.new) (take result input.new) }
-{
-    match reader.read(input) {
-        Ok(count) => count,
-        Err(_) => 0,
-    }
-}
-
-// Reads more; at the end of the input, or where it cannot be read, there is no more.
-fn refill<R: Read>(reader: &mut R, input: &mut [u8], place: ReaderState) -> ReaderState
-    ensures { Refilled (R.remaining reader.old) (R.remaining reader.new) input.new place result }
-{
-    let count = received(reader, input);
-    ReaderState {
-        at: 0,
-        end: count,
-        len: place.len,
-        complete: false,
-        more: 0 < count,
-        used: place.used,
-    }
-}
-
-fn begin(p: ReaderState) -> ReaderState
-    ensures { result ≡ begun p }
-{
-    ReaderState {
-        at: p.at,
-        end: p.end,
-        len: 0,
-        complete: false,
-        more: p.more,
-        used: p.used,
-    }
-}
-
-fn finish(p: ReaderState) -> ReaderState
-    ensures { result ≡ ended p }
-{
-    ReaderState {
-        at: 0,
-        end: 0,
-        len: p.len,
-        complete: 0 < p.len,
-        more: false,
-        used: p.used,
-    }
-}
-
-// Reads on until the line is complete or the input ends. A proved loop must end, so the turns are counted down from a
-// number that no run uses up.
-fn read_on<R: Read>(
+// Reads on until the line is complete or the input ends, and says whether there is a line: a last one may lack its line
+// feed. A proved loop must end, so the reads are counted up to a number that no run reaches.
+fn read_on<R: Read, const N: usize, const L: usize>(
     reader: &mut R,
-    input: &mut [u8],
-    line: &mut [u8],
-    place: ReaderState,
-) -> ReaderState
-    ensures { Continued (R.remaining reader.old) (R.remaining reader.new)
-        input.new line.old line.new place result }
+    input: &mut Input<N>,
+    line: &mut Text<L>,
+) -> bool
+    ensures { Continued (R.remaining reader.old) (R.remaining reader.new) line.old input.new line.new result }
 {
-    let mut p = place;
-    let mut turns = u64::MAX;
-    while turns > 0 {
-        let q = refill(reader, input, p);
-        p = advance(input, line, q);
-        if p.complete {
-            return p;
+    for _ in 0..u64::MAX {
+        input.refill(reader);
+        if input.advance(line) {
+            return true;
         }
-        if p.more {
-            turns -= 1;
-        } else {
-            return finish(p);
+        if !input.more {
+            break;
         }
     }
-    finish(p)
+    input.finish();
+    line.len() > 0
 }
 
-// The next line, in the line buffer. Where `complete` is false the input has ended. Of the bytes that were pending and
-// those received the contract rules out a line that is cut or joined with the next, and a byte that is lost. Which
-// bytes were received it says of a reader whose bytes are known; of standard input no contract can.
-pub fn next_line<R: Read, W: Write>(
+// The next line; where the answer is no, the input has ended. Of the bytes that were pending and those received the
+// contract rules out a line that is cut or joined with the next, and a byte that is lost. Which bytes were received it
+// says of a reader whose bytes are known; of standard input no contract can.
+pub fn next_line<R: Read, W: Write, const N: usize, const L: usize, const M: usize>(
     reader: &mut R,
     writer: &mut W,
-    input: &mut [u8],
-    line: &mut [u8],
-    out: &[u8],
-    place: ReaderState,
-) -> ReaderState
+    input: &mut Input<N>,
+    line: &mut Text<L>,
+    out: &mut Text<M>,
+) -> bool
     ensures { NextLine (R.remaining reader.old) (R.remaining reader.new)
-        input.old input.new line.old line.new place result }
+        input.old input.new line.old line.new out.old out.new result }
 {
-    let mut p = advance(input, line, begin(place));
-    if p.complete {
-        return p;
+    line.clear();
+    if input.advance(line) {
+        return true;
     }
-    if p.more {
-        p.used = flush(writer, out, p.used);
-        return read_on(reader, input, line, p);
+    if input.more {
+        flush(writer, out);
+        return read_on(reader, input, line);
     }
-    finish(p)
+    line.len() > 0
 }
 
 // ---- the output
 
 // Writes what is used of the output; none of it is used afterwards. What was written no contract can tell, and a failed
 // write is not told apart.
-pub fn flush<W: Write>(writer: &mut W, out: &[u8], used: usize) -> usize
-    ensures { result ≡ 0 }
+pub fn flush<W: Write, const N: usize>(writer: &mut W, out: &mut Text<N>)
+    ensures { out.new ≡ emptied out.old }
 {
-    if used <= out.len() {
-        let _ = writer.write_all(&out[0..used]);
-    }
-    0
+    let _ = writer.write_all(out.as_slice());
+    out.clear();
 }
 
 // Room for one more answer, which is far below 1,000 bytes: flushes where 64,000 are used. The contract rules out a
 // count that goes on where the output was written.
-pub fn room<W: Write>(writer: &mut W, out: &[u8], used: usize) -> usize
-    ensures { result ≡ cond (ltb 64000 used) 0 used }
+pub fn room<W: Write, const N: usize>(writer: &mut W, out: &mut Text<N>)
+    ensures { out.new ≡ with_room out.old }
 {
-    if 64000 < used {
-        return flush(writer, out, used);
+    if out.len() > 64000 {
+        flush(writer, out);
     }
-    used
 }

@@ -1,120 +1,88 @@
-// Numbers in ASCII digits, read: what is wrong with the bytes is in the answer. `writing` writes them.
+// Numbers in ASCII digits, read: `None` where the bytes are no such number. `writing` writes them.
 #![tactic(auto)]
 
-ghost use Rattle.std.specs.Prelude.{◌≡◌, ◌≤◌, ◌<◌};
+ghost use Rattle.std.specs.Prelude.{◌≡◌, ◌≤◌, ◌<◌, MatchOption};
 ghost use Rattle.numerals.specs.Numerals.{digit_value, read_on, digits_of, with_sign};
 ghost use Rattle.numerals.specs.Parsed.{within64, natural_of, parsed_number, number_of, parsed_word};
 
 pub mod writing;
 
-#[derive(Clone, Copy)]
-pub enum ParsedNatural {
-    Natural(u64),
-    Malformed,
-}
-
-#[derive(Clone, Copy)]
-pub enum ParsedNumber {
-    Number(i64),
-    Malformed,
-}
-
-#[derive(Clone, Copy)]
-pub enum ParsedWord {
-    Word(u16),
-    Malformed,
-}
-
-// The value of a digit, capitals for `A` to `F`; 16 for another byte. The contract rules out a small letter.
-pub fn digit_value(b: u8) -> u64
-    ensures { (result ≡ digit_value b) × (result ≤ 16) }
+// The value of a digit, capitals for `A` to `F`. The contract rules out a small letter.
+#[tactic(auto, unfolding(crate::specs::Numerals::digit_value))]
+pub fn digit_value(b: u8) -> Option<u64>
+    ensures { MatchOption result (digit_value b ≡ 16) (λ d. (d ≡ digit_value b) × (d < 16)) }
 {
     match b {
-        b'0'..=b'9' => (b - b'0') as u64,
-        b'A'..=b'F' => (b - b'A' + 10) as u64,
-        _ => 16,
+        b'0'..=b'9' => Some((b - b'0') as u64),
+        b'A'..=b'F' => Some((b - b'A' + 10) as u64),
+        _ => None,
     }
 }
 
-// The value of digits; malformed where another byte is among them, or 64 bits don't hold it.
-fn value_of(s: &[u8], base: u64) -> ParsedNatural
+// The value of digits, unless another byte is among them, or 64 bits don't hold it.
+fn value_of(s: &[u8], base: u64) -> Option<u64>
     requires { (1 < base) × (base ≤ 16) }
     ensures { result ≡ within64 (read_on base 0 s.now) }
 {
     let mut value: u64 = 0;
-    let mut i = 0;
-    while i < s.len() {
-        let d = digit_value(s[i]);
+    for b in s {
+        let d = digit_value(*b)?;
         if base <= d {
-            return ParsedNatural::Malformed;
+            return None;
         }
-        if (u64::MAX - d) / base < value {
-            return ParsedNatural::Malformed;
-        }
-        value = value * base + d;
-        i += 1;
+        value = value.checked_mul(base)?.checked_add(d)?;
     }
-    ParsedNatural::Natural(value)
+    Some(value)
 }
 
 // The value of one decimal digit or more, at most so many.
-fn digits(s: &[u8], most: usize) -> ParsedNatural
+#[tactic(auto, unfolding(crate::specs::Parsed::within64, crate::specs::Numerals::digits_of))]
+fn digits(s: &[u8], most: usize) -> Option<u64>
     ensures { result ≡ within64 (digits_of 10 most s.now) }
 {
-    if s.len() == 0 {
-        return ParsedNatural::Malformed;
-    }
-    if most < s.len() {
-        return ParsedNatural::Malformed;
+    if s.is_empty() || most < s.len() {
+        return None;
     }
     value_of(s, 10)
 }
 
 // A natural number of 64 bits: one to twenty digits, and no sign. The contract rules out a wrong value, a number that
 // 64 bits don't hold, and one of up to twenty digits that they hold and isn't taken.
-pub fn natural(s: &[u8]) -> ParsedNatural
+#[tactic(auto, unfolding(crate::specs::Parsed::natural_of))]
+pub fn natural(s: &[u8]) -> Option<u64>
     ensures { result ≡ natural_of s.now }
 {
     digits(s, 20)
 }
 
-fn signed(minus: bool, s: &[u8], most: usize) -> ParsedNumber
+fn signed(minus: bool, s: &[u8], most: usize) -> Option<i64>
     requires { most ≤ 18 }
     ensures { result ≡ parsed_number (with_sign minus (digits_of 10 most s.now)) }
 {
-    let reading = digits(s, most);
-    match reading {
-        ParsedNatural::Natural(value) => ParsedNumber::Number(integers::signed(minus, value)),
-        ParsedNatural::Malformed => ParsedNumber::Malformed,
-    }
+    let value = digits(s, most)?;
+    Some(integers::signed(minus, value))
 }
 
 // An integer: an optional minus and one digit or more, at most so many, with leading zeros or none; 64 bits hold any
 // of eighteen. The contract rules out a wrong value, a digit too many and taking what is no number.
-pub fn number(s: &[u8], most: usize) -> ParsedNumber
+pub fn number(s: &[u8], most: usize) -> Option<i64>
     requires { most ≤ 18 }
     ensures { result ≡ number_of most s.now }
 {
-    if s.len() == 0 {
-        return ParsedNumber::Malformed;
+    match s {
+        [b'-', digits @ ..] => signed(true, digits, most),
+        digits => signed(false, digits, most),
     }
-    if s[0] == b'-' {
-        return signed(true, &s[1..], most);
-    }
-    signed(false, s, most)
 }
 
 // A word of 16 bits: exactly four hexadecimal digits, capitals. The contract rules out a wrong value, a digit too few
 // or too many, and a small letter.
-pub fn word(s: &[u8]) -> ParsedWord
+pub fn word(s: &[u8]) -> Option<u16>
     ensures { result ≡ parsed_word s.now }
 {
     if s.len() != 4 {
-        return ParsedWord::Malformed;
+        return None;
     }
-    let reading = value_of(s, 16);
-    match reading {
-        ParsedNatural::Natural(value) => ParsedWord::Word(value as u16),
-        ParsedNatural::Malformed => ParsedWord::Malformed,
-    }
+    let value = value_of(s, 16)?;
+    Some(value as u16)
 }

@@ -1,5 +1,5 @@
 -- How long the line of a reply is: it stands whole in the output, where no more than 64,000 of 65,536 bytes are used.
-use Rattle.std.specs.Prelude.{List, ◌≡◌, ℕ, ◌+◌, ◌≤◌, ◌<◌, ℤ, pos, negsuc, nat_abs, length, take, None, Some}
+use Rattle.std.specs.Prelude.{List, ◌≡◌, ℕ, ◌≤◌, ◌<◌, ℤ, pos, negsuc, nat_abs, length, take, None, Some}
 use Rattle.std.proofs.Common.{arith, length-append, length-take}
 use Rattle.std.specs.Int.Signed.{mag}
 use Rattle.signals.specs.Clock.{ClockReading}
@@ -7,8 +7,8 @@ use Rattle.answers.specs.declared.ScanValues.{ScanValues}
 use Rattle.sheet.specs.declared.Sheet.{Sheet}
 use Rattle.numerals.specs.DigitLaws.{hexadecimal_length}
 use Rattle.numerals.specs.Shortest.{digits_few, decimal_few}
-use Rattle.formatting.specs.Buffer.{buffer, append_all}
-use Rattle.formatting.specs.Laws.{replaced, append_room}
+use Rattle.formatting.specs.Buffer.{Buffer, append_all, filled, capacity}
+use Rattle.formatting.specs.Laws.{with_bytes, append_fits}
 use Rattle.sheet_lines.specs.Appended.{sum_length}
 use Rattle.sheet_lines.specs.ModeLaws.{word_length}
 use Rattle.sheet_lines.specs.SheetText.{sheet_text}
@@ -104,12 +104,10 @@ unfolding reply_line
 reply_length reply saved sheet h size = let t = text_length reply saved sheet h size in simp length-append (omega arith)
 
 -- the line stands whole behind the bytes used, and no other byte has changed
-module _ (reply : Reply) (saved : List ℕ) (sheet : Sheet) (out : List ℕ) (used : ℕ) where
-  pub reply_fits : InRange reply sheet → length saved ≤ 346 → used ≤ 64000 → 65536 ≤ length out →
-      append_all (buffer out used) (reply_line reply saved sheet)
-      ≡ buffer (replaced used (reply_line reply saved sheet) out) (used + length (reply_line reply saved sheet))
-  reply_fits r short few size =
-      append_room (reply_line reply saved sheet) out used (omega (arith, reply_length reply saved sheet r short))
+pub reply_fits : (reply : Reply) (saved : List ℕ) (sheet : Sheet) (o : Buffer) → InRange reply sheet → length saved ≤ 346 →
+    filled o ≤ 64000 → 65536 ≤ capacity o → append_all o (reply_line reply saved sheet) ≡ with_bytes o (reply_line reply saved sheet)
+reply_fits reply saved sheet o r short few size =
+    append_fits (reply_line reply saved sheet) o (omega (arith, reply_length reply saved sheet r short))
 
 -- ---- for the proofs of functions
 

@@ -1,14 +1,14 @@
 // What answers a command, and its line, appended to the output.
 #![tactic(auto)]
 
-ghost use Rattle.std.specs.Prelude.{◌≡◌, take};
-ghost use Rattle.numerals.specs.Numerals.{hexadecimal};
-ghost use Rattle.formatting.specs.Buffer.{buffer, append_all};
+ghost use Rattle.std.specs.Prelude.{◌≡◌};
+ghost use Rattle.formatting.specs.Buffer.{append_all};
 ghost use Rattle.replies.specs.ReplyLaws.{WordsRange, AnswerRange, ReadingRange, InRange};
 ghost use Rattle.replies.specs.Replies.{spaced, words_text, answer_text, refused_text, value_text, clock_text, image_text};
 ghost use Rattle.replies.specs.Replies.{line_text, reply_text, reply_line};
 
 use answers::ScanValues;
+use formatting::Text;
 use sheet::Sheet;
 
 #[derive(Clone, Copy)]
@@ -37,123 +37,108 @@ pub enum Reply {
 }
 
 // A blank and a number.
-fn append_spaced(out: &mut [u8], used: usize, number: u64) -> usize
-    ensures { buffer out.new result ≡ append_all (buffer out.old used) (spaced number) }
+fn append_spaced<const N: usize>(out: &mut Text<N>, number: u64)
+    ensures { out.new ≡ append_all out.old (spaced number) }
 {
-    let end = formatting::append_byte(out, used, b' ');
-    formatting::append_decimal(out, end, number)
+    out.push(b' ');
+    out.push_decimal(number);
 }
 
 // The words of an answer. The contract rules out two that are exchanged.
-fn append_words(out: &mut [u8], used: usize, values: ScanValues) -> usize
-    ensures { (buffer out.new result ≡ append_all (buffer out.old used) (words_text values)) × WordsRange values }
+fn append_words<const N: usize>(out: &mut Text<N>, values: ScanValues)
+    ensures { (out.new ≡ append_all out.old (words_text values)) × WordsRange values }
 {
-    let name = formatting::append_bytes(out, used, b"scan");
-    let one = append_spaced(out, name, values.md as u64);
-    let two = append_spaced(out, one, values.ds as u64);
-    let three = append_spaced(out, two, values.op as u64);
-    append_spaced(out, three, values.electrical as u64)
+    out.push_all(b"scan");
+    append_spaced(out, values.md as u64);
+    append_spaced(out, values.ds as u64);
+    append_spaced(out, values.op as u64);
+    append_spaced(out, values.electrical as u64);
 }
 
 // What an accepted scan answers. The contract rules out another mode's word, and a sign of PV that is lost.
-fn append_answer(out: &mut [u8], used: usize, values: ScanValues) -> usize
-    ensures { (buffer out.new result ≡ append_all (buffer out.old used) (answer_text values)) × AnswerRange values }
+fn append_answer<const N: usize>(out: &mut Text<N>, values: ScanValues)
+    ensures { (out.new ≡ append_all out.old (answer_text values)) × AnswerRange values }
 {
-    let words = append_words(out, used, values);
-    let blank = formatting::append_byte(out, words, b' ');
-    let mode = values.mode;
-    let word = sheet_lines::mode::append_mode(out, blank, mode);
-    let end = formatting::append_byte(out, word, b' ');
-    formatting::append_signed(out, end, i64::from(values.pv))
+    append_words(out, values);
+    out.push(b' ');
+    out.push_all(sheet_lines::mode::word_of(values.mode));
+    out.push(b' ');
+    out.push_signed(i64::from(values.pv));
 }
 
 // A refusal and its number.
-fn append_refused(out: &mut [u8], used: usize, number: u8) -> usize
-    ensures { buffer out.new result ≡ append_all (buffer out.old used) (refused_text number) }
+fn append_refused<const N: usize>(out: &mut Text<N>, number: u8)
+    ensures { out.new ≡ append_all out.old (refused_text number) }
 {
-    let name = formatting::append_bytes(out, used, b"refused");
-    append_spaced(out, name, number as u64)
+    out.push_all(b"refused");
+    append_spaced(out, number as u64);
 }
 
 // A parameter's value. The contract rules out a sign that is lost.
-fn append_value(out: &mut [u8], used: usize, v: i32) -> usize
-    ensures { buffer out.new result ≡ append_all (buffer out.old used) (value_text v) }
+fn append_value<const N: usize>(out: &mut Text<N>, v: i32)
+    ensures { out.new ≡ append_all out.old (value_text v) }
 {
-    let name = formatting::append_bytes(out, used, b"value ");
-    formatting::append_signed(out, name, i64::from(v))
+    out.push_all(b"value ");
+    out.push_signed(i64::from(v));
 }
 
 // A reading of the clock. The contract rules out a number where there is no reading.
-fn append_clock(out: &mut [u8], used: usize, reading: Option<u64>) -> usize
-    ensures { (buffer out.new result ≡ append_all (buffer out.old used) (clock_text reading))
-        × ReadingRange reading }
+fn append_clock<const N: usize>(out: &mut Text<N>, reading: Option<u64>)
+    ensures { (out.new ≡ append_all out.old (clock_text reading)) × ReadingRange reading }
 {
     match reading {
-        None => formatting::append_bytes(out, used, b"clock none"),
+        None => out.push_all(b"clock none"),
         Some(milliseconds) => {
-            let name = formatting::append_bytes(out, used, b"clock");
-            append_spaced(out, name, milliseconds)
+            out.push_all(b"clock");
+            append_spaced(out, milliseconds);
         }
     }
 }
 
-// The first bytes of a buffer, so many, or all where there are fewer. The contract rules out one byte more.
-fn append_front(out: &mut [u8], used: usize, bytes: &[u8], count: usize) -> usize
-    ensures { buffer out.new result ≡ append_all (buffer out.old used)
-        (hexadecimal (take count bytes.now)) }
-{
-    if bytes.len() < count {
-        return formatting::append_hexadecimal(out, used, bytes);
-    }
-    formatting::append_hexadecimal(out, used, &bytes[0..count])
-}
-
 // The image that was saved: the first 137 bytes.
-fn append_image(out: &mut [u8], used: usize, saved: &[u8]) -> usize
-    ensures { buffer out.new result ≡ append_all (buffer out.old used) (image_text saved.now) }
+fn append_image<const N: usize>(out: &mut Text<N>, saved: &[u8])
+    ensures { out.new ≡ append_all out.old (image_text saved.now) }
 {
-    let name = formatting::append_bytes(out, used, b"image ");
-    append_front(out, name, saved, 137)
+    out.push_all(b"image ");
+    out.push_hexadecimal(formatting::front(saved, 137));
 }
 
 // The terminal's reply: its length and its bytes. The contract rules out a length that isn't that of the bytes.
-fn append_line(out: &mut [u8], used: usize, count: usize, saved: &[u8]) -> usize
-    ensures { buffer out.new result ≡ append_all (buffer out.old used) (line_text count saved.now) }
+fn append_line<const N: usize>(out: &mut Text<N>, count: usize, saved: &[u8])
+    ensures { out.new ≡ append_all out.old (line_text count saved.now) }
 {
-    let name = formatting::append_bytes(out, used, b"reply");
-    let number = append_spaced(out, name, count as u64);
-    let blank = formatting::append_byte(out, number, b' ');
-    append_front(out, blank, saved, count)
+    out.push_all(b"reply");
+    append_spaced(out, count as u64);
+    out.push(b' ');
+    out.push_hexadecimal(formatting::front(saved, count));
 }
 
 // What a reply's line has before its end. The contract also says that the reply's numbers are such as its types hold,
 // so that a caller knows how long the line is.
-fn append_text(out: &mut [u8], used: usize, reply: Reply, saved: &[u8], sheet: Sheet) -> usize
-    ensures { (buffer out.new result ≡ append_all (buffer out.old used)
-        (reply_text reply saved.now sheet)) × InRange reply sheet }
+fn append_text<const N: usize>(out: &mut Text<N>, reply: Reply, saved: &[u8], sheet: Sheet)
+    ensures { (out.new ≡ append_all out.old (reply_text reply saved.now sheet)) × InRange reply sheet }
 {
     match reply {
-        Reply::Accepted => formatting::append_bytes(out, used, b"ok"),
-        Reply::Value(v) => append_value(out, used, v),
-        Reply::Answer(values) => append_answer(out, used, values),
-        Reply::Clock(reading) => append_clock(out, used, reading),
-        Reply::Image => append_image(out, used, saved),
-        Reply::Line(count) => append_line(out, used, count, saved),
-        Reply::WholeSheet => sheet_lines::print::append_sheet(out, used, sheet),
-        Reply::Full => formatting::append_bytes(out, used, b"full"),
-        Reply::InvalidSheet => formatting::append_bytes(out, used, b"refused"),
-        Reply::Number(number) => formatting::append_signed(out, used, number),
-        Reply::Refused(number) => append_refused(out, used, number),
-        Reply::Error => formatting::append_bytes(out, used, b"error"),
+        Reply::Accepted => out.push_all(b"ok"),
+        Reply::Value(v) => append_value(out, v),
+        Reply::Answer(values) => append_answer(out, values),
+        Reply::Clock(reading) => append_clock(out, reading),
+        Reply::Image => append_image(out, saved),
+        Reply::Line(count) => append_line(out, count, saved),
+        Reply::WholeSheet => sheet_lines::print::append_sheet(out, sheet),
+        Reply::Full => out.push_all(b"full"),
+        Reply::InvalidSheet => out.push_all(b"refused"),
+        Reply::Number(number) => out.push_signed(number),
+        Reply::Refused(number) => append_refused(out, number),
+        Reply::Error => out.push_all(b"error"),
     }
 }
 
 // The line of a reply; `saved` is the buffer that a save or the terminal wrote into. The contract rules out the line of
 // another reply, and one with no end.
-pub fn append_reply(out: &mut [u8], used: usize, reply: Reply, saved: &[u8], sheet: Sheet) -> usize
-    ensures { (buffer out.new result ≡ append_all (buffer out.old used)
-        (reply_line reply saved.now sheet)) × InRange reply sheet }
+pub fn append_reply<const N: usize>(out: &mut Text<N>, reply: Reply, saved: &[u8], sheet: Sheet)
+    ensures { (out.new ≡ append_all out.old (reply_line reply saved.now sheet)) × InRange reply sheet }
 {
-    let end = append_text(out, used, reply, saved, sheet);
-    formatting::append_byte(out, end, b'\n')
+    append_text(out, reply, saved, sheet);
+    out.push(b'\n');
 }

@@ -6,34 +6,33 @@ use Rattle.integers.specs.Operations.{known}
 use Rattle.integers.specs.Parts.{apart}
 use Rattle.numerals.specs.Numerals.{digits, decimal}
 use Rattle.numerals.specs.Shortest.{digits_few, decimal_few}
-use Rattle.formatting.specs.Buffer.{buffer, append_all}
+use Rattle.formatting.specs.Buffer.{Buffer, append_all}
 use Rattle.formatting.specs.Laws.{then}
 
 -- The text stands behind the bytes used, cut where the buffer ends; it has at most so many bytes.
-pub record TextAppended (before after : List ℕ) (used end : ℕ) (text : List ℕ) (most : ℕ) : Type 0 where
-  pub bytes : buffer after end ≡ append_all (buffer before used) text
+pub record TextAppended (before after : Buffer) (text : List ℕ) (most : ℕ) : Type 0 where
+  pub bytes : after ≡ append_all before text
   pub short : length text ≤ most
 
-pub text_of : {before after text : List ℕ} {used end : ℕ} (most : ℕ) → buffer after end ≡ append_all (buffer before used) text
-    → length text ≤ most → TextAppended before after used end text most
+pub text_of : {before after : Buffer} {text : List ℕ} (most : ℕ) → after ≡ append_all before text → length text ≤ most
+    → TextAppended before after text most
 text_of most e h = record { bytes = e; short = h }
 
 -- the same text, otherwise described
-pub text_is : {before after xs ys : List ℕ} {used end most : ℕ} → TextAppended before after used end xs most → xs ≡ ys
-    → TextAppended before after used end ys most
+pub text_is : {before after : Buffer} {xs ys : List ℕ} {most : ℕ} → TextAppended before after xs most → xs ≡ ys
+    → TextAppended before after ys most
 text_is a e = rw (← e) a
 
-pub text_most : {before after text : List ℕ} {used end m n : ℕ} → TextAppended before after used end text m → m ≤ n
-    → TextAppended before after used end text n
+pub text_most : {before after : Buffer} {text : List ℕ} {m n : ℕ} → TextAppended before after text m → m ≤ n
+    → TextAppended before after text n
 text_most a h = record { bytes = a.bytes; short = omega (arith, a.short) }
 
 -- one text behind another
-pub text_then : {before between after : List ℕ} {used middle end : ℕ} {xs ys : List ℕ} {m n : ℕ}
-    → TextAppended before between used middle xs m → TextAppended between after middle end ys n
-    → TextAppended before after used end (xs ++ ys) (m + n)
-text_then {before} {used = used} {xs = xs} {ys = ys} a b =
+pub text_then : {before between after : Buffer} {xs ys : List ℕ} {m n : ℕ} → TextAppended before between xs m
+    → TextAppended between after ys n → TextAppended before after (xs ++ ys) (m + n)
+text_then {before} {xs = xs} {ys = ys} a b =
     record {
-      bytes = then (buffer before used) xs ys a.bytes b.bytes;
+      bytes = then before xs ys a.bytes b.bytes;
       short = simp length-append (omega (arith, a.short, b.short));
     }
 

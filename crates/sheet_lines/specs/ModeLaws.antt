@@ -1,16 +1,14 @@
 -- Laws of the modes' words.
-use Rattle.std.specs.Prelude.{Bool, true, false, cond, List, ◌≡◌, refl, ℕ, ◌≤◌, length}
+use Rattle.std.specs.Prelude.{Bool, true, false, cond, List, ◌≡◌, refl, ℕ, ◌≤◌, Option, Some, length}
 use Rattle.std.proofs.Common.{ap, ◌∙◌, arith}
 use Rattle.integers.specs.Choice.{never}
 use Rattle.modes.specs.declared.Mode.{Mode}
 use Rattle.modes.specs.declared.Mode.TheVariants.{Hold, Track, Forced, Manual, Auto, Remote, Ratio, Fallback}
 use Rattle.text.specs.Words.{same_bytes, same_equal}
 use Rattle.sheet_lines.specs.ModeWords.{mode_word, mode_or, mode_of}
-use Rattle.sheet_lines.specs.declared.mode.ParsedMode.{ParsedMode}
-use Rattle.sheet_lines.specs.declared.mode.ParsedMode.TheVariants as parsed
 
 -- every mode's word is read as that mode: no two have one word
-pub word_read : (m : Mode) → mode_of (mode_word m) ≡ parsed.Mode m
+pub word_read : (m : Mode) → mode_of (mode_word m) ≡ Some m
 unfolding mode_of mode_word same_bytes
 word_read Hold = refl
 word_read Track = refl
@@ -22,15 +20,15 @@ word_read Ratio = refl
 word_read Fallback = refl
 
 -- a word that is read as a mode is that mode's
-or_only : (word : List ℕ) (k m : Mode) (other : ParsedMode) → mode_or word k other ≡ parsed.Mode m
-    → (other ≡ parsed.Mode m → word ≡ mode_word m) → word ≡ mode_word m
+or_only : (word : List ℕ) (k m : Mode) (other : Option Mode) → mode_or word k other ≡ Some m
+    → (other ≡ Some m → word ≡ mode_word m) → word ≡ mode_word m
 or_only word k m other e h = go (same_bytes word (mode_word k)) refl e
   where
-    go : (t : Bool) → same_bytes word (mode_word k) ≡ t → cond t (parsed.Mode k) other ≡ parsed.Mode m → word ≡ mode_word m
+    go : (t : Bool) → same_bytes word (mode_word k) ≡ t → cond t (Some k) other ≡ Some m → word ≡ mode_word m
     go true f r = let same : k ≡ m = cc in same_equal word (mode_word k) f ∙ ap mode_word same
     go false f r = h r
 
-pub word_only : (word : List ℕ) (m : Mode) → mode_of word ≡ parsed.Mode m → word ≡ mode_word m
+pub word_only : (word : List ℕ) (m : Mode) → mode_of word ≡ Some m → word ≡ mode_word m
 unfolding mode_of
 word_only word m e0 =
     or_only word Hold m _ e0 (λ e1.

@@ -5,100 +5,95 @@ ghost use Rattle.sheet_lines.specs.Appended.{TextAppended};
 ghost use Rattle.sheet_lines.specs.SheetText.{named, number_text, sum_text, occurrence_text, extreme_text, extremes_text};
 ghost use Rattle.sheet_lines.specs.SheetText.{count_text, counts_text, sheet_text};
 
+use formatting::Text;
 use modes::Mode;
 use sheet::{Occurrence, Sheet};
 
 // A blank, a name and an equals sign.
-fn append_name(out: &mut [u8], used: usize, name: &[u8]) -> usize
-    ensures { TextAppended out.old out.new used result (named name.now)
-        (length name.now + 2) }
+fn append_name<const N: usize>(out: &mut Text<N>, name: &[u8])
+    ensures { TextAppended out.old out.new (named name.now) (length name.now + 2) }
 {
-    let blank = formatting::append_byte(out, used, b' ');
-    let end = formatting::append_bytes(out, blank, name);
-    formatting::append_byte(out, end, b'=')
+    out.push(b' ');
+    out.push_all(name);
+    out.push(b'=');
 }
 
 // A number with its name.
-fn append_number(out: &mut [u8], used: usize, name: &[u8], number: u32) -> usize
-    ensures { TextAppended out.old out.new used result (number_text name.now number)
-        (length name.now + 12) }
+fn append_number<const N: usize>(out: &mut Text<N>, name: &[u8], number: u32)
+    ensures { TextAppended out.old out.new (number_text name.now number) (length name.now + 12) }
 {
-    let end = append_name(out, used, name);
-    formatting::append_decimal(out, end, number as u64)
+    append_name(out, name);
+    out.push_decimal(number as u64);
 }
 
 // A sum with its name. The contract rules out a sign that is lost.
-fn append_sum(out: &mut [u8], used: usize, name: &[u8], sum: i64) -> usize
-    ensures { TextAppended out.old out.new used result (sum_text name.now sum)
-        (length name.now + 22) }
+fn append_sum<const N: usize>(out: &mut Text<N>, name: &[u8], sum: i64)
+    ensures { TextAppended out.old out.new (sum_text name.now sum) (length name.now + 22) }
 {
-    let end = append_name(out, used, name);
-    formatting::append_signed(out, end, sum)
+    append_name(out, name);
+    out.push_signed(sum);
 }
 
 // A PV and the number of its scan. The contract rules out a sign that is lost, and the two exchanged.
-fn append_occurrence(out: &mut [u8], used: usize, first: Occurrence) -> usize
-    ensures { TextAppended out.old out.new used result (occurrence_text first) 22 }
+fn append_occurrence<const N: usize>(out: &mut Text<N>, first: Occurrence)
+    ensures { TextAppended out.old out.new (occurrence_text first) 22 }
 {
-    let pv = formatting::append_signed(out, used, i64::from(first.pv));
-    let at = formatting::append_byte(out, pv, b'@');
-    formatting::append_decimal(out, at, first.number as u64)
+    out.push_signed(i64::from(first.pv));
+    out.push(b'@');
+    out.push_decimal(first.number as u64);
 }
 
 // The greatest or the least PV, with its name.
-fn append_extreme(out: &mut [u8], used: usize, name: &[u8], extreme: Option<Occurrence>) -> usize
-    ensures { TextAppended out.old out.new used result (extreme_text name.now extreme)
-        (length name.now + 24) }
+fn append_extreme<const N: usize>(out: &mut Text<N>, name: &[u8], extreme: Option<Occurrence>)
+    ensures { TextAppended out.old out.new (extreme_text name.now extreme) (length name.now + 24) }
 {
-    let end = append_name(out, used, name);
+    append_name(out, name);
     match extreme {
-        None => formatting::append_bytes(out, end, b"none"),
-        Some(first) => append_occurrence(out, end, first),
+        None => out.push_all(b"none"),
+        Some(first) => append_occurrence(out, first),
     }
 }
 
 // Both of them. The contract rules out the two exchanged.
-fn append_extremes(out: &mut [u8], used: usize, sheet: Sheet) -> usize
-    ensures { TextAppended out.old out.new used result (extremes_text sheet.values) 54 }
+fn append_extremes<const N: usize>(out: &mut Text<N>, sheet: Sheet)
+    ensures { TextAppended out.old out.new (extremes_text sheet.values) 54 }
 {
-    let max = append_extreme(out, used, b"max", sheet.greatest());
-    append_extreme(out, max, b"min", sheet.least())
+    append_extreme(out, b"max", sheet.greatest());
+    append_extreme(out, b"min", sheet.least());
 }
 
 // How many scans there were in a mode, with its word as the name.
-fn append_count(out: &mut [u8], used: usize, sheet: Sheet, mode: Mode) -> usize
-    ensures { TextAppended out.old out.new used result (count_text sheet.values mode) 20 }
+fn append_count<const N: usize>(out: &mut Text<N>, sheet: Sheet, mode: Mode)
+    ensures { TextAppended out.old out.new (count_text sheet.values mode) 20 }
 {
-    let blank = formatting::append_byte(out, used, b' ');
-    let word = crate::mode::append_mode(out, blank, mode);
-    let end = formatting::append_byte(out, word, b'=');
-    formatting::append_decimal(out, end, sheet.scans_in(mode) as u64)
+    append_name(out, crate::mode::word_of(mode));
+    out.push_decimal(sheet.scans_in(mode) as u64);
 }
 
 // The counts of all modes. The contract rules out one that is left out, and another order.
-fn append_counts(out: &mut [u8], used: usize, sheet: Sheet) -> usize
-    ensures { TextAppended out.old out.new used result (counts_text sheet.values) 160 }
+fn append_counts<const N: usize>(out: &mut Text<N>, sheet: Sheet)
+    ensures { TextAppended out.old out.new (counts_text sheet.values) 160 }
 {
-    let hold = append_count(out, used, sheet, Mode::Hold);
-    let track = append_count(out, hold, sheet, Mode::Track);
-    let forced = append_count(out, track, sheet, Mode::Forced);
-    let manual = append_count(out, forced, sheet, Mode::Manual);
-    let auto = append_count(out, manual, sheet, Mode::Auto);
-    let remote = append_count(out, auto, sheet, Mode::Remote);
-    let ratio = append_count(out, remote, sheet, Mode::Ratio);
-    append_count(out, ratio, sheet, Mode::Fallback)
+    append_count(out, sheet, Mode::Hold);
+    append_count(out, sheet, Mode::Track);
+    append_count(out, sheet, Mode::Forced);
+    append_count(out, sheet, Mode::Manual);
+    append_count(out, sheet, Mode::Auto);
+    append_count(out, sheet, Mode::Remote);
+    append_count(out, sheet, Mode::Ratio);
+    append_count(out, sheet, Mode::Fallback);
 }
 
 // The text of a sheet, without the line's end. The contract gives every byte, so it rules out a value that is
 // another's.
-pub fn append_sheet(out: &mut [u8], used: usize, sheet: Sheet) -> usize
-    ensures { TextAppended out.old out.new used result (sheet_text sheet.values) 308 }
+pub fn append_sheet<const N: usize>(out: &mut Text<N>, sheet: Sheet)
+    ensures { TextAppended out.old out.new (sheet_text sheet.values) 308 }
 {
-    let name = formatting::append_bytes(out, used, b"sheet");
-    let scans = append_number(out, name, b"scans", sheet.scans());
-    let counts = append_counts(out, scans, sheet);
-    let extremes = append_extremes(out, counts, sheet);
-    let alarms = append_number(out, extremes, b"alarms", sheet.scans_with_alarm());
-    let sumpv = append_sum(out, alarms, b"sumpv", sheet.sum_pv());
-    append_sum(out, sumpv, b"sumop", sheet.sum_op())
+    out.push_all(b"sheet");
+    append_number(out, b"scans", sheet.scans());
+    append_counts(out, sheet);
+    append_extremes(out, sheet);
+    append_number(out, b"alarms", sheet.scans_with_alarm());
+    append_sum(out, b"sumpv", sheet.sum_pv());
+    append_sum(out, b"sumop", sheet.sum_op());
 }

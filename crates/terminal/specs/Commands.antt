@@ -1,10 +1,31 @@
 -- Document 02, request 4: "A line is a mnemonic from document 01's table .. and perhaps, after the sign >, a value".
-use Rattle.std.specs.Prelude.{Bool, ◌&&◌, List, [], ◌∷◌, ℕ, eqb, leb, ℤ, pos, drop, if◌then◌else◌}
+use Rattle.std.specs.Prelude as answer
+use Rattle.std.specs.Prelude.{Result, Ok, Err, Bool, ◌&&◌, List, [], ◌∷◌, ℕ, eqb, leb, ℤ, pos, drop, if◌then◌else◌}
 use Rattle.std.proofs.Math.Option.{Option, some, none}
 use Rattle.numerals.specs.Numerals.{integer_of, word_of}
+use Rattle.signals.specs.declared.Refusal.{Refusal}
+use Rattle.signals.specs.declared.Refusal.TheVariants.{Mnemonic, ValueForm}
 use Rattle.terminal.specs.Mnemonics.{named}
-use Rattle.terminal.specs.declared.command.Command.{Command}
-use Rattle.terminal.specs.declared.command.Command.TheVariants.{Read, Write, NoMnemonic, NoValue}
+use Rattle.terminal.specs.declared.command.Command as code
+use Rattle.terminal.specs.declared.command.Command.TheVariants as code_command
+
+-- what a line asks
+pub data Command : Type 0 where
+  -- the first two bytes are no mnemonic
+  NoMnemonic : Command
+  -- what follows isn't nothing, or > with a value of the parameter's form
+  NoValue : Command
+  -- of a parameter's number
+  Read : ℕ → Command
+  -- of a parameter's number and a value
+  Write : ℕ → ℤ → Command
+
+-- the same for the code
+abbrev pub asked : Command → Result code.Command Refusal
+asked NoMnemonic = Err Mnemonic
+asked NoValue = Err ValueForm
+asked (Read n) = Ok (code_command.Read n)
+asked (Write n v) = Ok (code_command.Write n v)
 
 -- the parameters whose values have the form of a word, "MD, DS, SW and II": numbers 24 to 27
 unfoldable pub is_word : ℕ → Bool
@@ -18,6 +39,11 @@ unsigned (some n) = some (pos n)
 -- an optional leading minus"
 unfoldable pub value_of : ℕ → List ℕ → Option ℤ
 value_of n bytes = if is_word n then unsigned (word_of bytes) else integer_of 5 bytes
+
+-- the same for the code
+abbrev pub value_in : Option ℤ → answer.Option ℤ
+value_in none = answer.None
+value_in (some v) = answer.Some v
 
 -- a line that names the parameter n and has such a value, or what has no such form
 abbrev pub writing : ℕ → Option ℤ → Command

@@ -3,10 +3,11 @@ use Rattle.std.specs.Prelude.{◌≡◌, Bool, true, false, List, [], ◌∷◌,
 use Rattle.std.specs.Prelude.{if◌then◌else◌}
 use Rattle.std.proofs.Math.Path.{refl}
 use Rattle.std.proofs.Common.{sym, ap, ◌∙◌, arith, drop-cons, eqb-true, le-ltb, ltb-false}
+use Rattle.std.specs.Prelude.{Some, None}
 use Rattle.std.proofs.Math.Option.{Option, some, none}
 use Rattle.integers.specs.Choice.{both}
 use Rattle.integers.specs.Listed.{listed, listed_same}
-use Rattle.terminal.specs.Mnemonics.{mnemonics, mnemonic, is_of, numbered, named, number_or}
+use Rattle.terminal.specs.Mnemonics.{mnemonics, mnemonic, is_of, numbered, named, number_in}
 
 -- ---- the letters of all mnemonics, one after another
 
@@ -93,24 +94,21 @@ named_range line n e = go (ltb (length line) 2) refl e
         let r = numbered_range 1 n mnemonics (get_or line 0 0) (get_or line 1 0) g in
         record { two = ltb-false (length line) 2 f; least = r.0; most = omega (arith, r.1) }
 
--- ---- the search's answer in a number, 0 for none
+-- ---- the search's answer for the code
 
-pub no_name : (line : List ℕ) → number_or (named line) ≡ 0 → named line ≡ none
-no_name line e = go (named line) refl
+pub no_name : (line : List ℕ) → None ≡ number_in (named line) → named line ≡ none
+no_name line e = go (named line) e
   where
-    go : (o : Option ℕ) → named line ≡ o → named line ≡ none
-    go none f = f
-    go (some n) f =
-        let is : n ≡ 0 = ap number_or (sym f) ∙ e in
-        let r = named_range line n f in
-        absurd (omega (arith, r.least))
+    go : (o : Option ℕ) → None ≡ number_in o → o ≡ none
+    go none f = refl
+    go (some n) f = cc
 
-pub name_found : (line : List ℕ) (n : ℕ) → number_or (named line) ≡ n → (n ≡ 0 → ⊥) → named line ≡ some n
-name_found line n e other = go (named line) refl
+pub name_found : (line : List ℕ) (n : ℕ) → Some n ≡ number_in (named line) → named line ≡ some n
+name_found line n e = go (named line) e
   where
-    go : (o : Option ℕ) → named line ≡ o → named line ≡ some n
-    go none f = absurd (other (sym e ∙ ap number_or f))
-    go (some m) f = let is : m ≡ n = ap number_or (sym f) ∙ e in f ∙ ap some is
+    go : (o : Option ℕ) → Some n ≡ number_in o → o ≡ some n
+    go none f = cc
+    go (some m) f = cc
 
 -- ---- each mnemonic names its own number, and no other two bytes do
 

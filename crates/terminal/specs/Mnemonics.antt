@@ -1,4 +1,5 @@
 -- Document 02, request 4: "a mnemonic from document 01's table (1H to MP, capitals)".
+use Rattle.std.specs.Prelude as answer
 use Rattle.std.specs.Prelude.{Bool, ◌&&◌, List, [], ◌∷◌, ℕ, suc, eqb, ltb, length, get_or, if◌then◌else◌}
 use Rattle.std.proofs.Math.Option.{Option, some, none}
 use Rattle.formatting.specs.Ascii.{ascii}
@@ -30,7 +31,7 @@ numbered n (m ∷ ms) first second = if is_of m first second then some n else nu
 unfoldable pub named : List ℕ → Option ℕ
 named line = if ltb (length line) 2 then none else numbered 1 mnemonics (get_or line 0 0) (get_or line 1 0)
 
--- the same for the code: 0 where they name none
-abbrev pub number_or : Option ℕ → ℕ
-number_or none = 0
-number_or (some n) = n
+-- the same for the code
+abbrev pub number_in : Option ℕ → answer.Option ℕ
+number_in none = answer.None
+number_in (some n) = answer.Some n

@@ -13,8 +13,7 @@ use Rattle.controller.specs.declared.Controller.{Controller}
 use Rattle.terminal.specs.Commands.{is_word, command_in}
 use Rattle.terminal.specs.Mnemonics.{mnemonic}
 use Rattle.terminal.specs.declared.LineResult.{LineResult}
-use Rattle.terminal.specs.declared.command.Command.{Command}
-use Rattle.terminal.specs.declared.command.Command.TheVariants.{Read, Write, NoMnemonic, NoValue}
+use Rattle.terminal.specs.Commands.{Command, Read, Write, NoMnemonic, NoValue}
 
 -- ---- "The reply is the mnemonic, > and the present value, four hexadecimal capitals or the shortest decimal"
 

@@ -1,7 +1,7 @@
 -- Laws of what comes of a line: a read of a named parameter, the length of a reply; the next controller is valid.
-use Rattle.std.specs.Prelude.{◌≡◌, true, false, ℕ, ◌+◌, ◌≤◌, eqb, leb, ltb, ℤ, pos, nat_abs, get_or}
+use Rattle.std.specs.Prelude.{Ok, Err, ◌≡◌, true, false, ℕ, ◌≤◌, eqb, leb, ltb, ℤ, pos, nat_abs, get_or}
 use Rattle.std.proofs.Math.Path.{refl, ap}
-use Rattle.std.proofs.Common.{sym, subst, ◌∙◌, zero-add, length-append, eqb-true, leb-true}
+use Rattle.std.proofs.Common.{sym, subst, ◌∙◌, length-append, eqb-true, leb-true}
 use mathlib.Core.List.{List, [], ◌∷◌, ◌++◌}
 use Rattle.std.proofs.Math.Option.{Option, some, none}
 use native.Mathlib.Omega.{arith}
@@ -12,9 +12,11 @@ use Rattle.integers.specs.Listed.{listed, listed_same}
 use Rattle.numerals.specs.DigitLaws.{digits_length}
 use Rattle.numerals.specs.Numerals.{decimal, hexadecimal_word}
 use Rattle.numerals.specs.Shortest.{decimal_few}
-use Rattle.signals.specs.Refusals.{refused_by}
-use Rattle.formatting.specs.Buffer.{buffer, append_all}
-use Rattle.formatting.specs.Laws.{replaced, append_room}
+use Rattle.signals.specs.Refusals.{number_of, refused_by}
+use Rattle.signals.specs.declared.Refusal.{Refusal}
+use Rattle.signals.specs.declared.Refusal.TheVariants.{Mnemonic, ValueForm}
+use Rattle.formatting.specs.Buffer.{Buffer, buffer, append_all, filled, written}
+use Rattle.formatting.specs.Laws.{append_front}
 use Rattle.parameters.specs.LegalLaws.{value_most}
 use Rattle.parameters.specs.RuleLaws.{is_known}
 use Rattle.parameters.specs.Table.{is_from}
@@ -26,13 +28,13 @@ use Rattle.controller.specs.Valid.{Valid}
 use Rattle.controller.specs.Write.{write_tests, write}
 use Rattle.controller.specs.WriteLaws.{valid_write}
 use Rattle.controller.specs.declared.Controller.{Controller}
-use Rattle.terminal.specs.Commands.{is_word, value_of, writing, command_of, command_by, command_in}
+use Rattle.terminal.specs.Commands.{is_word, value_of, writing, command_of, command_by, command_in, asked}
 use Rattle.terminal.specs.MnemonicLaws.{named_range}
 use Rattle.terminal.specs.Mnemonics.{mnemonic, named}
 use Rattle.terminal.specs.Terminal.{value_text, reply_text, present_value, replied, wrote_or, read_to, written_to, answered_to, answered}
 use Rattle.terminal.specs.Terminal.{refused_line, LineOutcome}
-use Rattle.terminal.specs.declared.command.Command.{Command}
-use Rattle.terminal.specs.declared.command.Command.TheVariants.{Read, Write, NoMnemonic, NoValue}
+use Rattle.terminal.specs.Commands.{Command, Read, Write, NoMnemonic, NoValue}
+use Rattle.terminal.specs.declared.command.Command.TheVariants as code_command
 
 -- ---- a parameter that a mnemonic names
 
@@ -122,18 +124,13 @@ module _ (n : ℕ) (v : ℤ) (least : 1 ≤ n) (most : n ≤ 32) where
   unfolding reply_text
   reply_bytes = ap (λ (m : List ℕ). m ++ (62 ∷ value_text n v)) (both_letters (mnemonic n) (mnemonic_length n least most))
 
-  -- appended to a buffer of which nothing was used
-  pub reply_written : (out after : List ℕ) (end : ℕ) → (is_word n ≡ false → nat_abs v ≤ 19998) → 9 ≤ length out →
-      buffer after end ≡ append_all (buffer out 0) (get_or (mnemonic n) 0 0 ∷ get_or (mnemonic n) 1 0 ∷ 62 ∷ value_text n v) →
-      (end ≡ length (reply_text n v)) × (after ≡ reply_text n v ++ drop (length (reply_text n v)) out)
-  unfolding replaced
-  reply_written out after end few room e =
-      let text = reply_text n v in
-      let fits : 0 + length text ≤ length out = omega (arith, reply_length n v least most few) in
-      let whole = e ∙ ap (append_all (buffer out 0)) reply_bytes ∙ append_room text out 0 fits in
-      let bytes : after ≡ text ++ drop (0 + length text) out = cc in
-      let count : end ≡ 0 + length text = cc in
-      (omega arith, bytes ∙ ap (λ (k : ℕ). text ++ drop k out) (zero-add (length text)))
+  -- written where nothing was
+  pub reply_written : (out : List ℕ) (after : Buffer) → (is_word n ≡ false → nat_abs v ≤ 19998) → 9 ≤ length out →
+      after ≡ append_all (buffer out 0) (get_or (mnemonic n) 0 0 ∷ get_or (mnemonic n) 1 0 ∷ 62 ∷ value_text n v) →
+      (filled after ≡ length (reply_text n v)) × (written after ≡ reply_text n v)
+  reply_written out after few room e =
+      append_front
+      (reply_text n v) out after (omega (arith, reply_length n v least most few)) (e ∙ ap (append_all (buffer out 0)) reply_bytes)
 
 -- ---- the number of a command that a line has
 
@@ -200,3 +197,33 @@ valid_line c w line room valid = line_valid c w room _ valid
 pub with_valid : (c : Controller) (w : Writer) (line room : List ℕ) (o : LineOutcome) → Valid c → o ≡ answered c w line room →
     (o ≡ answered c w line room) × Valid o.next
 with_valid c w line room o valid is = (is, rw is (valid_line c w line room valid))
+
+-- ---- what a line asks, in the code's form
+
+-- the mnemonic names a parameter
+pub read_asked : (line : List ℕ) (n : ℕ) → Ok (code_command.Read n) ≡ asked (command_in line) → command_in line ≡ Read n
+read_asked line n e = go (command_in line) e
+  where
+    go : (k : Command) → Ok (code_command.Read n) ≡ asked k → k ≡ Read n
+    go NoMnemonic f = cc
+    go NoValue f = cc
+    go (Read m) f = cc
+    go (Write m v) f = cc
+
+pub write_asked : (line : List ℕ) (n : ℕ) (v : ℤ) → Ok (code_command.Write n v) ≡ asked (command_in line) → command_in line ≡ Write n v
+write_asked line n v e = go (command_in line) e
+  where
+    go : (k : Command) → Ok (code_command.Write n v) ≡ asked k → k ≡ Write n v
+    go NoMnemonic f = cc
+    go NoValue f = cc
+    go (Read m) f = cc
+    go (Write m u) f = cc
+
+-- a refusal's number is the line's
+pub refused_asked : (c : Controller) (w : Writer) (lent : List ℕ) (k : Command) (r : Refusal) → Err r ≡ asked k
+    → refused_line c lent (number_of r) ≡ answered_to c w lent k
+unfolding answered_to
+refused_asked c w lent NoMnemonic r e = let is : r ≡ Mnemonic = cc in rw is refl
+refused_asked c w lent NoValue r e = let is : r ≡ ValueForm = cc in rw is refl
+refused_asked c w lent (Read n) r e = cc
+refused_asked c w lent (Write n v) r e = cc

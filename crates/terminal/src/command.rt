@@ -1,15 +1,11 @@
 // What a line asks: a read or a write of the parameter that it names. A line of another form asks nothing.
-ghost use Rattle.std.specs.Prelude.{◌≡◌, true, false, ◌≤◌, length, drop};
-ghost use Rattle.terminal.specs.Commands.{is_word, value_of, writing, command_of, command_in};
+ghost use Rattle.std.specs.Prelude.{◌≡◌};
+ghost use Rattle.terminal.specs.Commands.{is_word, value_of, value_in, command_in, asked};
 
-use numerals::{ParsedNumber, ParsedWord};
+use signals::Refusal;
 
 #[derive(Clone, Copy)]
 pub enum Command {
-    // the first two bytes are no mnemonic
-    NoMnemonic,
-    // what follows isn't nothing, or > with a value of the parameter's form
-    NoValue,
     // a parameter's number
     Read(u64),
     // a parameter's number and a value
@@ -17,63 +13,40 @@ pub enum Command {
 }
 
 // MD, DS, SW and II. The contract rules out that OP, the next one, is taken for a word.
+#[tactic(auto, unfolding(crate::specs::Commands::is_word))]
 pub fn is_word(number: u64) -> bool
     ensures { result ≡ is_word number }
 {
-    if number < parameters::MD {
-        false
-    } else {
-        number <= parameters::II
-    }
+    parameters::MD <= number && number <= parameters::II
 }
 
-fn word(number: u64, bytes: &[u8]) -> Command
-    requires { is_word number ≡ true }
-    ensures { result ≡ writing number (value_of number bytes.now) }
+// A value of the parameter's form. The contract rules out a value of another form, and another one in its place.
+fn value(number: u64, bytes: &[u8]) -> Option<i32>
+    ensures { result ≡ value_in (value_of number bytes.now) }
 {
-    let reading = numerals::word(bytes);
-    match reading {
-        ParsedWord::Word(value) => Command::Write(number, value as i32),
-        ParsedWord::Malformed => Command::NoValue,
-    }
-}
-
-fn decimal(number: u64, bytes: &[u8]) -> Command
-    requires { is_word number ≡ false }
-    ensures { result ≡ writing number (value_of number bytes.now) }
-{
-    let reading = numerals::number(bytes, 5);
-    match reading {
-        ParsedNumber::Number(value) => Command::Write(number, value as i32),
-        ParsedNumber::Malformed => Command::NoValue,
-    }
-}
-
-// By what stands behind the mnemonic. The contract rules out another sign than >, and a value of another form.
-fn behind(number: u64, line: &[u8]) -> Command
-    requires { 2 ≤ length line.now }
-    ensures { result ≡ command_of number (drop 2 line.now) }
-{
-    if line.len() == 2 {
-        return Command::Read(number);
-    }
-    if line[2] != b'>' {
-        return Command::NoValue;
-    }
     if is_word(number) {
-        return word(number, &line[3..]);
+        let word = numerals::word(bytes)?;
+        return Some(word as i32);
     }
-    decimal(number, &line[3..])
+    let decimal = numerals::number(bytes, 5)?;
+    Some(decimal as i32)
 }
 
-// Any bytes, any length. The contract rules out a command that the line doesn't have, and a line with one that is taken
-// for none.
-pub fn parse(line: &[u8]) -> Command
-    ensures { result ≡ command_in line.now }
+// Any bytes, any length: refused where the first two bytes are no mnemonic, and where what follows isn't nothing, or >
+// with a value of the parameter's form. The contract rules out a command that the line doesn't have, a line with one
+// that is taken for none, and another refusal.
+pub fn parse(line: &[u8]) -> Result<Command, Refusal>
+    ensures { result ≡ asked (command_in line.now) }
 {
-    let number = crate::mnemonic::named(line);
-    if number == 0 {
-        return Command::NoMnemonic;
+    let Some(number) = crate::mnemonic::named(line) else {
+        return Err(Refusal::Mnemonic);
+    };
+    match line {
+        [_, _] => Ok(Command::Read(number)),
+        [_, _, b'>', bytes @ ..] => match value(number, bytes) {
+            Some(value) => Ok(Command::Write(number, value)),
+            None => Err(Refusal::ValueForm),
+        },
+        _ => Err(Refusal::ValueForm),
     }
-    behind(number, line)
 }

@@ -92,11 +92,9 @@ pub fn answer(controller: Controller, writer: Writer, line: &[u8], reply: &mut [
     ensures { (outcome_of result reply.new ≡ answered controller writer line.now reply.old)
         × Valid result.controller }
 {
-    let command = command::parse(line);
-    match command {
-        Command::NoMnemonic => refused(controller, Refusal::Mnemonic),
-        Command::NoValue => refused(controller, Refusal::ValueForm),
-        Command::Read(number) => read(controller, number, reply),
-        Command::Write(number, value) => write(controller, writer, number, value, reply),
+    match command::parse(line) {
+        Ok(Command::Read(number)) => read(controller, number, reply),
+        Ok(Command::Write(number, value)) => write(controller, writer, number, value, reply),
+        Err(refusal) => refused(controller, refusal),
     }
 }

@@ -1,6 +1,6 @@
 // The mnemonics of the parameters, by number.
-ghost use Rattle.std.specs.Prelude.{◌≡◌, get_or, ◌≤◌};
-ghost use Rattle.terminal.specs.Mnemonics.{mnemonic, is_of, named, number_or};
+ghost use Rattle.std.specs.Prelude.{◌≡◌, get_or, ◌≤◌, IfSome};
+ghost use Rattle.terminal.specs.Mnemonics.{mnemonic, is_of, named, number_in};
 
 // One of the two letters of a parameter, 1 to 32. The contract rules out a neighbour's.
 pub fn letter(number: u64, place: usize) -> u8
@@ -11,31 +11,26 @@ pub fn letter(number: u64, place: usize) -> u8
     table[2 * (number as usize - 1) + place]
 }
 
+#[tactic(auto, unfolding(crate::specs::Mnemonics::is_of))]
 fn is_of(number: u64, first: u8, second: u8) -> bool
     requires { (1 ≤ number) × (number ≤ 32) }
     ensures { result ≡ is_of (mnemonic number) first second }
 {
-    if letter(number, 0) == first {
-        letter(number, 1) == second
-    } else {
-        false
-    }
+    letter(number, 0) == first && letter(number, 1) == second
 }
 
-// The number that a line's first two bytes name; 0 where they are no mnemonic. The contract rules out a small letter
-// and a number of another row.
-pub fn named(line: &[u8]) -> u64
-    ensures { (result ≡ number_or (named line.now)) × (result ≤ 32) }
+// The number that a line's first two bytes name. The contract rules out a small letter and a number of another row.
+pub fn named(line: &[u8]) -> Option<u64>
+    ensures value { result ≡ number_in (named line.now) }
+    ensures range { IfSome result (λ n. (1 ≤ n) × (n ≤ 32)) }
 {
-    if line.len() < 2 {
-        return 0;
-    }
-    let mut number: u64 = 1;
-    while number <= parameters::MP {
-        if is_of(number, line[0], line[1]) {
-            return number;
+    let &[first, second, ..] = line else {
+        return None;
+    };
+    for number in 1..=parameters::MP {
+        if is_of(number, first, second) {
+            return Some(number);
         }
-        number += 1;
     }
-    0
+    None
 }

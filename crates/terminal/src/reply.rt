@@ -1,17 +1,34 @@
 // The reply: the mnemonic, > and a value.
 ghost use Rattle.std.specs.Prelude.{◌≡◌, false, ◌++◌, ◌≤◌, nat_abs, length, drop};
-ghost use Rattle.formatting.specs.Buffer.{buffer, append_all};
+ghost use Rattle.formatting.specs.Buffer.{append_all, written};
 ghost use Rattle.terminal.specs.Commands.{is_word};
 ghost use Rattle.terminal.specs.Terminal.{value_text, reply_text};
 
+use crate::REPLY_LENGTH;
+use formatting::Text;
+
 // The value in its form. The contract rules out a word in decimal and a number in hexadecimal.
-fn append_value(out: &mut [u8], used: usize, number: u64, value: i64) -> usize
-    ensures { buffer out.new result ≡ append_all (buffer out.old used) (value_text number value) }
+fn append_value<const N: usize>(out: &mut Text<N>, number: u64, value: i64)
+    ensures { out.new ≡ append_all out.old (value_text number value) }
 {
     if crate::command::is_word(number) {
-        return formatting::append_word(out, used, value.unsigned_abs());
+        out.push_word(value.unsigned_abs());
+    } else {
+        out.push_signed(value);
     }
-    formatting::append_signed(out, used, value)
+}
+
+// All of it; the longest fits.
+fn whole(number: u64, value: i32) -> Text<REPLY_LENGTH>
+    requires { (1 ≤ number) × (number ≤ 32) × (is_word number ≡ false → nat_abs value ≤ 19998) }
+    ensures { (written result ≡ reply_text number value) × (length (reply_text number value) ≤ 9) }
+{
+    let mut text = Text::new();
+    text.push(crate::mnemonic::letter(number, 0));
+    text.push(crate::mnemonic::letter(number, 1));
+    text.push(b'>');
+    append_value(&mut text, number, i64::from(value));
+    text
 }
 
 // At the front of a buffer that holds the longest reply. The contract gives every byte of the buffer, so it rules out a
@@ -21,8 +38,8 @@ pub fn write(number: u64, value: i32, out: &mut [u8]) -> usize
     ensures { (result ≡ length (reply_text number value))
         × (out.new ≡ reply_text number value ++ drop (length (reply_text number value)) out.old) }
 {
-    let first = formatting::append_byte(out, 0, crate::mnemonic::letter(number, 0));
-    let second = formatting::append_byte(out, first, crate::mnemonic::letter(number, 1));
-    let sign = formatting::append_byte(out, second, b'>');
-    append_value(out, sign, number, i64::from(value))
+    let text = whole(number, value);
+    let bytes = text.as_slice();
+    out[..bytes.len()].copy_from_slice(bytes);
+    bytes.len()
 }

@@ -28,8 +28,7 @@ use Rattle.terminal.specs.Terminal.{read_to, written_to, outcome_of}
 use Rattle.controller.specs.WriteLaws.{write_accepted_lem, write_refused}
 use Rattle.terminal.specs.TerminalLaws.{with_valid}
 use Rattle.terminal.specs.declared.LineResult.{LineResult}
-use Rattle.terminal.specs.declared.command.Command.{Command}
-use Rattle.terminal.specs.declared.command.Command.TheVariants.{Read, Write, NoMnemonic, NoValue}
+use Rattle.terminal.specs.Commands.{Command, Read, Write, NoMnemonic, NoValue}
 use Rattle.terminal_guarantee.specs.Lines.{Lifetimes}
 use Rattle.terminal_guarantee.specs.Visits.{Events, none, ◌then◌, call, line, Visited, started, scanned, wrote, restarted, typed}
 use Rattle.terminal_guarantee.specs.Visits.{AlwaysVisited}

@@ -37,8 +37,7 @@ use Rattle.modes.specs.declared.Mode.{Mode}
 use Rattle.words.specs.Words.{md_high, md_low, MD}
 use Rattle.words.specs.declared.Indications.{Indications}
 use Rattle.words.specs.declared.UserBits.{UserBits}
-use Rattle.terminal.specs.declared.command.Command.{Command}
-use Rattle.terminal.specs.declared.command.Command.TheVariants.{Read, Write, NoMnemonic, NoValue}
+use Rattle.terminal.specs.Commands.{Command, Read, Write, NoMnemonic, NoValue}
 use Rattle.terminal_guarantee.specs.Forms.{letters, InTable, Value, a_read, a_write, Asks, reads, writes}
 use Rattle.terminal_guarantee.specs.Lines.{Displayed, as_word_lem, as_decimal, Replied, RefusedWith}
 use Rattle.terminal_guarantee.specs.Lines.{Written, refused_write, accepted_write}

@@ -14,8 +14,7 @@ use Rattle.integers.specs.Listed.{listed, listed_same}
 use Rattle.terminal.specs.Commands.{value_of, writing, command_of, command_by, command_in}
 use Rattle.terminal.specs.MnemonicLaws.{begins_with, names, named_range}
 use Rattle.terminal.specs.Mnemonics.{mnemonic, named}
-use Rattle.terminal.specs.declared.command.Command.{Command}
-use Rattle.terminal.specs.declared.command.Command.TheVariants.{Read, Write, NoMnemonic, NoValue}
+use Rattle.terminal.specs.Commands.{Command, Read, Write, NoMnemonic, NoValue}
 use Rattle.terminal_guarantee.specs.Forms.{letters, InTable, Asked, a_read, a_write, Asks, reads, writes}
 use Rattle.terminal_guarantee.specs.Lines.{OneMeaning}
 use Rattle.terminal_guarantee.proofs.Forms.{apart, value_form, form_value}

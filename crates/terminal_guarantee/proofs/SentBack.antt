@@ -35,8 +35,7 @@ use Rattle.terminal.specs.Terminal.{value_text, reply_text, present_value, LineO
 use Rattle.terminal.specs.Terminal.{wrote_or, read_to, written_to, answered_to, answered, outcome_of, reply_of_line}
 use Rattle.terminal.specs.TerminalLaws.{value_few}
 use Rattle.terminal.specs.declared.LineResult.{LineResult}
-use Rattle.terminal.specs.declared.command.Command.{Command}
-use Rattle.terminal.specs.declared.command.Command.TheVariants.{Read, Write, NoMnemonic, NoValue}
+use Rattle.terminal.specs.Commands.{Command, Read, Write, NoMnemonic, NoValue}
 use Rattle.terminal_guarantee.specs.Forms.{letters, InTable, Asked, a_read, a_write, Asks, reads, writes}
 use Rattle.terminal_guarantee.specs.Lines.{RefusedWith}
 use Rattle.terminal_guarantee.specs.SentBack.{ReplySentBack}

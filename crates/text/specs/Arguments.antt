@@ -1,15 +1,10 @@
 -- The numbers of a line from a position on, as a call's arguments: at most six.
-use Rattle.std.specs.Prelude.{Bool, true, false, ◌&&◌, ◌||◌, cond, List, [], ◌∷◌, ◌++◌, ℕ, zero, suc, ◌-◌, eqb, ltb, ℤ, pos, neg_ℤ, nat_abs}
-use Rattle.std.specs.Prelude.{length, take, drop, get_or, replicate}
+use Rattle.std.specs.Prelude.{◌&&◌, ◌||◌, cond, List, [], ◌∷◌, ℕ, zero, suc, ◌-◌, eqb, ltb, ℤ, pos, neg_ℤ, nat_abs}
+use Rattle.std.specs.Prelude.{length, take, drop, get_or, Option, Some, None}
 use Rattle.std.specs.Int.Signed.{le_z}
 use Rattle.integers.specs.Sign.{is_negative}
 use Rattle.numerals.specs.Parsed.{number_of}
-use Rattle.numerals.specs.declared.ParsedNumber.{ParsedNumber}
-use Rattle.numerals.specs.declared.ParsedNumber.TheVariants.{Number, Malformed}
-use Rattle.text.specs.Words.{word_at, same_bytes}
-use Rattle.text.specs.declared.arguments.Arguments.{Arguments}
-use Rattle.text.specs.declared.arguments.Integer.{Integer}
-use Rattle.text.specs.declared.arguments.Natural.{Natural}
+use Rattle.text.specs.Words.{word_at}
 
 -- the bytes of a line from a position up to another
 abbrev pub part : List ℕ → ℕ → ℕ → List ℕ
@@ -23,25 +18,21 @@ first_words (suc most) line at =
     cond (eqb w.from w.to) [] (part line w.from w.to ∷ first_words most line w.to)
 
 -- a number in front of others; what is no number ends them
-unfoldable pub in_front : ParsedNumber → List ℤ → List ℤ
-in_front (Number value) others = value ∷ others
-in_front Malformed others = []
+unfoldable pub in_front : Option ℤ → List ℤ → List ℤ
+in_front (Some value) others = value ∷ others
+in_front None others = []
 
 -- the numbers of up to eighteen digits that words are, up to the first word that is none
 unfoldable pub numbers_of : List (List ℕ) → List ℤ
 numbers_of [] = []
 numbers_of (w ∷ ws) = in_front (number_of 18 w) (numbers_of ws)
 
--- six values: the numbers, and zeros behind them
-unfoldable pub padded : List ℤ → List ℤ
-padded numbers = numbers ++ replicate (6 - length numbers) (pos 0)
-
--- numbers, read of so many words
-unfoldable pub read_of : List ℤ → ℕ → Arguments
-read_of numbers words = record { ok = eqb (length numbers) words; count = length numbers; values = padded numbers }
+-- numbers, read of so many words: each word must be one
+unfoldable pub read_of : List ℤ → ℕ → Option (List ℤ)
+read_of numbers words = cond (eqb (length numbers) words) (Some numbers) None
 
 -- A seventh word is looked for, so that more than six are told from six.
-unfoldable pub arguments_from : List ℕ → ℕ → Arguments
+unfoldable pub arguments_from : List ℕ → ℕ → Option (List ℤ)
 arguments_from line at =
     let words = first_words 7 line at in
     read_of (numbers_of (take 6 words)) (length words)
@@ -50,24 +41,16 @@ arguments_from line at =
 abbrev pub argument : List ℤ → ℕ → ℤ
 argument values i = get_or values i (pos 0)
 
--- whether all arguments are numbers and there are so many
-abbrev pub has_count : Arguments → ℕ → Bool
-has_count arguments count = cond arguments.ok (eqb arguments.count count) false
-
--- whether a word is a call's name, and the call has so many arguments
-abbrev pub is_call : List ℕ → List ℕ → Arguments → ℕ → Bool
-is_call word name arguments count = cond (same_bytes word name) (has_count arguments count) false
+-- what follows of a value, where there is one
+abbrev pub given : {A B : Type 0} → Option A → (A → Option B) → Option B
+given None f = None
+given (Some a) f = f a
 
 -- an integer as a natural number from least to most
-unfoldable pub natural_in : ℤ → ℕ → ℕ → Natural
+unfoldable pub natural_in : ℤ → ℕ → ℕ → Option ℕ
 natural_in value least most =
-    cond (is_negative value || (ltb (nat_abs value) least || ltb most (nat_abs value)))
-    (record { ok = false; value = least })
-    (record { ok = true; value = nat_abs value })
+    cond (is_negative value || (ltb (nat_abs value) least || ltb most (nat_abs value))) None (Some (nat_abs value))
 
 -- an integer of 32 bits
-unfoldable pub integer_in : ℤ → Integer
-integer_in value =
-    cond (le_z (neg_ℤ (pos 2147483648)) value && le_z value (pos 2147483647))
-    (record { ok = true; value = value })
-    (record { ok = false; value = pos 0 })
+unfoldable pub integer_in : ℤ → Option ℤ
+integer_in value = cond (le_z (neg_ℤ (pos 2147483648)) value && le_z value (pos 2147483647)) (Some value) None

@@ -1,5 +1,5 @@
 -- Laws of a line's arguments: what is known of them while words are read one by one.
-use Rattle.std.specs.Prelude.{◌≡◌, refl, Bool, true, false, cond, ℤ, pos, take, replicate, set}
+use Rattle.std.specs.Prelude.{◌≡◌, refl, cond, ℤ, pos, take, replicate, set, Option, Some, None}
 use Rattle.std.proofs.Math.Path.{sym, ap}
 use Rattle.std.proofs.Common.{◌∙◌, zero-add, length-set, take-suc-set, length-take-le}
 use mathlib.Core.List.{List, [], ◌∷◌, ◌++◌, append-nil}
@@ -9,30 +9,24 @@ use Rattle.std.proofs.Math.Numerals.{add-one}
 use native.Mathlib.Omega.{arith}
 use Rattle.std.proofs.Math.Dec.{eqb}
 use Rattle.std.proofs.Math.ListN.{length, length-append}
-use Rattle.std.proofs.lemmas.List.{set_at}
 use Rattle.std.proofs.Math.Seq.{take-nil, append_snoc}
 use borrow.Author.Tests.{eq-eqb, ne_eqb}
 use Rattle.numerals.specs.Parsed.{number_of}
-use Rattle.numerals.specs.declared.ParsedNumber.TheVariants.{Number, Malformed}
 use Rattle.text.specs.Words.{word_at}
-use Rattle.text.specs.Arguments.{part, first_words, in_front, numbers_of, padded, read_of, arguments_from}
+use Rattle.text.specs.Arguments.{part, first_words, in_front, numbers_of, read_of, arguments_from}
 use Rattle.text.specs.declared.Span.{Span}
-use Rattle.text.specs.declared.arguments.Arguments.{Arguments}
-
-abbrev pub result : Bool → ℕ → List ℤ → Arguments
-result ok count values = record { ok = ok; count = count; values = values }
 
 -- numbers that were read, and the words that follow them
-unfoldable pub gathered : List ℤ → List (List ℕ) → Arguments
+unfoldable pub gathered : List ℤ → List (List ℕ) → Option (List ℤ)
 gathered before words = read_of (before ++ numbers_of (take (6 - length before) words)) (length before + length words)
 
-stopped : (k : ℕ) (w : List ℕ) (ws : List (List ℕ)) → number_of 18 w ≡ Malformed → numbers_of (take k (w ∷ ws)) ≡ []
+stopped : (k : ℕ) (w : List ℕ) (ws : List (List ℕ)) → number_of 18 w ≡ None → numbers_of (take k (w ∷ ws)) ≡ []
 unfolding numbers_of in_front
 stopped zero w ws e = refl
 stopped (suc k) w ws e = rw e
 
 module _ (before : List ℤ) where
-  gather_none : gathered before [] ≡ result true (length before) (padded before)
+  gather_none : gathered before [] ≡ Some before
   unfolding gathered read_of numbers_of
   gather_none =
       rw (take-nil {A = List ℕ} (6 - length before), append-nil before, add-zero (length before))
@@ -44,7 +38,7 @@ module _ (before : List ℤ) where
   gather_full ws h = rw (h, append-nil before)
 
   module _ (w : List ℕ) (ws : List (List ℕ)) where
-    gather_number : (v : ℤ) → length before < 6 → number_of 18 w ≡ Number v → gathered before (w ∷ ws) ≡ gathered (before ++ (v ∷ [])) ws
+    gather_number : (v : ℤ) → length before < 6 → number_of 18 w ≡ Some v → gathered before (w ∷ ws) ≡ gathered (before ++ (v ∷ [])) ws
     unfolding gathered numbers_of in_front
     gather_number v h e =
         let n : length (before ++ (v ∷ [])) ≡ suc (length before) = length-append before (v ∷ []) ∙ add-one (length before) in
@@ -52,38 +46,24 @@ module _ (before : List ℤ) where
         let m : 6 - suc (length before) ≡ 5 - length before = omega arith in
         rw (k, n, m, e, append_snoc before v) (ap (read_of _) (omega arith))
 
-    gather_stops : number_of 18 w ≡ Malformed → gathered before (w ∷ ws) ≡ result false (length before) (padded before)
+    gather_stops : number_of 18 w ≡ None → gathered before (w ∷ ws) ≡ None
     unfolding gathered read_of
     gather_stops e =
         rw (stopped (6 - length before) w ws e, append-nil before)
         (simp (ne_eqb (length before) (length before + suc (length ws)) (λ h. omega arith)))
 
-  padded_more : (n : ℕ) (v : ℤ) → length before ≡ n → n < 6 → set (padded before) n v ≡ padded (before ++ (v ∷ []))
-  unfolding padded
-  padded_more n v e h =
-      let l : length (before ++ (v ∷ [])) ≡ suc (length before) = length-append before (v ∷ []) ∙ add-one (length before) in
-      let k : 6 - length before ≡ suc (5 - length before) = omega arith in
-      let m : 6 - suc (length before) ≡ 5 - length before = omega arith in
-      rw (k, l, m, append_snoc before v) (set_at before (pos 0) _ v n e)
-
-one_more_lem : (none : Bool) (w : List ℕ) → eqb 6 (6 + length (cond none [] (w ∷ []))) ≡ none
-one_more_lem true w = refl
-one_more_lem false w = refl
-
 -- What holds after `count` words, of which the next is looked for at `at`.
 pub record Gathering (line : List ℕ) (start : ℕ) (values : List ℤ) (count at : ℕ) : Type 0 where
   pub most : count ≤ 6
   pub six : length values ≡ 6
-  pub zeros : values ≡ padded (take count values)
   pub same : arguments_from line start ≡ gathered (take count values) (first_words (7 - count) line at)
 
 pub gathering_starts : (line : List ℕ) (start : ℕ) → Gathering line start (replicate 6 (pos 0)) 0 start
-unfolding arguments_from gathered padded
+unfolding arguments_from gathered
 gathering_starts line start =
     record {
       most = omega arith;
       six = refl;
-      zeros = refl;
       same = ap (read_of (numbers_of (take 6 (first_words 7 line start)))) (sym (zero-add _));
     }
 
@@ -92,33 +72,30 @@ module _ (line : List ℕ) (start at count : ℕ) (values : List ℤ) (g : Gathe
   before_count : length (take count values) ≡ count
   before_count = length-take-le count values (omega (arith, g.most, g.six))
 
-  ended : (ok : Bool) → result ok (length (take count values)) (padded (take count values)) ≡ result ok count values
-  ended ok = ap (λ (n : ℕ). result ok n (padded (take count values))) before_count ∙ ap (result ok count) (sym g.zeros)
+  module _ (full : count ≡ 6) where
+    last : first_words (7 - count) line at ≡ cond (eqb w.from w.to) [] (part line w.from w.to ∷ [])
+    unfolding first_words
+    last = let k : 7 - count ≡ 1 = omega arith in rw (k, ← found)
 
-  -- behind six numbers there must be no word
-  pub gathering_full : count ≡ 6 → result (eqb w.from w.to) count values ≡ arguments_from line start
-  unfolding read_of first_words
-  gathering_full h =
-      let k : 7 - count ≡ 1 = omega arith in
-      let six = before_count ∙ h in
-      let none = eqb w.from w.to in
-      let test : eqb (length (take count values)) (6 + length (first_words 1 line at)) ≡ none = rw (six, ← found) (one_more_lem none _) in
-      sym
-      (g.same ∙
-      rw k
-      (gather_full (take count values) _ six ∙
-      ap (λ (ok : Bool). result ok (length (take count values)) (padded (take count values))) test ∙
-      ended none))
+    -- behind six numbers there is no word
+    pub gathering_full : w.from ≡ w.to → Some (take count values) ≡ arguments_from line start
+    gathering_full e = sym (g.same ∙ rw (last, eq-eqb w.from w.to e) (gather_none (take count values)))
+
+    -- a seventh word
+    pub gathering_over : (w.from ≡ w.to → ⊥) → None ≡ arguments_from line start
+    unfolding read_of
+    gathering_over e =
+        let six = before_count ∙ full in
+        sym (g.same ∙ rw (last, ne_eqb w.from w.to e) (gather_full (take count values) _ six ∙ rw six refl))
 
   module _ (inside : count < 6) where
     next : 7 - count ≡ suc (6 - count)
     next = omega arith
 
     -- an empty word: the line has no more
-    pub gathering_ends : w.from ≡ w.to → result true count values ≡ arguments_from line start
+    pub gathering_ends : w.from ≡ w.to → Some (take count values) ≡ arguments_from line start
     unfolding first_words
-    gathering_ends e =
-        sym (g.same ∙ rw (next, ← found, eq-eqb w.from w.to e) (gather_none (take count values) ∙ ended true))
+    gathering_ends e = sym (g.same ∙ rw (next, ← found, eq-eqb w.from w.to e) (gather_none (take count values)))
 
     module _ (some : w.from ≡ w.to → ⊥) where
       first : first_words (7 - count) line at ≡ part line w.from w.to ∷ first_words (6 - count) line w.to
@@ -126,20 +103,18 @@ module _ (line : List ℕ) (start at count : ℕ) (values : List ℤ) (g : Gathe
       first = rw (next, ← found, ne_eqb w.from w.to some)
 
       -- a word that is no number
-      pub gathering_stops : number_of 18 (part line w.from w.to) ≡ Malformed → result false count values ≡ arguments_from line start
-      gathering_stops e = sym (g.same ∙ rw first (gather_stops (take count values) _ _ e ∙ ended false))
+      pub gathering_stops : number_of 18 (part line w.from w.to) ≡ None → None ≡ arguments_from line start
+      gathering_stops e = sym (g.same ∙ rw first (gather_stops (take count values) _ _ e))
 
       -- one number more
       pub gathering_more :
-          (v : ℤ) → number_of 18 (part line w.from w.to) ≡ Number v → Gathering line start (set values count v) (count + 1) w.to
+          (v : ℤ) → number_of 18 (part line w.from w.to) ≡ Some v → Gathering line start (set values count v) (count + 1) w.to
       gathering_more v e =
           let front = take-suc-set values count v (omega (arith, g.six)) in
           let k : 7 - suc count ≡ 6 - count = omega arith in
           let small : length (take count values) < 6 = omega (arith, before_count) in
-          let stored = padded_more (take count values) count v before_count inside in
           record {
             most = omega arith;
             six = length-set values count v ∙ g.six;
-            zeros = rw (add-one, front) (ap (λ (l : List ℤ). set l count v) g.zeros ∙ stored);
             same = g.same ∙ rw (add-one, front, k, first) (gather_number (take count values) _ _ v small e);
           }

@@ -1,10 +1,9 @@
 -- Bytes in hexadecimal digits of either case, two to a byte, as a line has them.
 use Rattle.std.specs.Prelude.{Bool, true, false, ◌&&◌, cond, List, [], ◌∷◌, ◌++◌, ℕ, zero, suc, ◌+◌, ◌-◌, ◌*◌, ◌/◌, ◌%◌, eqb, leb, ltb}
 use Rattle.std.specs.Prelude.{length, drop, get_or}
+use Rattle.std.specs.Prelude as answer
 use Rattle.std.proofs.Math.Option.{Option, some, none}
 use Rattle.numerals.specs.Numerals.{within, digit_value}
-use Rattle.text.specs.declared.hexadecimal.Count.{Count}
-use Rattle.text.specs.declared.hexadecimal.Count.TheVariants.{Bytes, Malformed}
 
 -- the capital of a small letter `a` to `f`; another byte as it is
 unfoldable pub capital : ℕ → ℕ
@@ -39,9 +38,9 @@ bytes_of word =
     (cond (ltb 0 (length word) && (eqb (length word % 2) 0 && all_digits word)) (some (pairs word (length word / 2))) none)
 
 -- how many bytes there are; a buffer of that length must hold them all
-unfoldable pub count_in : Option (List ℕ) → ℕ → Count
-count_in none size = Malformed
-count_in (some bytes) size = cond (leb (length bytes) size) (Bytes (length bytes)) Malformed
+unfoldable pub count_in : Option (List ℕ) → ℕ → answer.Option ℕ
+count_in none size = answer.None
+count_in (some bytes) size = cond (leb (length bytes) size) (answer.Some (length bytes)) answer.None
 
 -- a buffer with the bytes at its front, where it holds them all; else it stays as it was
 unfoldable pub bytes_in : Option (List ℕ) → List ℕ → List ℕ

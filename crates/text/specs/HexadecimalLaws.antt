@@ -1,8 +1,10 @@
 -- Laws of hexadecimal digits read.
 use Rattle.std.specs.Prelude.{◌≡◌, refl, Bool, ◌&&◌, cond, List, [], ◌∷◌, ◌++◌, ℕ, zero, suc, ◌+◌, ◌*◌, ◌/◌, ◌%◌, ◌≤◌, ◌<◌, ltb, leb}
+use Rattle.std.specs.List.{list_all}
 use Rattle.std.specs.Prelude.{length, drop, get_or, set}
 use Rattle.std.proofs.Common.{sym, ap, ◌∙◌, add-one, arith, length-append, drop_of_length-le, drop-cons}
 use Rattle.std.proofs.Math.Bool.{true, false}
+use Rattle.std.specs.Prelude.{Some, None}
 use Rattle.std.proofs.Math.Option.{Option, some, none}
 use Rattle.std.proofs.Math.Dec.{eqb}
 use Rattle.std.proofs.Math.Seq.{append_snoc}
@@ -10,22 +12,13 @@ use Rattle.std.proofs.lemmas.List.{set_at}
 use borrow.Author.Tests.{lt-ltb, le-ltb, le-leb, lt-leb, eq-eqb, ne_eqb, ltb-true, leb-true}
 use Rattle.integers.specs.Choice.{both}
 use Rattle.text.specs.Hexadecimal.{hexadecimal_value, all_digits, pair, pairs, is_dash, bytes_of, count_in, bytes_in}
-use Rattle.text.specs.declared.hexadecimal.Count.TheVariants.{Bytes, Malformed}
 
 -- ---- digits one by one
 
-module _ (s : List ℕ) (i : ℕ) where
-  pub all_more : i < length s → hexadecimal_value (get_or s i 0) < 16 → all_digits (drop i s) ≡ all_digits (drop (suc i) s)
-  unfolding all_digits
-  all_more h d = rw (drop-cons s i 0) (simp (lt-ltb (hexadecimal_value (get_or s i 0)) 16 d))
-
-  pub all_fails : i < length s → hexadecimal_value (get_or s i 0) ≡ 16 → all_digits (drop i s) ≡ false
-  unfolding all_digits
-  all_fails h d = rw (drop-cons s i 0) (simp (le-ltb (hexadecimal_value (get_or s i 0)) 16 (omega arith)))
-
-  pub all_ends : length s ≤ i → all_digits (drop i s) ≡ true
-  unfolding all_digits
-  all_ends h = rw (drop_of_length-le s h)
+pub all_digits_are : (s : List ℕ) → all_digits s ≡ list_all (λ b. ltb (hexadecimal_value b) 16) s
+unfolding all_digits
+all_digits_are [] = refl
+all_digits_are (b ∷ bs) = ap (λ (t : Bool). ltb (hexadecimal_value b) 16 && t) (all_digits_are bs)
 
 pub each_digit : (s : List ℕ) → all_digits s ≡ true → (i : ℕ) → i < length s → hexadecimal_value (get_or s i 0) < 16
 unfolding all_digits
@@ -80,25 +73,25 @@ module _ (word : List ℕ) where
       others_read e = simp (other, tests false e)
 
 -- what is no bytes
-pub none_in : {r : Option (List ℕ)} (buffer : List ℕ) → r ≡ none → (Malformed ≡ count_in r (length buffer)) × (buffer ≡ bytes_in r buffer)
+pub none_in : {r : Option (List ℕ)} (buffer : List ℕ) → r ≡ none → (None ≡ count_in r (length buffer)) × (buffer ≡ bytes_in r buffer)
 unfolding count_in bytes_in
 none_in buffer e = rw e (refl, refl)
 
 module _ {r : Option (List ℕ)} (buffer bytes : List ℕ) (n : ℕ) (e : r ≡ some bytes) (l : length bytes ≡ n) where
-  pub too_many : length buffer < n → (Malformed ≡ count_in r (length buffer)) × (buffer ≡ bytes_in r buffer)
+  pub too_many : length buffer < n → (None ≡ count_in r (length buffer)) × (buffer ≡ bytes_in r buffer)
   unfolding count_in bytes_in
   too_many h = rw e (simp (lt-leb (length bytes) (length buffer) (omega arith)) (refl, refl))
 
-  pub all_in : n ≤ length buffer → (Bytes n ≡ count_in r (length buffer)) × (bytes ++ drop n buffer ≡ bytes_in r buffer)
+  pub all_in : n ≤ length buffer → (Some n ≡ count_in r (length buffer)) × (bytes ++ drop n buffer ≡ bytes_in r buffer)
   unfolding count_in bytes_in
   all_in h = rw (e, ← l) (simp (le-leb (length bytes) (length buffer) (omega arith)) (refl, refl))
 
 -- bytes that are counted fit
-pub count_fits : (r : Option (List ℕ)) (size n : ℕ) → Bytes n ≡ count_in r size → n ≤ size
+pub count_fits : (r : Option (List ℕ)) (size n : ℕ) → Some n ≡ count_in r size → n ≤ size
 unfolding count_in
 count_fits none size n e = let z : ◌≡◌ {A = ℕ} 0 1 = cc in absurd (omega arith)
 count_fits (some bytes) size n e = go (leb (length bytes) size) refl e
   where
-    go : (t : Bool) → leb (length bytes) size ≡ t → Bytes n ≡ cond t (Bytes (length bytes)) Malformed → n ≤ size
+    go : (t : Bool) → leb (length bytes) size ≡ t → Some n ≡ cond t (Some (length bytes)) None → n ≤ size
     go true h e = let same : n ≡ length bytes = cc in omega (arith, leb-true (length bytes) size h)
     go false h e = let z : ◌≡◌ {A = ℕ} 0 1 = cc in absurd (omega arith)

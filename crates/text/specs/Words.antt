@@ -1,6 +1,7 @@
 -- The words of a line: what stands between blanks.
-use Rattle.std.specs.Prelude.{◌≡◌, refl, Bool, true, false, not, cond, List, [], ◌∷◌, ℕ, zero, suc, ◌+◌, ◌-◌, ◌≤◌, ◌<◌, eqb, ltb, length}
+use Rattle.std.specs.Prelude.{◌≡◌, refl, Bool, true, false, ◌&&◌, not, cond, nat_eq, List, [], ◌∷◌, ℕ, zero, suc, ◌+◌, ◌-◌, ◌≤◌, ◌<◌, eqb, ltb, length}
 use Rattle.std.specs.Prelude.{drop, get_or}
+use Rattle.std.specs.Cmp.Lexicographic.{pointwise}
 use Rattle.std.proofs.Common.{ap, arith, length-drop, eq-eqb, ne_eqb, eqb-true}
 use Rattle.std.proofs.Math.ListN.{drop_of_length-le}
 use Rattle.std.proofs.Math.Seq.{drop-cons}
@@ -102,3 +103,13 @@ module _ (a b : List ℕ) (i : ℕ) where
   pub same_ends : length a ≤ i → length b ≤ i → same_bytes (drop i a) (drop i b) ≡ true
   unfolding same_bytes
   same_ends h k = rw (drop_of_length-le a h, drop_of_length-le b k)
+
+-- two words are the same where their bytes are, place by place
+pub same_pointwise : (a b : List ℕ) → same_bytes a b ≡ pointwise nat_eq a b
+unfolding same_bytes
+same_pointwise [] [] = refl
+same_pointwise [] (y ∷ ys) = refl
+same_pointwise (x ∷ xs) [] = refl
+same_pointwise (x ∷ xs) (y ∷ ys) =
+    by_cases (λ t. t ≡ (eqb x y && pointwise nat_eq xs ys)) (eqb x y) (same_bytes xs ys) false
+    (λ e. simp e (same_pointwise xs ys)) (λ e. simp e refl)

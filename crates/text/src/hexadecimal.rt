@@ -1,15 +1,9 @@
 // Bytes in hexadecimal digits, read.
-ghost use Rattle.std.specs.Prelude.{◌≡◌, true, ◌++◌, ◌*◌, ◌≤◌, ◌<◌, length, drop};
+ghost use Rattle.std.specs.Prelude.{◌≡◌, true, ◌++◌, ◌*◌, ◌≤◌, ◌<◌, length, drop, ltb, MatchOption};
 ghost use Rattle.text.specs.Hexadecimal.{capital, hexadecimal_value, all_digits, is_dash, pair, pairs, bytes_of, count_in, bytes_in};
 
-// How many bytes a word is.
-#[derive(Clone, Copy)]
-pub enum Count {
-    Bytes(usize),
-    Malformed,
-}
-
 // The capital of a small letter that is a digit; another byte as it is.
+#[tactic(auto, unfolding(crate::specs::Hexadecimal::capital))]
 fn capital(b: u8) -> u8
     ensures { result ≡ capital b }
 {
@@ -19,41 +13,40 @@ fn capital(b: u8) -> u8
     }
 }
 
-// The value of a digit of either case; 16 for another byte.
-fn digit_value(b: u8) -> u8
-    ensures { (result ≡ hexadecimal_value b) × (result ≤ 16) }
+// The value of a digit of either case.
+#[tactic(auto, unfolding(crate::specs::Hexadecimal::hexadecimal_value))]
+fn digit_value(b: u8) -> Option<u8>
+    ensures { MatchOption result (hexadecimal_value b ≡ 16) (λ d. (d ≡ hexadecimal_value b) × (d < 16)) }
 {
-    numerals::digit_value(capital(b)) as u8
+    let digit = numerals::digit_value(capital(b))?;
+    Some(digit as u8)
 }
 
+fn is_digit(b: u8) -> bool
+    ensures { result ≡ ltb (hexadecimal_value b) 16 }
+{
+    digit_value(b).is_some()
+}
+
+#[tactic(auto, using(crate::specs::HexadecimalLaws::all_digits_are))]
 fn all_digits(word: &[u8]) -> bool
     ensures { result ≡ all_digits word.now }
 {
-    let mut i = 0;
-    while i < word.len() {
-        if digit_value(word[i]) == 16 {
-            return false;
-        }
-        i += 1;
-    }
-    true
+    word.iter().all(|b| is_digit(*b))
 }
 
+#[tactic(auto, unfolding(crate::specs::Hexadecimal::is_dash))]
 fn is_dash(word: &[u8]) -> bool
     ensures { result ≡ is_dash word.now }
 {
-    if word.len() == 1 {
-        word[0] == b'-'
-    } else {
-        false
-    }
+    word == b"-".as_slice()
 }
 
 fn pair_value(high: u8, low: u8) -> u8
     requires { (hexadecimal_value high < 16) × (hexadecimal_value low < 16) }
     ensures { result ≡ pair high low }
 {
-    digit_value(high) * 16 + digit_value(low)
+    digit_value(high).unwrap() * 16 + digit_value(low).unwrap()
 }
 
 // Writes the bytes of pairs of digits to the front of a buffer.
@@ -61,37 +54,29 @@ fn write_pairs(word: &[u8], count: usize, bytes: &mut [u8])
     requires { (all_digits word.now ≡ true) × (2 * count ≤ length word.now) × (count ≤ length bytes.old) }
     ensures { bytes.new ≡ pairs word.now count ++ drop count bytes.old }
 {
-    let mut n: usize = 0;
-    while n < count {
+    for n in 0..count {
         bytes[n] = pair_value(word[2 * n], word[2 * n + 1]);
-        n += 1;
     }
 }
 
-// The bytes of a word with two digits to a byte, or none for the word `-`, at the front of a buffer. A word with an odd
-// number of digits, no digit, another character, or more bytes than the buffer has is malformed. The contract rules out
-// a wrong byte, a malformed word that is taken, and any change of the buffer but the bytes of a word that is taken.
-pub fn parse(word: &[u8], bytes: &mut [u8]) -> Count
+// The bytes of a word with two digits to a byte, or none for the word `-`, at the front of a buffer; the result is how
+// many. A word with an odd number of digits, no digit, another character, or more bytes than the buffer has is
+// malformed. The contract rules out a wrong byte, a malformed word that is taken, and any change of the buffer but the
+// bytes of a word that is taken.
+pub fn parse(word: &[u8], bytes: &mut [u8]) -> Option<usize>
     ensures value { result ≡ count_in (bytes_of word.now) (length bytes.old) }
     ensures bytes_after { bytes.new ≡ bytes_in (bytes_of word.now) bytes.old }
 {
     if is_dash(word) {
-        return Count::Bytes(0);
+        return Some(0);
     }
-    let length = word.len();
-    if length == 0 {
-        return Count::Malformed;
+    if word.is_empty() || word.len() % 2 == 1 || !all_digits(word) {
+        return None;
     }
-    if length % 2 == 1 {
-        return Count::Malformed;
+    let count = word.len() / 2;
+    if bytes.len() < count {
+        return None;
     }
-    if all_digits(word) {
-        let count = length / 2;
-        if bytes.len() < count {
-            return Count::Malformed;
-        }
-        write_pairs(word, count, bytes);
-        return Count::Bytes(count);
-    }
-    Count::Malformed
+    write_pairs(word, count, bytes);
+    Some(count)
 }

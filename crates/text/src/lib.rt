@@ -14,28 +14,28 @@ pub struct Span {
     pub to: usize,
 }
 
+#[tactic(auto, unfolding(crate::specs::Words::fits_blank))]
 fn fits_blank(blank: bool, b: u8) -> bool
     ensures { result ≡ fits_blank blank b }
 {
-    if b == b' ' { blank } else { !blank }
+    (b == b' ') == blank
 }
 
 // The end of the blanks that stand at a place, or of the bytes that aren't blanks.
 fn run_end(line: &[u8], at: usize, blank: bool) -> usize
     ensures { result ≡ at + leading blank (drop at line.now) }
 {
-    let mut i = at;
-    while i < line.len() {
+    for i in at..line.len() {
         if !fits_blank(blank, line[i]) {
             return i;
         }
-        i += 1;
     }
-    i
+    at.max(line.len())
 }
 
 // The first word at or behind a place; an empty one where there is none. The contract rules out a word cut short or one
 // with a blank in it.
+#[tactic(auto, unfolding(crate::specs::Words::word_at))]
 pub fn word(line: &[u8], at: usize) -> Span
     ensures value { result ≡ word_at line.now at }
     ensures at_le_from { (at ≤ result.from) × (result.from ≤ result.to) × (result.to ≤ max at (length line.now)) }
@@ -47,6 +47,7 @@ pub fn word(line: &[u8], at: usize) -> Span
 
 // The only word at or behind a place; an empty one where there is none, or a second one. The contract rules out the
 // first of two words.
+#[tactic(auto, unfolding(crate::specs::Words::only_word))]
 pub fn only_word(line: &[u8], at: usize) -> Span
     ensures value { result ≡ only_word line.now at }
     ensures at_le_from { (at ≤ result.from) × (result.from ≤ result.to) × (result.to ≤ max at (length line.now)) }
@@ -65,28 +66,16 @@ pub fn after_words(line: &[u8], start: usize, count: usize) -> usize
         × (start ≤ result) × (result ≤ max start (length line.now)) }
 {
     let mut at = start;
-    let mut left = count;
-    while 0 < left {
-        let w = word(line, at);
-        at = w.to;
-        left -= 1;
+    for _ in 0..count {
+        at = word(line, at).to;
     }
     at
 }
 
 // Whether two words are the same. The contract rules out a word that is taken for a longer one.
+#[tactic(auto, using(crate::specs::Words::same_pointwise))]
 pub fn same(a: &[u8], b: &[u8]) -> bool
     ensures { result ≡ same_bytes a.now b.now }
 {
-    if a.len() != b.len() {
-        return false;
-    }
-    let mut i = 0;
-    while i < a.len() {
-        if a[i] != b[i] {
-            return false;
-        }
-        i += 1;
-    }
-    true
+    a == b
 }

@@ -6,24 +6,19 @@ ghost use Rattle.writer_lines.specs.Writers.{writer_of};
 
 use rights::Writer;
 
-#[derive(Clone, Copy)]
-pub enum ParsedWriter {
-    Writer(Writer),
-    Malformed,
-}
-
 // The writer whose word it is. The contract rules out a word that is taken for another writer's, or that none has.
-pub fn of_word(word: &[u8]) -> ParsedWriter
+#[tactic(auto, unfolding(crate::specs::Writers::writer_of), using(text::specs::Words::same_pointwise))]
+pub fn of_word(word: &[u8]) -> Option<Writer>
     ensures { result ≡ writer_of word.now }
 {
-    if text::same(word, b"operator") {
-        return ParsedWriter::Writer(Writer::Operator);
+    if word == b"operator".as_slice() {
+        return Some(Writer::Operator);
     }
-    if text::same(word, b"engineer") {
-        return ParsedWriter::Writer(Writer::Engineer);
+    if word == b"engineer".as_slice() {
+        return Some(Writer::Engineer);
     }
-    if text::same(word, b"computer") {
-        return ParsedWriter::Writer(Writer::Computer);
+    if word == b"computer".as_slice() {
+        return Some(Writer::Computer);
     }
-    ParsedWriter::Malformed
+    None
 }

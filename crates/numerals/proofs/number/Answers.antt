@@ -1,26 +1,35 @@
 -- `numerals::number` meets its contract.
-use mathlib.Core.Path.{◌∙◌}
-use Prim.Native.Nat.{◌-◌}
+use mathlib.Core.Path.{◌≡◌, refl, ◌∙◌}
+use mathlib.Core.Bool.{false}
+use mathlib.Core.List.{List, [], ◌∷◌}
+use Prim.Native.Nat.{ℕ, ◌-◌, ◌<◌}
+use lib.Dec.{eqb}
 use native.Mathlib.Omega.{arith}
-use lib.ListN.{length, drop, length-drop}
+use lib.ListN.{length, get_or, drop, length-drop}
 use lib.Seq.{take_all}
 use borrow.Author.Rules.{rules}
 use borrow.Author.Tests.{eq-eqb, ne_eqb}
 use Rattle.numerals.specs.Numerals.{integer_of}
 use Rattle.numerals.specs.Parsed.{number_of}
-use Rattle.numerals.specs.ParsedLaws.{empty_read}
+use Rattle.numerals.proofs.number.Goals.{in_default-via-then-s-lt1, in_default-via-else-s-lt1+in_default-1}
 use Rattle.numerals.proofs.number.Goals as goal
 
-pub returns-then-s-eq0 : goal.returns-then-s-eq0
-returns-then-s-eq0 c = empty_read c.args.most c.args.s.now (search rules)
+nothing : (s : List ℕ) → length s < 1 → eqb (get_or s 0 0) 45 ≡ false
+nothing [] h = refl
+nothing (b ∷ s) h = absurd (omega arith)
 
-pub returns-then-s-eq45 : goal.returns-then-s-eq45
+pub returns-in-45 : goal.returns-in-45
 unfolding number_of integer_of
-returns-then-s-eq45 c =
+returns-in-45 c =
     let s = c.args.s.now in
-    simp (eq-eqb _ _ c.if-s-eq45.true)
+    simp (eq-eqb (get_or s 0 0) 45 (search rules))
     (c.signed.ensures ∙ rw (take_all (length s - 1) (drop 1 s) (omega (arith, length-drop 1 s))))
 
-pub returns : goal.returns
+pub returns-in_default : goal.returns-in_default
 unfolding number_of integer_of
-returns c = simp (ne_eqb _ _ c.if-s-eq45.false) c.signed-2.ensures
+returns-in_default c =
+    let other : eqb (get_or c.args.s.now 0 0) 45 ≡ false =
+        elim c.in_default-1.branch [
+          in_default-via-then-s-lt1 w ↦ nothing c.args.s.now (search rules)
+        | in_default-via-else-s-lt1+in_default-1 w ↦ ne_eqb _ _ (search rules) ] in
+    simp other c.signed-in_default.ensures

@@ -1,61 +1,57 @@
 -- `numerals::value_of` meets its contract. What is left, read on from the value of the digits passed, is what the whole
 -- reads.
 use mathlib.Core.Path.{◌≡◌, sym, ap, ◌∙◌}
-use Prim.Native.Nat.{◌+◌, ◌*◌, ◌^◌, ◌≤◌, ◌<◌}
+use Prim.Native.Nat.{◌+◌, ◌*◌, ◌<◌}
 use native.Mathlib.Omega.{arith}
-use lib.ListN.{drop, get_or}
+use lib.ListN.{drop, length}
 use borrow.Author.Rules.{rules}
-use Rattle.numerals.specs.Numerals.{digit_value, read_on}
+use Rattle.numerals.specs.Numerals.{read_on}
 use Rattle.numerals.specs.Parsed.{within64}
 use Rattle.numerals.specs.Reading.{read_more, read_fails, read_ends}
-use Rattle.numerals.specs.ParsedLaws.{fits, too_large, no_room, room}
-use Rattle.numerals.proofs.value_of.Goals.{Else-base-d, Else-d-base}
+use Rattle.numerals.specs.ParsedLaws.{fits, too_large}
+use Rattle.numerals.proofs.value_of.Goals.{Else-base-d}
 use Rattle.numerals.proofs.value_of.Goals as goal
+
+pub returns-in_err-d : goal.returns-in_err-d
+unfolding within64
+returns-in_err-d c =
+    let l = c.loop-b in
+    rw (l.invariant.1, read_fails c.args.base l.value c.args.s.now l.b-index (search rules) (omega (arith, c.in_err-d.ensures))) (search rules)
 
 pub returns-then-base-d : goal.returns-then-base-d
 unfolding within64
 returns-then-base-d c =
-    let l = c.loop-i in
-    let s = c.args in
-    rw (l.invariant.2 ∙ read_fails s.base l.value s.s.now l.i (search rules) (omega (arith, c.digit_value-d.ensures)))
+    let l = c.loop-b in
+    rw (l.invariant.1, read_fails c.args.base l.value c.args.s.now l.b-index (search rules) (omega (arith, c.in_ok-d.ensures)))
 
-module _ (c : Else-base-d) where
-  digit_most : c.digit_value-d.result ≤ 16
-  digit_most = c.digit_value-d.ensures.1
+-- with that digit
+more : (c : Else-base-d) → read_on c.args.base 0 c.args.s.now ≡
+    read_on c.args.base (c.loop-b.value * c.args.base + c.in_ok-d.d) (drop (c.loop-b.b-index + 1) c.args.s.now)
+more c =
+    let l = c.loop-b in
+    let d = c.in_ok-d.ensures.0 in
+    l.invariant.1 ∙ rw d (read_more c.args.base l.value c.args.s.now l.b-index (search rules) (omega (arith, c.in_ok-d.ensures, c.if-base-d.false)))
 
-  -- with that digit
-  more : read_on c.args.base 0
-      c.args.s.now ≡
-      read_on c.args.base
-      (c.loop-i.value * c.args.base +
-      c.digit_value-d.result)
-      (drop (c.loop-i.i + 1) c.args.s.now)
-  more =
-      let l = c.loop-i in
-      let s = c.args in
-      let d : c.digit_value-d.result ≡ digit_value (get_or s.s.now l.i 0) = c.digit_value-d.ensures.0 in
-      l.invariant.2 ∙ rw d (read_more s.base l.value s.s.now l.i (search rules) (omega arith))
+pub returns-in_err-checked_mul : goal.returns-in_err-checked_mul
+returns-in_err-checked_mul c =
+    c.from_residual-in_err-checked_mul.ensures ∙
+    sym (ap within64 (more (goal.at.returns-in_err-checked_mul c).Else-base-d) ∙
+    too_large c.args.base _ _ c.requires.0 (omega (arith, c.in_err-checked_mul.ensures)))
 
-pub returns-then-d-base : goal.returns-then-d-base
-returns-then-d-base c =
-    let l = c.loop-i in
-    let large = no_room c.args.base l.value c.digit_value-d.result c.requires.0
-    (digit_most (goal.at.returns-then-d-base c).Else-base-d) c.if-d-base.true in
-    sym (ap within64 (more (goal.at.returns-then-d-base c).Else-base-d) ∙ too_large c.args.base _ _ c.requires.0 large)
+pub returns-in_err-value : goal.returns-in_err-value
+returns-in_err-value c =
+    c.from_residual-in_err-value.ensures ∙
+    sym (ap within64 (more (goal.at.returns-in_err-value c).Else-base-d) ∙
+    too_large c.args.base _ _ c.requires.0 (omega (arith, c.in_ok-checked_mul.ensures, c.in_err-value.ensures)))
 
--- there is room for the digit
-space : (c : Else-d-base) →
-    c.loop-i.value * c.args.base +
-    c.digit_value-d.result < 2 ^ 64
-space c =
-    let l = c.loop-i in
-    room c.args.base l.value c.digit_value-d.result c.requires.0 c.digit_value-d.ensures.1 c.if-d-base.false
-
-pub loop-i-preserved : goal.loop-i-preserved
-loop-i-preserved c = (search rules, space c, more (goal.at.loop-i-preserved c).Else-base-d)
+pub loop-b-preserved : goal.loop-b-preserved
+loop-b-preserved c =
+    let step = more (goal.at.loop-b-preserved c).Else-base-d in
+    let product = c.in_ok-checked_mul.ensures in
+    let sum = c.in_ok-value.ensures in
+    (omega arith, rw (sum.1, product.1) step)
 
 pub returns : goal.returns
 returns c =
-    let l = c.loop-i in
-    let s = c.args in
-    sym (ap within64 (l.invariant.2 ∙ read_ends s.base l.value s.s.now l.i (search rules)) ∙ fits l.value l.invariant.1)
+    let l = c.loop-b in
+    sym (ap within64 (l.invariant.1 ∙ read_ends c.args.base l.value c.args.s.now l.b-index (search rules)) ∙ fits l.value l.invariant.0)

@@ -2,6 +2,7 @@
 -- from its start.
 use mathlib.Core.Path.{sym, ◌∙◌}
 use native.Mathlib.Numerals.{add-one}
+use native.Mathlib.Omega.{arith}
 use borrow.Author.Rules.{rules}
 use Rattle.text.specs.Words.{leading_more, leading_ends, leading_none}
 use Rattle.text.proofs.run_end.Goals as goal
@@ -18,4 +19,7 @@ loop-i-preserved c =
 
 pub returns : goal.returns
 returns c =
-    sym (leading_none c.args.blank c.args.line.now c.loop-i.i (search rules)) ∙ c.loop-i.invariant
+    let line = c.args.line.now in
+    let none = leading_none c.args.blank line c.loop-i.i (search rules) in
+    let start = leading_none c.args.blank line c.args.at in
+    grind (arith, start, none, c.loop-i.invariant, c.loop-i.auto, c.max.ensures)

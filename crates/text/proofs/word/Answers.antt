@@ -2,12 +2,11 @@
 use mathlib.Core.Bool.{true, false}
 use native.Mathlib.Omega.{arith}
 use lib.ListN.{drop, length-drop}
-use Rattle.text.specs.Words.{word_at, leading_most}
+use Rattle.text.specs.Words.{leading_most}
 use Rattle.text.proofs.word.Goals as goal
 
-pub returns : goal.returns
-unfolding word_at
-returns c =
+pub returns-clause-at_le_from : goal.returns-clause-at_le_from
+returns-clause-at_le_from c =
     let line = c.args.line.now in
     let at = c.args.at in
     let from = c.run_end-from.result in
@@ -17,7 +16,4 @@ returns c =
     let end = length-drop from line in
     let first = c.run_end-from.ensures in
     let second = c.run_end-to.ensures in
-    record {
-      value = rw (c.run_end-to.ensures, c.run_end-from.ensures);
-      at_le_from = (omega arith, omega arith, omega arith);
-    }
+    (omega arith, omega arith, omega arith)

@@ -4,8 +4,8 @@ use Rattle.handheld.proofs.print.append_text.Goals as goal
 
 pub returns-in-Ok : goal.returns-in-Ok
 unfolding answer_text
-returns-in-Ok c = rw c.in-Ok.is c.append_front.ensures
+returns-in-Ok g c = rw c.in-Ok.is (rw c.front.ensures at c.push_all.ensures)
 
 pub returns-in-Err : goal.returns-in-Err
 unfolding answer_text
-returns-in-Err c = rw c.in-Err.is c.append_refusal.ensures
+returns-in-Err g c = rw c.in-Err.is c.append_refusal.ensures

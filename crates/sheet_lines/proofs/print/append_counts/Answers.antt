@@ -5,11 +5,11 @@ use Rattle.sheet_lines.proofs.print.append_counts.Goals as goal
 
 pub returns : goal.returns
 unfolding counts_text
-returns c =
-    let two = text_then c.append_count-hold.ensures c.append_count-track.ensures in
-    let three = text_then two c.append_count-forced.ensures in
-    let four = text_then three c.append_count-manual.ensures in
-    let five = text_then four c.append_count-auto.ensures in
-    let six = text_then five c.append_count-remote.ensures in
-    let seven = text_then six c.append_count-ratio.ensures in
-    text_then seven c.append_count.ensures
+returns g c =
+    let two = text_then c.append_count.ensures c.append_count-2.ensures in
+    let three = text_then two c.append_count-3.ensures in
+    let four = text_then three c.append_count-4.ensures in
+    let five = text_then four c.append_count-5.ensures in
+    let six = text_then five c.append_count-6.ensures in
+    let seven = text_then six c.append_count-7.ensures in
+    text_then seven c.append_count-8.ensures

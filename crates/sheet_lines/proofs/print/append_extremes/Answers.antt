@@ -7,7 +7,7 @@ use Rattle.sheet_lines.proofs.print.append_extremes.Goals as goal
 
 pub returns : goal.returns
 unfolding extremes_text
-returns c =
+returns g c =
     let most = ap (extreme_text (ascii "max")) c.greatest.ensures in
     let fewest = ap (extreme_text (ascii "min")) c.least.ensures in
-    text_then (text_is c.append_extreme-max.ensures most) (text_is c.append_extreme.ensures fewest)
+    text_then (text_is c.append_extreme.ensures most) (text_is c.append_extreme-2.ensures fewest)

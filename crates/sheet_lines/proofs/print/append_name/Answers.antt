@@ -7,7 +7,7 @@ use Rattle.sheet_lines.proofs.print.append_name.Goals as goal
 
 pub returns : goal.returns
 unfolding named
-returns c =
-    let before = text_of 1 c.append_byte-blank.ensures (omega arith) in
-    let name_of = text_of (length c.args.name.now) c.append_bytes-end.ensures (omega arith) in
-    text_most (text_then (text_then before name_of) (text_of 1 c.append_byte.ensures (omega arith))) (omega arith)
+returns g c =
+    let before = text_of 1 c.push.ensures (omega arith) in
+    let name_of = text_of (length c.args.name.now) c.push_all.ensures (omega arith) in
+    text_most (text_then (text_then before name_of) (text_of 1 c.push-2.ensures (omega arith))) (omega arith)

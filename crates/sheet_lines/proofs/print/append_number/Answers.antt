@@ -6,6 +6,6 @@ use Rattle.sheet_lines.proofs.print.append_number.Goals as goal
 
 pub returns : goal.returns
 unfolding number_text
-returns c =
-    let number_of_lem = text_of 10 c.append_decimal.ensures (number_length c.args.number (omega arith)) in
-    text_most (text_then c.append_name-end.ensures number_of_lem) (omega arith)
+returns g c =
+    let number_of_lem = text_of 10 c.push_decimal.ensures (number_length c.args.number (omega arith)) in
+    text_most (text_then c.append_name.ensures number_of_lem) (omega arith)

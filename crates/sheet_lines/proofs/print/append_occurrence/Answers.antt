@@ -13,10 +13,10 @@ use Rattle.sheet_lines.proofs.print.append_occurrence.Goals as goal
 
 pub returns : goal.returns
 unfolding occurrence_text
-returns c =
+returns g c =
     let first = c.args.first in
     let fits : SFits w32 first.pv = search rules in
     let e = back w64 c.from.result c.from.type_inv ∙ c.from.ensures ∙ back w32 first.pv fits.sfits in
-    let pv_of = text_of 11 (c.append_signed-pv.ensures ∙ ap (append_all _) (ap decimal e)) (pv_length first.pv fits.sfits) in
-    let number_of_lem = text_of 10 c.append_decimal.ensures (number_length first.number (omega arith)) in
-    text_then (text_then pv_of (text_of 1 c.append_byte-at.ensures (omega arith))) number_of_lem
+    let pv_of = text_of 11 (c.push_signed.ensures ∙ ap (append_all _) (ap decimal e)) (pv_length first.pv fits.sfits) in
+    let number_of_lem = text_of 10 c.push_decimal.ensures (number_length first.number (omega arith)) in
+    text_then (text_then pv_of (text_of 1 c.push.ensures (omega arith))) number_of_lem

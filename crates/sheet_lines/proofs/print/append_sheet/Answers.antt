@@ -9,12 +9,12 @@ use Rattle.sheet_lines.proofs.print.append_sheet.Goals as goal
 
 pub returns : goal.returns
 unfolding sheet_text
-returns c =
-    let scans-of = text_is c.append_number-scans.ensures (ap (number_text _) c.scans.ensures) in
-    let alarms-of = text_is c.append_number-alarms.ensures (ap (number_text _) c.scans_with_alarm.ensures) in
-    let sumpv-of = text_is c.append_sum-sumpv.ensures (ap (sum_text _) (back w64 c.sum_pv.result c.sum_pv.type_inv ∙ c.sum_pv.ensures)) in
-    let sumop-of = text_is c.append_sum.ensures (ap (sum_text _) (back w64 c.sum_op.result c.sum_op.type_inv ∙ c.sum_op.ensures)) in
-    let two = text_then (text_of 5 c.append_bytes-name.ensures (omega arith)) scans-of in
-    let three = text_then two c.append_counts-counts.ensures in
-    let four = text_then three c.append_extremes-extremes.ensures in
+returns g c =
+    let scans-of = text_is c.append_number.ensures (ap (number_text _) c.scans.ensures) in
+    let alarms-of = text_is c.append_number-2.ensures (ap (number_text _) c.scans_with_alarm.ensures) in
+    let sumpv-of = text_is c.append_sum.ensures (ap (sum_text _) (back w64 c.sum_pv.result c.sum_pv.type_inv ∙ c.sum_pv.ensures)) in
+    let sumop-of = text_is c.append_sum-2.ensures (ap (sum_text _) (back w64 c.sum_op.result c.sum_op.type_inv ∙ c.sum_op.ensures)) in
+    let two = text_then (text_of 5 c.push_all.ensures (omega arith)) scans-of in
+    let three = text_then two c.append_counts.ensures in
+    let four = text_then three c.append_extremes.ensures in
     text_then (text_then (text_then four alarms-of) sumpv-of) sumop-of

@@ -10,8 +10,8 @@ use Rattle.sheet_lines.proofs.print.append_sum.Goals as goal
 
 pub returns : goal.returns
 unfolding sum_text
-returns c =
+returns g c =
     let fits = c.ranges.sum in
-    let e = c.append_signed.ensures ∙ ap (append_all _) (ap decimal (to_z-of_z fits)) in
+    let e = c.push_signed.ensures ∙ ap (append_all _) (ap decimal (to_z-of_z fits)) in
     let sum_of = text_of 20 e (sum_length c.args.sum fits.sfits) in
-    text_most (text_then c.append_name-end.ensures sum_of) (omega arith)
+    text_most (text_then c.append_name.ensures sum_of) (omega arith)

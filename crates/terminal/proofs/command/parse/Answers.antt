@@ -1,30 +1,36 @@
 -- `terminal::command::parse` meets its contract.
-use mathlib.Core.Path.{◌≡◌, sym, ap, ◌∙◌}
-use mathlib.Core.Option.{Option, some}
-use Prim.Native.Nat.{ℕ}
-use lib.ListN.{drop}
-use Rattle.terminal.specs.Commands.{command_by, command_in}
-use Rattle.terminal.specs.MnemonicLaws.{no_name, name_found, named_range}
-use Rattle.terminal.specs.Mnemonics.{named}
-use Rattle.terminal.proofs.command.parse.Goals.{Else-number-eq0}
+use mathlib.Core.Path.{◌∙◌, ap}
+use native.Mathlib.Omega.{arith}
+use mir.Syntax.{w32}
+use borrow.Author.Rules.{rules}
+use Rattle.std.specs.Prelude.{Ok}
+use Rattle.integers.specs.Machine.{back}
+use Rattle.terminal.specs.CommandLaws.{none_named, read_asked, other_asked, write_asked, no_value_asked}
+use Rattle.terminal.specs.MnemonicLaws.{named_range, name_found}
+use Rattle.terminal.specs.declared.command.Command.TheVariants.{Write}
 use Rattle.terminal.proofs.command.parse.Goals as goal
 
-pub returns-then-number-eq0 : goal.returns-then-number-eq0
-unfolding command_in
-returns-then-number-eq0 c =
-    let line = c.args.line.now in
-    sym (ap (λ (o : Option ℕ). command_by o (drop 2 line)) (no_name line (sym c.named-number.ensures.0 ∙ c.if-number-eq0.true)))
+pub returns-in_default : goal.returns-in_default
+returns-in_default c = none_named c.args.line.now c.in_default.ensures.value
 
--- the number is one that the line names
-found : (c : Else-number-eq0) → named c.args.line.now ≡ some c.named-number.result
-found c =
-    name_found c.args.line.now c.named-number.result (sym c.named-number.ensures.0) c.if-number-eq0.false
+pub returns-in-len2 : goal.returns-in-len2
+returns-in-len2 c = read_asked c.args.line.now c.in-Some.number c.in-Some.ensures.value (omega arith)
 
-pub behind-requires : goal.behind-requires
-behind-requires c = (named_range _ _ (found c)).two
+pub returns-in-Some-value : goal.returns-in-Some-value
+returns-in-Some-value c =
+    let v = c.in-Some-value.value in
+    rw (back w32 v (search rules))
+    (write_asked c.args.line.now c.in-Some.number c.in-Some.ensures.value (omega arith) (search rules) v c.in-Some-value.ensures)
 
-pub returns : goal.returns
-unfolding command_in
-returns c =
-    let line = c.args.line.now in
-    c.behind.ensures ∙ sym (ap (λ (o : Option ℕ). command_by o (drop 2 line)) (found (goal.at.returns c).Else-number-eq0))
+pub returns-in-None : goal.returns-in-None
+returns-in-None c =
+    no_value_asked c.args.line.now c.in-Some.number c.in-Some.ensures.value (omega arith) (search rules) c.in-None.ensures
+
+pub returns-in_default-line : goal.returns-in_default-line
+returns-in_default-line c =
+    let r = named_range c.args.line.now _ (name_found _ _ c.in-Some.ensures.value) in
+    absurd (omega (arith, r.two))
+
+pub returns-in_default-line-2 : goal.returns-in_default-line-2
+returns-in_default-line-2 c =
+    other_asked c.args.line.now c.in-Some.number c.in-Some.ensures.value (omega arith) (search rules)

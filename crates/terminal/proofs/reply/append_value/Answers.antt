@@ -6,12 +6,12 @@ use Rattle.terminal.proofs.reply.append_value.Goals as goal
 
 pub returns-then-is_word : goal.returns-then-is_word
 unfolding value_text
-returns-then-is_word c =
-    let word = rw (c.unsigned_abs.ensures.value, to_z-of_z c.ranges.value) at c.append_word.ensures in
+returns-then-is_word g c =
+    let word = rw (c.unsigned_abs.ensures.value, to_z-of_z c.ranges.value) at c.push_word.ensures in
     simp (sym c.is_word.ensures ∙ c.if-is_word.true) word
 
-pub returns : goal.returns
+pub returns-else-is_word : goal.returns-else-is_word
 unfolding value_text
-returns c =
-    let value = rw (to_z-of_z c.ranges.value) at c.append_signed.ensures in
+returns-else-is_word g c =
+    let value = rw (to_z-of_z c.ranges.value) at c.push_signed.ensures in
     simp (sym c.is_word.ensures ∙ c.if-is_word.false) value

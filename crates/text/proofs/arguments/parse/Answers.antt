@@ -1,50 +1,47 @@
 -- `text::arguments::parse` meets its contract.
-use mathlib.Core.Path.{◌≡◌, sym, ◌∙◌}
+use mathlib.Core.Path.{◌≡◌, sym, ap, ◌∙◌}
+use native.Mathlib.Omega.{arith}
 use borrow.Author.Rules.{rules}
 use mir.Syntax.{w64}
+use Rattle.std.specs.Prelude.{ℕ, take, Some, option_map}
 use Rattle.integers.specs.Machine.{back}
-use Rattle.numerals.specs.Parsed.{number_of}
-use Rattle.text.specs.Arguments.{part}
-use Rattle.text.specs.ArgumentsLaws.{gathering_starts, gathering_ends, gathering_stops, gathering_more, gathering_full}
-use Rattle.text.proofs.arguments.parse.Goals.{After-number-reading}
+use Rattle.text.specs.ArgumentsLaws.{gathering_starts, gathering_ends, gathering_stops, gathering_more, gathering_full, gathering_over}
 use Rattle.text.proofs.arguments.parse.Goals as goal
-
--- the word that was read as a number
-word_read : (c : After-number-reading) →
-    number_of 18 (part c.args.line.now
-    c.word-w.result.from c.word-w.result.to) ≡ c.number-reading.result
-word_read c = sym c.number-reading.ensures
 
 pub loop-count-init : goal.loop-count-init
 loop-count-init c = gathering_starts _ _
 
-pub returns-then-from-to : goal.returns-then-from-to
-returns-then-from-to c =
-    c.result.ensures ∙
+pub returns-then-w : goal.returns-then-w
+returns-then-w c =
     gathering_ends
     c.args.line.now c.args.start c.loop-count.at c.loop-count.count c.loop-count.values c.loop-count.invariant
-    c.word-w.result c.word-w.ensures.value (search rules) c.if-from-to.true
+    c.word-w.result c.word-w.ensures.value (search rules) c.if-w.true
 
-pub returns-in-Malformed : goal.returns-in-Malformed
-returns-in-Malformed c =
-    c.result-in-Malformed.ensures ∙
+pub returns-in_err-values : goal.returns-in_err-values
+returns-in_err-values c =
+    ap (option_map _) c.from_residual.ensures ∙
     gathering_stops
     c.args.line.now c.args.start c.loop-count.at c.loop-count.count c.loop-count.values c.loop-count.invariant
-    c.word-w.result c.word-w.ensures.value (search rules) c.if-from-to.false
-    (word_read (goal.at.returns-in-Malformed c).After-number-reading ∙ c.in-Malformed.is)
+    c.word-w.result c.word-w.ensures.value (search rules) c.if-w.false (sym c.in_err-values.ensures)
 
 pub loop-count-preserved : goal.loop-count-preserved
 loop-count-preserved c =
-    let v = c.in-Number.value in
+    let v = c.in_ok-values.field-0 in
     rw (back w64 v (search rules))
     (gathering_more
     c.args.line.now c.args.start c.loop-count.at c.loop-count.count c.loop-count.values c.loop-count.invariant
-    c.word-w.result c.word-w.ensures.value (search rules) c.if-from-to.false
-    v (word_read (goal.at.loop-count-preserved c).After-number-reading ∙ c.in-Number.is))
+    c.word-w.result c.word-w.ensures.value (search rules) c.if-w.false v (sym c.in_ok-values.ensures))
+
+pub returns-then-behind : goal.returns-then-behind
+returns-then-behind c =
+    gathering_over
+    c.args.line.now c.args.start c.loop-count.at c.loop-count.count c.loop-count.values c.loop-count.invariant
+    c.word-behind.result c.word-behind.ensures.value (omega arith) (λ e. omega arith)
 
 pub returns : goal.returns
 returns c =
-    c.result-2.ensures ∙
+    let six : c.loop-count.count ≡ 6 = omega arith in
+    ap (λ (n : ℕ). Some (take n c.loop-count.values)) (sym six) ∙
     gathering_full
     c.args.line.now c.args.start c.loop-count.at c.loop-count.count c.loop-count.values c.loop-count.invariant
-    c.word-behind.result c.word-behind.ensures.value (search rules)
+    c.word-behind.result c.word-behind.ensures.value six (omega arith)

@@ -1,18 +1,14 @@
--- `text::hexadecimal::all_digits` meets its contract. Every byte passed is a digit.
+-- `text::hexadecimal::all_digits` meets its contract.
 use mathlib.Core.Path.{sym, ◌∙◌}
-use native.Mathlib.Numerals.{add-one}
-use native.Mathlib.Omega.{arith}
-use Rattle.text.specs.HexadecimalLaws.{all_more, all_fails, all_ends}
+use lib.Dec.{ltb}
+use Rattle.std.proofs.Common.{rules, tests}
+use Rattle.std.proofs.lemmas.Iterator.{YieldsList-from_slice}
+use Rattle.std.proofs.lemmas.Iterator.Search.{all_from_yields_List}
+use Rattle.text.specs.Hexadecimal.{hexadecimal_value}
+use Rattle.text.specs.HexadecimalLaws.{all_digits_are}
 use Rattle.text.proofs.hexadecimal.all_digits.Goals as goal
-
-pub returns-then-digit_value-eq16 : goal.returns-then-digit_value-eq16
-returns-then-digit_value-eq16 c =
-    sym (c.loop-i.invariant ∙ all_fails c.args.word.now c.loop-i.i (omega arith) (omega arith))
-
-pub loop-i-preserved : goal.loop-i-preserved
-loop-i-preserved c =
-    rw add-one (c.loop-i.invariant ∙ all_more c.args.word.now c.loop-i.i (omega arith) (omega arith))
 
 pub returns : goal.returns
 returns c =
-    sym (c.loop-i.invariant ∙ all_ends c.args.word.now c.loop-i.i (omega arith))
+    all_from_yields_List (λ b. ltb (hexadecimal_value b) 16) _ _ _ c.all.ensures.ran (YieldsList-from_slice c.args.word.now cc)
+    (λ x b q k. search (rules, tests)) ∙ sym (all_digits_are c.args.word.now)
