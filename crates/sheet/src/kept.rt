@@ -35,16 +35,17 @@ fn scans_before(here: u32, other: u32) -> u32
 }
 
 // The greatest or the least sum that scans can give, with these extremes: `here` is the one of that bound.
+#[tactic(auto, using(integers::specs::Machine::read_back), unfolding(crate::specs::Valid::sum_bound))]
 fn sum_bound(bound: Bound, scans: u32, here: Occurrence, other: Occurrence) -> i64
     requires { Bounded bound scans here other × (scans ≤ 4294967295) }
     ensures { result ≡ sum_bound bound scans here other }
 {
-    let all = integers::times(i64::from(here.pv), (scans - 1) as u64);
-    let sum = integers::sum(all, i64::from(other.pv));
+    let all = i64::from(here.pv) * (scans - 1) as i64;
+    let sum = all + i64::from(other.pv);
     let earlier = scans_before(here.number, other.number);
     match bound {
-        Bound::Greatest => integers::sum(sum, integers::signed(true, earlier as u64)),
-        Bound::Least => integers::sum(sum, integers::signed(false, earlier as u64)),
+        Bound::Greatest => sum - earlier as i64,
+        Bound::Least => sum + earlier as i64,
     }
 }
 
@@ -54,6 +55,7 @@ fn is_occurrence(scans: u32, first: Occurrence) -> bool
     (1 <= first.number) & (first.number <= scans)
 }
 
+#[tactic(auto, using(integers::specs::Machine::read_back), unfolding(crate::specs::Valid::in_order))]
 fn in_order(greatest: Occurrence, least: Occurrence) -> bool
     ensures { result ≡ in_order greatest least }
 {
@@ -61,32 +63,31 @@ fn in_order(greatest: Occurrence, least: Occurrence) -> bool
     let other = least.number;
     let high = i64::from(greatest.pv);
     let low = i64::from(least.pv);
-    if integers::less(low, high) {
-        let next = integers::plus(low, 1);
-        return (at != other) & ((at == 1) | (other == 1) | integers::less(next, high));
+    if low < high {
+        return (at != other) & ((at == 1) | (other == 1) | (low + 1 < high));
     }
-    integers::not_above(low, high) & (at == 1) & (other == 1)
+    (low <= high) & (at == 1) & (other == 1)
 }
 
+#[tactic(auto, using(integers::specs::Machine::read_back), unfolding(crate::specs::Valid::is_possible))]
 fn is_possible(scans: u32, greatest: Occurrence, least: Occurrence, sum: i64) -> bool
     ensures { result ≡ is_possible scans greatest least sum }
 {
     if is_occurrence(scans, greatest) & is_occurrence(scans, least) & in_order(greatest, least) {
         let low = sum_bound(Bound::Least, scans, least, greatest);
         let high = sum_bound(Bound::Greatest, scans, greatest, least);
-        return integers::not_above(low, sum) & integers::not_above(sum, high);
+        return (low <= sum) & (sum <= high);
     }
     false
 }
 
+#[tactic(auto, using(integers::specs::Machine::read_back))]
 fn are_extremes(scans: u32, greatest: Extreme, least: Extreme, sum: i64) -> bool
     ensures { result ≡ are_extremes scans greatest least sum }
 {
     match greatest {
         Extreme::None => match least {
-            Extreme::None => (scans == 0)
-                & integers::not_above(0, sum)
-                & integers::not_above(sum, 0),
+            Extreme::None => (scans == 0) & (0 <= sum) & (sum <= 0),
             Extreme::First(_) => false,
         },
         Extreme::First(high) => match least {
@@ -96,10 +97,11 @@ fn are_extremes(scans: u32, greatest: Extreme, least: Extreme, sum: i64) -> bool
     }
 }
 
+#[tactic(auto, using(integers::specs::Machine::read_back))]
 fn is_sum_op(scans: u32, sum: i64) -> bool
     ensures { result ≡ is_sum_op scans sum }
 {
-    integers::not_above(0, sum) & integers::not_above(sum, (MOST_OP * scans as u64) as i64)
+    (0 <= sum) & (sum <= (MOST_OP * scans as u64) as i64)
 }
 
 // The contract rules out values that no answers give, and the refusal of values that some do.

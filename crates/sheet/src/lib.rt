@@ -165,8 +165,8 @@ impl SheetValues {
             greatest: extreme_after(Bound::Greatest, greatest, pv, number),
             least: extreme_after(Bound::Least, least, pv, number),
             alarms: alarms_after(self.alarms, answer.ds),
-            sumpv: integers::sum(self.sumpv, i64::from(pv)),
-            sumop: integers::sum(self.sumop, answer.op as i64),
+            sumpv: self.sumpv + i64::from(pv),
+            sumop: self.sumop + answer.op as i64,
         }
     }
 }

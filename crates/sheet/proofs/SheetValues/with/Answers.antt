@@ -74,26 +74,32 @@ overflow_add-modes c = rw c.place-k.ensures (omega (arith, (fitting (goal.at.ove
 pub alarms_after-requires : goal.alarms_after-requires
 alarms_after-requires c = (fitting (goal.at.alarms_after-requires c).Start).alarms
 
-pub sum-requires : goal.sum-requires
-sum-requires c =
-    rw (sumpv_read (goal.at.sum-requires c).Start, pv_is (goal.at.sum-requires c).After-from) (fitting (goal.at.sum-requires c).Start).pv
+-- the sums fit
+sumpv_fits : (c : After-from) → SFits w64 (to_z w64 (of_z w64 c.args.self.sumpv) +ℤ to_z w64 (of_z w64 c.from.result))
+sumpv_fits c = let s = c.before.before.before.before.before.before.before.before.before in
+    record { sfits = rw (sumpv_read s, pv_is c) (fitting s).pv }
 
-pub sum-requires-2 : goal.sum-requires-2
-sum-requires-2 c =
-    rw (sumop_read (goal.at.sum-requires-2 c).Start, op_is (goal.at.sum-requires-2 c).Start) (fitting (goal.at.sum-requires-2 c).Start).op
+sumop_fits : (c : Start) → SFits w64 (to_z w64 (of_z w64 c.args.self.sumop) +ℤ to_z w64 c.args.answer.op)
+sumop_fits c = record { sfits = rw (sumop_read c, op_is c) (fitting c).op }
+
+pub overflow_add-result : goal.overflow_add-result
+overflow_add-result c = sumpv_fits (goal.at.overflow_add-result c).After-from
+
+pub overflow_add-result-2 : goal.overflow_add-result-2
+overflow_add-result-2 c = sumop_fits (goal.at.overflow_add-result-2 c).Start
 
 pub returns : goal.returns
 returns c =
     let v = c.args.self in
     let a = c.args.answer in
-    let pv = pv_read (goal.at.returns c).Start in
+    let start = (goal.at.returns c).Start in
+    let from = (goal.at.returns c).After-from in
+    let pv = pv_read start in
     let e = took v a _ _ _ _ _ _
     c.place-k.ensures
     (rw pv at c.extreme_after.ensures)
     (rw pv at c.extreme_after-2.ensures)
     c.alarms_after.ensures
-    (back w64 c.sum.result c.sum.type_inv ∙
-    rw (sumpv_read (goal.at.returns c).Start, pv_is (goal.at.returns c).After-from) at c.sum.ensures)
-    (back w64 c.sum-2.result c.sum-2.type_inv ∙
-    rw (sumop_read (goal.at.returns c).Start, op_is (goal.at.returns c).Start) at c.sum-2.ensures) in
-    (e, rw e (taken_valid v a c.requires.1 c.requires.0 (answerable (goal.at.returns c).Start)))
+    (to_z-of_z (sumpv_fits from) ∙ rw (sumpv_read start, pv_is from) refl)
+    (to_z-of_z (sumop_fits start) ∙ rw (sumop_read start, op_is start) refl) in
+    (e, rw e (taken_valid v a c.requires.1 c.requires.0 (answerable start)))

@@ -1,87 +1,85 @@
 -- `sheet::kept::sum_bound` meets its contract.
 use mathlib.Core.Path.{◌≡◌, refl, ap, ◌∙◌}
-use mathlib.Core.Bool.{true, false}
-use Prim.Native.Nat.{ℕ, ◌-◌}
+use Prim.Native.Nat.{◌-◌, ◌<◌}
+use native.Mathlib.Omega.{arith}
 use lib.IntN.{ℤ, pos, ◌+ℤ◌, ◌*ℤ◌}
+use lib.Signed.{mag}
+use mir.Facts.{to_z-of_z}
 use mir.Syntax.{w32, w64}
 use mir.Val.{to_z, of_z, SFits}
-use Rattle.integers.specs.Machine.{back}
-use Rattle.integers.specs.Sign.{from_sign}
-use Rattle.sheet.specs.ExtremeLaws.{bound_fits}
+use Rattle.integers.specs.Machine.{back, cast_back}
+use Rattle.integers.specs.Operations.{number, nat_abs-product}
+use Rattle.sheet.specs.ExtremeLaws.{bound_fits, times_fits, sum_of_fits}
 use Rattle.sheet.specs.Valid.{scans_before, sum_bound}
-use Rattle.sheet.specs.declared.Bound.{Bound}
-use Rattle.sheet.specs.declared.Bound.TheVariants.{Greatest, Least}
-use Rattle.sheet.specs.declared.Occurrence.{Occurrence}
 use borrow.Author.Rules.{rules}
-use Rattle.sheet.proofs.kept.sum_bound.Goals.{After-signed, After-signed-in-Least, After-sum-sum}
+use Rattle.sheet.proofs.kept.sum_bound.Goals.{After-scans_before-earlier}
 use Rattle.sheet.proofs.kept.sum_bound.Goals as goal
 
-held : (z : ℤ) → SFits w32 z → to_z w32 (of_z w32 z) ≡ z
-held z f = back w32 z f.sfits
+module _ (c : After-scans_before-earlier) where
+  abbrev product : ℤ
+  product = c.args.here.pv *ℤ pos (c.args.scans - 1)
 
-here_is : (c : After-sum-sum) → to_z w64 (of_z w64 c.from.result) ≡ c.args.here.pv
-here_is c =
-    let pv : SFits w32 c.args.here.pv = search rules in
-    back w64 c.from.result c.from.type_inv ∙ c.from.ensures ∙ held c.args.here.pv pv
+  here_is : to_z w64 (of_z w64 c.from.result) ≡ c.args.here.pv
+  here_is =
+      let pv : SFits w32 c.args.here.pv = search rules in
+      back w64 c.from.result c.from.type_inv ∙ c.from.ensures ∙ back w32 c.args.here.pv pv.sfits
 
-product_is : (c : After-sum-sum) →
-    to_z w64 (of_z w64 c.times-all.result) ≡ c.args.here.pv *ℤ pos (c.args.scans - 1)
-product_is c = back w64 c.times-all.result c.times-all.type_inv ∙ (rw (here_is c) at c.times-all.ensures)
+  other_is : to_z w64 (of_z w64 c.from-2.result) ≡ c.args.other.pv
+  other_is =
+      let pv : SFits w32 c.args.other.pv = search rules in
+      back w64 c.from-2.result c.from-2.type_inv ∙ c.from-2.ensures ∙ back w32 c.args.other.pv pv.sfits
 
-other_is : (c : After-sum-sum) → to_z w64 (of_z w64 c.from-2.result) ≡ c.args.other.pv
-other_is c =
-    let pv : SFits w32 c.args.other.pv = search rules in
-    back w64 c.from-2.result c.from-2.type_inv ∙ c.from-2.ensures ∙ held c.args.other.pv pv
+  product_fits : SFits w64 product
+  product_fits =
+      let here = c.args.here.pv in
+      let times = pos (c.args.scans - 1) in
+      record {
+        sfits = omega (
+          arith,
+          times_fits here c.args.scans c.requires.0.held c.requires.1,
+          nat_abs-product here times,
+          number (here *ℤ times),
+        );
+      }
 
-sum_is : (c : After-sum-sum) → to_z w64 (of_z w64 c.sum-sum.result) ≡ (c.args.here.pv *ℤ pos (c.args.scans - 1)) +ℤ c.args.other.pv
-sum_is c =
-    back w64 c.sum-sum.result c.sum-sum.type_inv ∙ (rw (product_is c, other_is c) at c.sum-sum.ensures)
+  sum_fits : SFits w64 (product +ℤ c.args.other.pv)
+  sum_fits =
+      let bounded = c.requires.0 in
+      record { sfits = sum_of_fits c.args.here.pv c.args.other.pv c.args.scans bounded.held bounded.other_held c.requires.1 }
 
--- what a bound comes to
-lowered : (b : Bound) (scans : ℕ) (here other : Occurrence) (z earlier : ℤ) → b ≡ Greatest →
-    z ≡ (here.pv *ℤ pos (scans - 1)) +ℤ other.pv → earlier ≡ from_sign true (scans_before here.number other.number) →
-    z +ℤ earlier ≡ sum_bound b scans here other
+  -- the sum before the scans that stand before the extreme are counted
+  sum_is : to_z w64 (of_z w64 (to_z w64 (of_z w64 (to_z w64 (of_z w64 c.from.result) *ℤ to_z w64 (c.args.scans - 1)))
+      +ℤ to_z w64 (of_z w64 c.from-2.result))) ≡ product +ℤ c.args.other.pv
+  sum_is =
+      rw (here_is, cast_back w64 (c.args.scans - 1) (omega (arith, c.ranges.scans)), to_z-of_z product_fits, other_is) (to_z-of_z sum_fits)
+
+  earlier_is : to_z w64 c.scans_before-earlier.result ≡ pos (scans_before c.args.here.number c.args.other.number)
+  earlier_is = cast_back w64 c.scans_before-earlier.result (omega arith) ∙ ap pos c.scans_before-earlier.ensures
+
+  -- the bound fits
+  fits : mag (sum_bound c.args.bound c.args.scans c.args.here c.args.other) < 9223372036854775808
+  fits = bound_fits c.args.bound c.args.scans c.args.here c.args.other c.requires.0 c.requires.1
+
+pub overflow_sub-result : goal.overflow_sub-result
 unfolding sum_bound
-lowered b scans here other z earlier d e f = rw (d, e, f) refl
+overflow_sub-result c =
+    let before = (goal.at.overflow_sub-result c).After-scans_before-earlier in
+    rw (sum_is before, earlier_is before) (record { sfits = rw c.in-Greatest.is at (fits before) })
 
-raised : (b : Bound) (scans : ℕ) (here other : Occurrence) (z earlier : ℤ) → b ≡ Least →
-    z ≡ (here.pv *ℤ pos (scans - 1)) +ℤ other.pv → earlier ≡ from_sign false (scans_before here.number other.number) →
-    z +ℤ earlier ≡ sum_bound b scans here other
+pub overflow_add-result : goal.overflow_add-result
 unfolding sum_bound
-raised b scans here other z earlier d e f = rw (d, e, f) refl
-
-greatest_is : (c : After-signed) →
-    to_z w64 (of_z w64 c.sum-sum.result) ≡ (c.args.here.pv *ℤ pos (c.args.scans - 1)) +ℤ c.args.other.pv →
-    to_z w64 (of_z w64 c.sum-sum.result) +ℤ to_z w64 (of_z w64 c.signed.result)
-    ≡ sum_bound c.args.bound c.args.scans c.args.here c.args.other
-greatest_is c s =
-    lowered c.args.bound c.args.scans c.args.here c.args.other _ _ c.in-Greatest.is s
-    (back w64 c.signed.result c.signed.type_inv ∙ c.signed.ensures ∙
-    ap (from_sign true) c.scans_before-earlier.ensures)
-
-least_is : (c : After-signed-in-Least) →
-    to_z w64 (of_z w64 c.sum-sum.result) ≡ (c.args.here.pv *ℤ pos (c.args.scans - 1)) +ℤ c.args.other.pv →
-    to_z w64 (of_z w64 c.sum-sum.result) +ℤ to_z w64 (of_z w64 c.signed-in-Least.result)
-    ≡ sum_bound c.args.bound c.args.scans c.args.here c.args.other
-least_is c s =
-    raised c.args.bound c.args.scans c.args.here c.args.other _ _ c.in-Least.is s
-    (back w64 c.signed-in-Least.result c.signed-in-Least.type_inv ∙ c.signed-in-Least.ensures ∙
-    ap (from_sign false) c.scans_before-earlier.ensures)
-
-pub sum-requires : goal.sum-requires
-sum-requires c =
-    rw (greatest_is c (sum_is (goal.at.sum-requires c).After-sum-sum))
-    (bound_fits c.args.bound c.args.scans c.args.here c.args.other c.requires.0 c.requires.1)
-
-pub sum-requires-in-Least : goal.sum-requires-in-Least
-sum-requires-in-Least c =
-    rw (least_is c (sum_is (goal.at.sum-requires-in-Least c).After-sum-sum))
-    (bound_fits c.args.bound c.args.scans c.args.here c.args.other c.requires.0 c.requires.1)
+overflow_add-result c =
+    let before = (goal.at.overflow_add-result c).After-scans_before-earlier in
+    rw (sum_is before, earlier_is before) (record { sfits = rw c.in-Least.is at (fits before) })
 
 pub returns-in-Greatest : goal.returns-in-Greatest
-returns-in-Greatest c = back w64 c.sum.result c.sum.type_inv ∙ c.sum.ensures ∙
-    greatest_is (goal.at.returns-in-Greatest c).After-signed (sum_is (goal.at.returns-in-Greatest c).After-sum-sum)
+unfolding sum_bound
+returns-in-Greatest c =
+    let before = (goal.at.returns-in-Greatest c).After-scans_before-earlier in
+    to_z-of_z (overflow_sub-result c) ∙ rw (sum_is before, earlier_is before, c.in-Greatest.is) refl
 
 pub returns-in-Least : goal.returns-in-Least
-returns-in-Least c = back w64 c.sum-in-Least.result c.sum-in-Least.type_inv ∙ c.sum-in-Least.ensures ∙
-    least_is (goal.at.returns-in-Least c).After-signed-in-Least (sum_is (goal.at.returns-in-Least c).After-sum-sum)
+unfolding sum_bound
+returns-in-Least c =
+    let before = (goal.at.returns-in-Least c).After-scans_before-earlier in
+    to_z-of_z (overflow_add-result c) ∙ rw (sum_is before, earlier_is before, c.in-Least.is) refl
