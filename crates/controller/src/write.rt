@@ -20,7 +20,7 @@ const WORD_COUNT: u64 = Controller::WORD_MOST as u64 + 1;
 fn word_of(v: i64) -> u16
     ensures { result ≡ word_of v }
 {
-    (integers::magnitude(v) % WORD_COUNT) as u16
+    (v.unsigned_abs() % WORD_COUNT) as u16
 }
 
 impl Core {
@@ -183,7 +183,7 @@ impl Controller {
         ensures { (response_of_verdict result ≡ write self writer number value) × Valid result.controller }
     {
         let core = self.core;
-        let v = integers::wide(value);
+        let v = i64::from(value);
         let verdict = core.write_verdict(writer, number, v);
         match verdict {
             Verdict::Refused(refusal) => CallResult {

@@ -130,7 +130,7 @@ fn main(rt: HostRuntime) {
     let dryer = dry(100);
     let controller = dryer.controller;
     match controller.read(parameters::OP) {
-        ReadAnswer::Value(op) => print(&rt, integers::magnitude(integers::wide(op))),
+        ReadAnswer::Value(op) => print(&rt, u64::from(op.unsigned_abs())),
         ReadAnswer::Refused(refusal) => print(&rt, refusal.number() as u64),
     }
     let sheet = dryer.sheet;

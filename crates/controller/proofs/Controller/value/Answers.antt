@@ -8,7 +8,7 @@ use Rattle.integers.specs.Machine.{back, cast_back}
 use Rattle.parameters.specs.Table.{is_from}
 use Rattle.outputs.specs.OutputLaws.{stored_back}
 use Rattle.controller.specs.Read.{value_in}
-use Rattle.controller.specs.ValidLaws.{reading_back}
+use Rattle.controller.specs.ValidLaws.{reading_narrowed}
 use borrow.Author.Rules.{rules}
 use Rattle.controller.proofs.Controller.value.Goals.{In_default, in_default-via-then-number-lt1}
 use Rattle.controller.proofs.Controller.value.Goals.{in_default-via-else-number-lt1+else-number-lt24}
@@ -38,27 +38,15 @@ returns-in-28 c =
 
 pub returns-in-29 : goal.returns-in-29
 unfolding value_in
-returns-in-29 c =
-    simp (back w32 c.narrow.result c.narrow.type_inv, c.in-29.is)
-    (simp c.narrow.ensures
-    (simp (reading_back c.args.self.core.readings.sp
-    c.requires.readable.sp_most)))
+returns-in-29 c = simp (reading_narrowed c.args.self.core.readings.sp c.requires.readable.sp_most, c.in-29.is)
 
 pub returns-in-30 : goal.returns-in-30
 unfolding value_in
-returns-in-30 c =
-    simp (back w32 c.narrow-in-30.result c.narrow-in-30.type_inv, c.in-30.is)
-    (simp c.narrow-in-30.ensures
-    (simp (reading_back c.args.self.core.readings.pv
-    c.requires.readable.pv_most)))
+returns-in-30 c = simp (reading_narrowed c.args.self.core.readings.pv c.requires.readable.pv_most, c.in-30.is)
 
 pub returns-in-31 : goal.returns-in-31
 unfolding value_in
-returns-in-31 c =
-    simp (back w32 c.narrow-in-31.result c.narrow-in-31.type_inv, c.in-31.is)
-    (simp c.narrow-in-31.ensures
-    (simp (reading_back c.args.self.core.readings.er
-    c.requires.readable.er_most)))
+returns-in-31 c = simp (reading_narrowed c.args.self.core.readings.er c.requires.readable.er_most, c.in-31.is)
 
 pub returns-in-1-to-23 : goal.returns-in-1-to-23
 unfolding value_in
@@ -81,7 +69,7 @@ unfolding value_in
 returns-in_default c = let n = c.args.number in
     let r = c.in_default-1.rest in
     simp (
-      back w32 c.narrow-in_default.result c.narrow-in_default.type_inv,
+      reading_narrowed c.args.self.core.readings.mp c.requires.readable.mp_most,
       outside (goal.at.returns-in_default c).In_default,
       ne_eqb n 24 r.0.0.0.0.0.0.0.1,
       ne_eqb n 25 r.0.0.0.0.0.0.1,
@@ -92,4 +80,3 @@ returns-in_default c = let n = c.args.number in
       ne_eqb n 30 r.0.1,
       ne_eqb n 31 r.1,
     )
-    (simp c.narrow-in_default.ensures (simp (reading_back c.args.self.core.readings.mp c.requires.readable.mp_most)))

@@ -17,12 +17,12 @@ use Rattle.controller.specs.Write.{write_tests, write_accepted, write_core, cont
 use Rattle.controller.specs.RightLaws.{common_passed}
 use Rattle.controller.specs.Scan.{controller_after, refused, response_from}
 use Rattle.controller.specs.WriteLaws.{written_valid}
-use Rattle.controller.proofs.Controller.write.Goals.{After-wide-v, After-write_verdict-verdict}
+use Rattle.controller.proofs.Controller.write.Goals.{After-from-v, After-write_verdict-verdict}
 use Rattle.controller.proofs.Controller.write.Goals as goal
 
 -- the value that was widened is the value
-value_is : (c : After-wide-v) → to_z w64 (of_z w64 c.wide-v.result) ≡ c.args.value
-value_is c = back w64 c.wide-v.result c.wide-v.type_inv ∙ c.wide-v.ensures ∙ to_z-of_z {w = w32} c.ranges.value
+value_is : (c : After-from-v) → to_z w64 (of_z w64 c.from-v.result) ≡ c.args.value
+value_is c = back w64 c.from-v.result c.from-v.type_inv ∙ c.from-v.ensures ∙ to_z-of_z {w = w32} c.ranges.value
 
 verdict_is : (c : After-write_verdict-verdict) → number_in c.write_verdict-verdict.result
     ≡ refused_by (write_tests c.args.self.core c.args.writer c.args.number c.args.value)
@@ -37,7 +37,7 @@ some_refuses : {v : Verdict} (r : Refusal) (ts : List (Bool × ℕ)) → number_
 some_refuses r ts e is = sym e ∙ ap number_in is
 
 pub written-controller-requires : goal.written-controller-requires
-written-controller-requires c = simp (value_is (goal.at.written-controller-requires c).After-wide-v) (
+written-controller-requires c = simp (value_is (goal.at.written-controller-requires c).After-from-v) (
   c.requires,
   common_passed c.args.self.core c.args.writer c.args.number c.args.value
       (none_refuses _ (verdict_is (goal.at.written-controller-requires c).After-write_verdict-verdict) c.in-Accepted.is),
@@ -52,7 +52,7 @@ pub returns-in-Accepted : goal.returns-in-Accepted
 unfolding write write_core response_from controller_after controller_written write_accepted
 returns-in-Accepted c =
     let passed = none_refuses _ (verdict_is (goal.at.returns-in-Accepted c).After-write_verdict-verdict) c.in-Accepted.is in
-    let is = simp (value_is (goal.at.returns-in-Accepted c).After-wide-v) at c.written-controller.ensures in (
+    let is = simp (value_is (goal.at.returns-in-Accepted c).After-from-v) at c.written-controller.ensures in (
       simp (passed, is),
       rw is
           (written_valid c.args.self c.args.number c.args.value c.requires
