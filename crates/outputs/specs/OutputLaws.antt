@@ -1,6 +1,6 @@
 -- How large the numbers of step 6 are; what is remembered stays within -9999..9999, and the stored
 -- output within 0..9999 units.
-use Rattle.std.specs.Prelude.{◌≡◌, Bool, not, ◌&&◌, ℕ, ◌+◌, ◌≤◌, min, ℤ, pos, nat_abs, ◌+ℤ◌, ◌-ℤ◌, ◌*ℤ◌, ◌≤ℤ◌, if◌then◌else◌}
+use Rattle.std.specs.Prelude.{◌≡◌, Bool, not, ◌&&◌, ℕ, ◌+◌, ◌≤◌, min, ℤ, pos, nat_abs, ◌+ℤ◌, ◌-ℤ◌, ◌*ℤ◌, ◌≤ℤ◌}
 use Rattle.std.proofs.Math.Path.{refl}
 use Rattle.std.proofs.Math.Bool.{true, false}
 use Rattle.std.proofs.Common.{arith, to_z, of_z}
@@ -25,7 +25,7 @@ use Rattle.terms.specs.TermLaws.{term_size}
 use Rattle.terms.specs.Terms.{stored_term, TuningRange}
 use Rattle.outputs.specs.ControlDifference.{control_difference, earlier_setpoint, change_of_difference, second_difference, tuning_of}
 use Rattle.outputs.specs.History.{history_before, remembered, history_after, recalled}
-use Rattle.outputs.specs.Instruction.{unlimited, between, stored_arithmetic, changed, limited_to, executed}
+use Rattle.outputs.specs.Instruction.{stored_arithmetic, changed, limited_to, executed}
 use Rattle.outputs.specs.Outputs.{change_in, limits_in, minimum_of, instruction_of, restarted_to, restart_instruction}
 use Rattle.outputs.specs.declared.History.{History}
 use Rattle.outputs.specs.declared.History.TheVariants.{Nothing, One, Two}

@@ -1,5 +1,5 @@
 -- A test of each number of a short range.
-use Rattle.std.specs.Prelude.{◌≡◌, Bool, true, false, ◌&&◌}
+use Rattle.std.specs.Prelude.{◌≡◌, Bool, true, ◌&&◌}
 use Rattle.std.proofs.Math.Path.{refl}
 use Rattle.std.proofs.Common.{subst, ⊎_elim, eq-or-lt_of_le, ap, ◌∙◌, add-one}
 use Rattle.std.specs.List.{list_all, range_with_len}

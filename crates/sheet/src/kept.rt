@@ -1,6 +1,6 @@
 // A sheet from values that a host kept, over a power cut say: taken if answers can have given them, of any values that
 // an answer's types hold.
-ghost use Rattle.std.specs.Prelude.{◌≡◌, true, ◌+◌, ◌≤◌, ◌<◌};
+ghost use Rattle.std.specs.Prelude.{◌≡◌, ◌+◌, ◌≤◌, ◌<◌};
 ghost use Rattle.sheet.specs.ExtremeLaws.{Bounded};
 ghost use Rattle.sheet.specs.Valid.{total, scans_before, sum_bound, is_occurrence, in_order, is_possible};
 ghost use Rattle.sheet.specs.Valid.{are_extremes, is_sum_op, is_valid, Valid, kept_sheet};
