@@ -21,8 +21,7 @@ fn fresh(values: [i64; 6]) -> Command
 pub fn number_in(value: i64) -> u64
     ensures { result ≡ parameter_number value }
 {
-    let size = integers::magnitude(value);
-    if integers::negative(value) { 0 } else { size }
+    if value < 0 { 0 } else { value as u64 }
 }
 
 // save LENGTH

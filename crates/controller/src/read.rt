@@ -14,8 +14,7 @@ impl Core {
         ensures { result ≡ value self.parameters number }
     {
         let p = self.parameters;
-        let v = p.get(number);
-        integers::narrow(v)
+        p.get(number) as i32
     }
 }
 
@@ -24,6 +23,7 @@ impl Controller {
     pub const IDENTITY: i32 = 0x3608;
 
     // "a read answers the value": by number, MD and DS as they stand now; MP, the last of the table, for any other.
+    #[tactic(auto, unfolding(crate::specs::Read::value_in))]
     fn value(self, number: u64) -> i32
         ensures { result ≡ value_in self.core (op_of self.output) number }
     {
@@ -36,10 +36,10 @@ impl Controller {
             parameters::SW => core.sw as i32,
             parameters::II => Self::IDENTITY,
             parameters::OP => crate::op_of(self.output) as i32,
-            parameters::SP => integers::narrow(r.sp),
-            parameters::PV => integers::narrow(r.pv),
-            parameters::ER => integers::narrow(r.er),
-            _ => integers::narrow(r.mp),
+            parameters::SP => r.sp as i32,
+            parameters::PV => r.pv as i32,
+            parameters::ER => r.er as i32,
+            _ => r.mp as i32,
         }
     }
 

@@ -4,9 +4,9 @@ use Prim.Native.Nat.{◌<◌}
 use native.Mathlib.Omega.{arith}
 use mathlib.Core.Option.{some}
 use lib.IntN.{nat_abs}
-use mir.Syntax.{w32, w64}
+use mir.Facts.{to_z-of_z}
+use mir.Syntax.{w64}
 use mir.Val.{to_z, of_z}
-use borrow.Author.Rules.{rules}
 use Rattle.integers.specs.Machine.{back}
 use Rattle.integers.specs.Operations.{number}
 use Rattle.terminal.specs.Commands.{value_of, writing}
@@ -23,15 +23,16 @@ value e =
 held : (e : In-Number) → to_z w64 (of_z w64 e.in-Number.value) ≡ e.in-Number.value
 held e = back w64 e.in-Number.value (omega (arith, (value e).1, number e.in-Number.value))
 
-pub narrow-requires : goal.narrow-requires
-narrow-requires c = simp (held (goal.at.narrow-requires c).In-Number)
-    (omega (arith, (value (goal.at.narrow-requires c).In-Number).1, number c.in-Number.value))
+pub overflow_cast-result : goal.overflow_cast-result
+overflow_cast-result c =
+    let e = (goal.at.overflow_cast-result c).In-Number in
+    simp (held e) (record { sfits = omega (arith, (value e).1, number c.in-Number.value) })
 
 pub returns-in-Number : goal.returns-in-Number
 returns-in-Number c =
     let n = c.args.number in
-    ap (Write n) (back w32 c.narrow.result (search rules) ∙ c.narrow.ensures ∙ held (goal.at.returns-in-Number c).In-Number) ∙
-    sym (ap (writing n) (value (goal.at.returns-in-Number c).In-Number).0)
+    let e = (goal.at.returns-in-Number c).In-Number in
+    ap (Write n) (to_z-of_z (overflow_cast-result c) ∙ held e) ∙ sym (ap (writing n) (value e).0)
 
 pub returns-in-Malformed : goal.returns-in-Malformed
 returns-in-Malformed c =
