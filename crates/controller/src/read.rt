@@ -15,8 +15,7 @@ impl Core {
         ensures { result ≡ value self.parameters number }
     {
         let p = self.parameters;
-        let v = p.get(number);
-        integers::narrow(v)
+        p.get(number) as i32
     }
 }
 
@@ -38,10 +37,10 @@ impl Controller {
             parameters::SW => core.sw as i32,
             parameters::II => Self::IDENTITY,
             parameters::OP => crate::op_of(self.output) as i32,
-            parameters::SP => integers::narrow(r.sp),
-            parameters::PV => integers::narrow(r.pv),
-            parameters::ER => integers::narrow(r.er),
-            _ => integers::narrow(r.mp),
+            parameters::SP => r.sp as i32,
+            parameters::PV => r.pv as i32,
+            parameters::ER => r.er as i32,
+            _ => r.mp as i32,
         }
     }
 
