@@ -36,23 +36,6 @@ use Rattle.controller_calls.specs.declared.Step.{Step}
 use Rattle.commands.specs.declared.Call.{Call}
 use Rattle.commands.specs.declared.Call.TheVariants.{Fresh, Scan, Write, Access, Read, Restart, Save, Line, Clock}
 
--- every call leaves a controller that the next call may take
-pub valid_performed : (c : Controller) (call : Call) (bytes : List ℕ) → Valid c → Valid (performed c call bytes).controller
-unfolding performed terminal_step
-valid_performed c (Fresh sw) bytes v = valid_fresh sw
-valid_performed c (Scan input) bytes v = valid_scan c input v
-valid_performed c (Write w n value) bytes v = valid_write c w n value v
-valid_performed c (Access w n) bytes v = v
-valid_performed c (Read n) bytes v = v
-valid_performed c (Restart count) bytes v =
-    by_cases (λ (s : Step). Valid s.controller) (leb count (length bytes)) (step_of (restart c (take count bytes)))
-    (unchanged_with c Error) (λ e. valid_restart c (take count bytes) v) (λ e. v)
-valid_performed c (Save count) bytes v = v
-valid_performed c (Line w count size) bytes v =
-    by_cases (λ (s : Step). Valid s.controller) (terminal_fits count size (length bytes)) _ (unchanged_with c Error)
-    (λ e. valid_line c w (take count bytes) (take size (filled bytes)) v) (λ e. v)
-valid_performed c Clock bytes v = v
-
 -- ---- filled buffers
 
 pub filled_replicate : (n : ℕ) → is_filled (replicate n 0xA5) ≡ true

@@ -211,4 +211,4 @@ line_right c w line buffer r after (Write n v) valid (asks_write a) e =
 pub lines_right : LinesRight
 unfolding answered
 lines_right lives c w line buffer r after valid e =
-    line_right c w line.now buffer.now r after (command_in line.now) valid (meaning line.now) e.0
+    line_right c w line.now buffer.now r after (command_in line.now) valid (meaning line.now) e
