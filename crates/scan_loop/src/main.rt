@@ -1,5 +1,5 @@
-// A host's loop, in which every call that returns a controller or a sheet is made; both stand in a struct. That each can
-// take the next call is in their types, so no function here has a contract or a proof file.
+// A host's loop, in which every call that returns a controller or a sheet is made; both stand in a struct. That each
+// can take the next call is in their types, so no function here has a contract or a proof file.
 #![tactic(auto)]
 
 use controller::Controller;
