@@ -2,7 +2,7 @@
 use Rattle.std.specs.Prelude.{◌≡◌, refl, Bool, true, false, ◌||◌, List, [], ◌∷◌, ℕ, ◌≤◌, ltb, ℤ, pos, nat_abs, ◌-ℤ◌, if◌then◌else◌}
 use Rattle.std.proofs.Math.Option.{Option, some, none}
 use Rattle.std.proofs.Common.{arith, to_z, of_z, ltb-false}
-use Rattle.std.specs.Int.{w64}
+use Rattle.std.specs.Int.{w32, w64}
 use Rattle.integers.specs.Choice.{never}
 use Rattle.integers.specs.Machine.{back}
 use Rattle.integers.specs.Operations.{number, difference}
@@ -33,6 +33,10 @@ use Rattle.controller.specs.declared.Core.{Core}
 -- ---- a reading stands as it is in 64 bits
 pub reading_back : (z : ℤ) → nat_abs z ≤ 19998 → to_z w64 (of_z w64 z) ≡ z
 reading_back z h = back w64 z (omega (arith, h, number z))
+
+-- and in 32
+pub reading_narrowed : (z : ℤ) → nat_abs z ≤ 19998 → to_z w32 (of_z w32 (to_z w64 (of_z w64 z))) ≡ z
+reading_narrowed z h = rw (reading_back z h) (back w32 z (omega (arith, h, number z)))
 
 -- ---- a call that no test refuses passed each test
 

@@ -99,7 +99,7 @@ fn start_readings(p: Parameters) -> Readings
 {
     let pv = p.get(parameters::L1);
     let sp = p.get(parameters::SL);
-    let er = integers::minus(pv, sp);
+    let er = pv - sp;
     Readings { pv, sp, er, mp: 0 }
 }
 
@@ -138,7 +138,7 @@ fn op_of(output: i64) -> u16
     requires { OutputRange output }
     ensures { (result ≡ op_of output) × (result ≤ 9999) }
 {
-    (integers::magnitude(output) / terms::UNIT) as u16
+    (output.unsigned_abs() / terms::UNIT) as u16
 }
 
 fn electrical_of(sw: u16, output: i64) -> u16

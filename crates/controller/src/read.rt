@@ -4,6 +4,7 @@ ghost use Rattle.parameters.specs.Legal.{Legal};
 ghost use Rattle.parameters.specs.Table.{value};
 ghost use Rattle.controller.specs.Answers.{op_of, reply_of_read};
 ghost use Rattle.controller.specs.Read.{value_in, read};
+ghost use Rattle.controller.specs.Valid.{Valid};
 
 use crate::{Controller, Core};
 use signals::Refusal;
@@ -14,8 +15,7 @@ impl Core {
         ensures { result ≡ value self.parameters number }
     {
         let p = self.parameters;
-        let v = p.get(number);
-        integers::narrow(v)
+        p.get(number) as i32
     }
 }
 
@@ -24,6 +24,7 @@ impl Controller {
     pub const IDENTITY: i32 = 0x3608;
 
     // "a read answers the value": by number, MD and DS as they stand now; MP, the last of the table, for any other.
+    #[tactic(auto, unfolding(crate::specs::Read::value_in))]
     fn value(self, number: u64) -> i32
         ensures { result ≡ value_in self.core (op_of self.output) number }
     {
@@ -36,19 +37,21 @@ impl Controller {
             parameters::SW => core.sw as i32,
             parameters::II => Self::IDENTITY,
             parameters::OP => crate::op_of(self.output) as i32,
-            parameters::SP => integers::narrow(r.sp),
-            parameters::PV => integers::narrow(r.pv),
-            parameters::ER => integers::narrow(r.er),
-            _ => integers::narrow(r.mp),
+            parameters::SP => r.sp as i32,
+            parameters::PV => r.pv as i32,
+            parameters::ER => r.er as i32,
+            _ => r.mp as i32,
         }
     }
 
     // The value of a parameter in its own units, or the refusal that the table names for a number outside
     // it, the only one of a read. The contract rules out a neighbour's value, a word of an earlier state, and
-    // any other refusal; nothing changes, since no controller is returned.
+    // any other refusal; nothing changes, since no controller is returned. What the type says of a controller it also
+    // says to a caller, who learns so how large a value can be.
     pub fn read(self, number: u64) -> Result<i32, Refusal>
-        ensures { reply_of_read result ≡ read self number }
+        ensures { (reply_of_read result ≡ read self number) × Valid self }
     {
+        let _ = &self.core;
         Controller::rule(number).unknown_verdict()?;
         Ok(self.value(number))
     }

@@ -123,7 +123,7 @@ impl Controller {
         let electrical = crate::electrical_of(core.sw, self.output);
         let mode = core.mode();
         let readings = core.readings;
-        let pv = integers::narrow(readings.pv);
+        let pv = readings.pv as i32;
         ScanValues {
             md,
             ds,

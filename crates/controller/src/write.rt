@@ -20,7 +20,7 @@ const WORD_COUNT: u64 = Controller::WORD_MOST as u64 + 1;
 fn word_of(v: i64) -> u16
     ensures { result ≡ word_of v }
 {
-    (integers::magnitude(v) % WORD_COUNT) as u16
+    (v.unsigned_abs() % WORD_COUNT) as u16
 }
 
 impl Core {
@@ -180,7 +180,7 @@ impl Controller {
     pub fn write(self, writer: Writer, number: u64, value: i32) -> CallResult
         ensures { (response_of_verdict result ≡ write self writer number value) × Valid result.controller }
     {
-        let v = integers::wide(value);
+        let v = i64::from(value);
         match self.core.write_verdict(writer, number, v) {
             Ok(()) => CallResult {
                 controller: self.written(number, v),

@@ -16,42 +16,17 @@ use Rattle.fields.specs.Fields.{save_tests, saved_in}
 use Rattle.rights.specs.declared.Writer.{Writer}
 use Rattle.controller.specs.Answers.{reply_of_verdict, reply_by, acceptance, number}
 use Rattle.controller.specs.ImageLaws.{saved_size}
-use Rattle.controller.specs.RestartLaws.{valid_restart}
-use Rattle.controller.specs.Restart.{restart}
 use Rattle.controller.specs.Save.{saved_image}
 use Rattle.controller.specs.Valid.{Valid}
 use Rattle.controller.specs.Write.{write_tests, write}
-use Rattle.controller.specs.ValidLaws.{valid_fresh, valid_scan}
-use Rattle.controller.specs.WriteLaws.{valid_write}
 use Rattle.controller.specs.declared.Controller.{Controller}
 use Rattle.terminal.specs.Commands.{command_in}
 use Rattle.terminal.specs.Terminal.{reply_text, present_value, replied, wrote_or, read_to, written_to, answered_to, answered}
 use Rattle.terminal.specs.Terminal.{refused_line, LineOutcome}
-use Rattle.terminal.specs.TerminalLaws.{valid_line}
 use Rattle.terminal.specs.Commands as command
-use Rattle.controller_calls.specs.Calls.{is_filled, step_of, unchanged_with, performed, checked_reply, save_reply}
-use Rattle.controller_calls.specs.Calls.{filled, terminal_fits, terminal_reply, terminal_step, checked_terminal}
-use Rattle.replies.specs.declared.Reply.TheVariants.{Image, Refused, Error}
-use Rattle.controller_calls.specs.declared.Step.{Step}
-use Rattle.commands.specs.declared.Call.{Call}
-use Rattle.commands.specs.declared.Call.TheVariants.{Fresh, Scan, Write, Access, Read, Restart, Save, Line, Clock}
-
--- every call leaves a controller that the next call may take
-pub valid_performed : (c : Controller) (call : Call) (bytes : List ℕ) → Valid c → Valid (performed c call bytes).controller
-unfolding performed terminal_step
-valid_performed c (Fresh sw) bytes v = valid_fresh sw
-valid_performed c (Scan input) bytes v = valid_scan c input v
-valid_performed c (Write w n value) bytes v = valid_write c w n value v
-valid_performed c (Access w n) bytes v = v
-valid_performed c (Read n) bytes v = v
-valid_performed c (Restart count) bytes v =
-    by_cases (λ (s : Step). Valid s.controller) (leb count (length bytes)) (step_of (restart c (take count bytes)))
-    (unchanged_with c Error) (λ e. valid_restart c (take count bytes) v) (λ e. v)
-valid_performed c (Save count) bytes v = v
-valid_performed c (Line w count size) bytes v =
-    by_cases (λ (s : Step). Valid s.controller) (terminal_fits count size (length bytes)) _ (unchanged_with c Error)
-    (λ e. valid_line c w (take count bytes) (take size (filled bytes)) v) (λ e. v)
-valid_performed c Clock bytes v = v
+use Rattle.controller_calls.specs.Calls.{is_filled, checked_reply, save_reply}
+use Rattle.controller_calls.specs.Calls.{terminal_fits, terminal_reply, checked_terminal}
+use Rattle.replies.specs.declared.Reply.TheVariants.{Image, Refused}
 
 -- ---- filled buffers
 

@@ -1,7 +1,6 @@
 // What comes of a restart with an image, and of saving one.
 ghost use Rattle.std.specs.Prelude.{◌≡◌, leb, length, take, if◌then◌else◌};
 ghost use Rattle.controller.specs.Restart.{restart};
-ghost use Rattle.controller.specs.Valid.{Valid};
 ghost use Rattle.controller_calls.specs.Calls.{step_of, unchanged_with, checked_reply, reply_to_save, saved_buffer};
 ghost use Rattle.replies.specs.declared.Reply.TheVariants.{Error};
 
@@ -13,7 +12,6 @@ use signals::Refusal;
 // A restart with so many bytes of the buffer. The contract rules out one with other bytes, and a controller that isn't
 // the one which the restart returned.
 pub fn restart(controller: Controller, count: usize, buffer: &[u8]) -> Step
-    requires { Valid controller }
     ensures { result ≡ (if leb count (length buffer.now) then
         step_of (restart controller (take count buffer.now)) else unchanged_with controller Error) }
 {
@@ -55,7 +53,6 @@ fn reply_to_save(verdict: Result<(), Refusal>, buffer: &[u8]) -> Reply
 // Saves into so many bytes of the buffer. All others of it must stay too. The contract gives the reply by the verdict
 // alone, so it rules out that a byte changes which had to stay; and every byte of the buffer.
 pub fn save(controller: Controller, count: usize, buffer: &mut [u8]) -> Reply
-    requires { Valid controller }
     ensures { (result ≡ reply_to_save count buffer.old)
         × (buffer.new ≡ saved_buffer controller count buffer.old) }
 {

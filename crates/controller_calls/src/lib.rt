@@ -5,7 +5,6 @@ ghost use Rattle.std.specs.Prelude.{◌≡◌, length, replicate};
 ghost use Rattle.controller.specs.Answers.{reply_of, reply_of_verdict, reply_of_read};
 ghost use Rattle.controller.specs.Read.{read};
 ghost use Rattle.controller.specs.Scan.{scan};
-ghost use Rattle.controller.specs.Valid.{Valid};
 ghost use Rattle.controller.specs.Write.{write};
 ghost use Rattle.controller_calls.specs.Calls.{reply_to, step_of, unchanged_with, access_reply, performed, buffer_after};
 
@@ -66,7 +65,6 @@ fn reply_to_read(answer: Result<i32, Refusal>) -> Reply
 
 // The contract rules out the reply of another call, and a controller that isn't the one which the scan returned.
 fn scan(controller: Controller, input: Input) -> Step
-    requires { Valid controller }
     ensures { result ≡ step_of (scan controller input) }
 {
     let r = controller.scan(input);
@@ -78,7 +76,6 @@ fn scan(controller: Controller, input: Input) -> Step
 
 // The contract rules out the same of a write.
 fn write(controller: Controller, writer: Writer, number: u64, value: i32) -> Step
-    requires { Valid controller }
     ensures { result ≡ step_of (write controller writer number value) }
 {
     let r = controller.write(writer, number, value);
@@ -101,13 +98,10 @@ fn access(controller: Controller, writer: Writer, number: u64) -> Step
 
 // Performs a call, with the buffer that holds a restart's bytes or a terminal's line and takes a saved image or the
 // terminal's reply. The contract gives the next controller, the reply and every byte of the buffer, so it rules out the
-// reply of another call, a controller that isn't handed on, and a call that is always an error; and a controller that
-// the next call could not take.
+// reply of another call, a controller that isn't handed on, and a call that is always an error.
 pub fn perform(controller: Controller, call: Call, buffer: &mut [u8]) -> Step
-    requires { Valid controller }
     ensures { (result ≡ performed controller call buffer.old)
-        × (buffer.new ≡ buffer_after controller call buffer.old)
-        × Valid result.controller }
+        × (buffer.new ≡ buffer_after controller call buffer.old) }
 {
     match call {
         Call::Fresh(sw) => Step {

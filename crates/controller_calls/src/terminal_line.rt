@@ -1,6 +1,5 @@
 // What comes of a line of the hand-held terminal.
 ghost use Rattle.std.specs.Prelude.{◌≡◌, length};
-ghost use Rattle.controller.specs.Valid.{Valid};
 ghost use Rattle.terminal.specs.Terminal.{reply_of_line};
 ghost use Rattle.controller_calls.specs.Calls.{terminal_fits, checked_terminal, terminal_step, terminal_buffer};
 
@@ -50,7 +49,6 @@ pub fn perform(
     size: usize,
     buffer: &mut [u8],
 ) -> Step
-    requires { Valid controller }
     ensures { (result ≡ terminal_step controller writer count size buffer.old)
         × (buffer.new ≡ terminal_buffer controller writer count size buffer.old) }
 {

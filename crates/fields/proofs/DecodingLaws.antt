@@ -1,16 +1,12 @@
--- The fields looked at so far, their values, and their sum.
-use Rattle.std.proofs.Common.{◌≡◌, ℕ, zero, suc, ◌+◌, ◌-◌, ◌%◌, ◌<◌, ◌≤◌, true, false, eqb, List, [], ◌∷◌, ◌++◌, length, get_or, take, drop}
-use Rattle.std.proofs.Common.{set, refl, ap, ◌∙◌, append-nil, le_of_suc-le-suc, not-suc-le-zero, add-one, arith, length-drop, length-set}
-use Rattle.std.proofs.Common.{take_all, drop-drop, take-suc-set, eq-eqb}
+-- The fields looked at so far, and their values.
+use Rattle.std.proofs.Common.{◌≡◌, ℕ, suc, ◌+◌, ◌-◌, ◌<◌, ◌≤◌, true, false, List, [], ◌++◌, length, take, drop}
+use Rattle.std.proofs.Common.{set, refl, ◌∙◌, append-nil, arith, length-drop, length-set}
+use Rattle.std.proofs.Common.{take_all, drop-drop, take-suc-set}
 use lib.Seq.{append_snoc}
 use Rattle.fields.specs.FieldLaws.{start_of, next_start, start_most}
-use Rattle.fields.specs.Fields.{tag_of, length_of, sum, sum_of}
+use Rattle.fields.specs.Fields.{tag_of, length_of}
 use Rattle.fields.specs.Decoding.{has_header, value_in, well_formed_from, values_from}
 use Rattle.fields.specs.RoundTrip.{well_formed_more, values_more}
-
-pub header_last : (t n : ℕ) (b : List ℕ) → get_or b 0 0 ≡ t → get_or b 1 0 ≡ 0 → eqb (get_or b 2 0) n ≡ has_header t n b
-unfolding has_header
-header_last t n b e0 e1 = simp (eq-eqb _ _ e0, eq-eqb _ _ e1)
 
 well_formed_not : (place many : ℕ) (b : List ℕ) → has_header (tag_of place) (length_of place) b ≡ false →
     well_formed_from place (suc many) b ≡ false
@@ -27,7 +23,7 @@ pub record Begun (start place : ℕ) : Type 0 where
   pub begins : start ≡ start_of place
   pub within : start ≤ 137
 
-pub begun_next : (start place n : ℕ) → Begun start place → place < 28 → n ≡ length_of place → Begun (start + 3 + n) (place + 1)
+pub begun_next : (start place n : ℕ) → Begun start place → place < 28 → n ≡ length_of place → Begun (start + (3 + n)) (place + 1)
 begun_next start place n g h en =
     record { few = omega arith; begins = omega (arith, next_start place h); within = omega (arith, next_start place h, start_most place h) }
 
@@ -38,13 +34,12 @@ pub record WellFormed (b : List ℕ) (start place : ℕ) : Type 0 where
   pub formed : well_formed_from 0 28 b ≡ well_formed_from place (28 - place) (drop start b)
 
 pub well_formed_next : (b : List ℕ) (start place t n : ℕ) → WellFormed b start place → place < 28 → t ≡ tag_of place → n ≡ length_of place →
-    has_header t n (take (length b - start) (drop start b)) ≡ true → WellFormed b (start + 3 + n) (place + 1)
+    has_header t n (take (length b - start) (drop start b)) ≡ true → WellFormed b (start + (3 + n)) (place + 1)
 well_formed_next b start place t n g h et en hh =
     let p : take (length b - start) (drop start b) ≡ drop start b = part_is b start in
     let m : 28 - place ≡ suc (28 - (place + 1)) = omega arith in
     let s : suc place ≡ place + 1 = omega arith in
     let d : drop (3 + n) (drop start b) ≡ drop (start + (3 + n)) b = drop-drop (3 + n) start b in
-    let a : start + (3 + n) ≡ start + 3 + n = omega arith in
     let hd : has_header (tag_of place) (length_of place) (drop start b) ≡ true = cc in
     record {
       begun = begun_next start place n g.begun h en;
@@ -75,13 +70,12 @@ pub record Decoded (b values : List ℕ) (start place : ℕ) : Type 0 where
   pub decoded : values_from 0 28 b ≡ take place values ++ values_from place (28 - place) (drop start b)
 
 pub decoded_next : (b values : List ℕ) (start place n v : ℕ) → Decoded b values start place → place < 28 → n ≡ length_of place →
-    v ≡ value_in n (take (length b - start) (drop start b)) → Decoded b (set values place v) (start + 3 + n) (place + 1)
+    v ≡ value_in n (take (length b - start) (drop start b)) → Decoded b (set values place v) (start + (3 + n)) (place + 1)
 decoded_next b values start place n v g h en ev =
     let p : take (length b - start) (drop start b) ≡ drop start b = part_is b start in
     let m : 28 - place ≡ suc (28 - (place + 1)) = omega arith in
     let s : suc place ≡ place + 1 = omega arith in
     let d : drop (3 + n) (drop start b) ≡ drop (start + (3 + n)) b = drop-drop (3 + n) start b in
-    let a : start + (3 + n) ≡ start + 3 + n = omega arith in
     record {
       begun = begun_next start place n g.begun h en;
       size = length-set values place v ∙ g.size;
@@ -101,18 +95,3 @@ decoded_all b values start place g h =
     let e : take place values ≡ values = take_all place values (omega arith) in
     let w : values_from place 0 (drop start b) ≡ [] = refl in
     cc (g.decoded, append-nil values)
-
--- ---- the sum
-
-pub sum_more : (vs : List ℕ) (i : ℕ) → i < length vs → sum (take (suc i) vs) ≡ sum (take i vs) + get_or vs i 0
-unfolding sum
-sum_more [] i h = absurd (not-suc-le-zero h)
-sum_more (w ∷ ws) zero h = omega arith
-sum_more (w ∷ ws) (suc i) h = omega (arith, sum_more ws i (le_of_suc-le-suc h))
-
-pub sum_next : (vs : List ℕ) (s i r : ℕ) → i < length vs → s ≡ sum_of (take i vs) → r ≡ (s + get_or vs i 0) % 65536 →
-    r ≡ sum_of (take (i + 1) vs)
-unfolding sum_of
-sum_next vs s i r h es er =
-    let more : sum (take (i + 1) vs) ≡ sum (take i vs) + get_or vs i 0 = ap (λ (k : ℕ). sum (take k vs)) (add-one i) ∙ sum_more vs i h in
-    omega arith

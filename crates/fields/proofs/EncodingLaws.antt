@@ -49,15 +49,14 @@ pub encoded_next : (values buffer b last : List ℕ) (start place t n : ℕ) →
     Encoded values buffer b start place → place < 28 →
     t ≡ tag_of place → n ≡ length_of place → length (put_mid start (length b - start) b last) ≡ length b →
     last ≡ field_bytes t n (get_or values place 0) ++ drop (3 + n) (take (length b - start) (drop start b)) →
-    Encoded values buffer (put_mid start (length b - start) b last) (start + 3 + n) (place + 1)
+    Encoded values buffer (put_mid start (length b - start) b last) (start + (3 + n)) (place + 1)
 encoded_next values buffer b last start place t n size room r h et en es el =
     let v = get_or values place 0 in
     let more : fields_from 0 (take (place + 1) values) ≡ fields_from 0 (take place values) ++ field_bytes t n v =
     ap (λ (k : ℕ). fields_from 0 (take k values)) (add-one place) ∙ fields_more 0 values place (omega arith) ∙ (cc (zero-add place)) in
     let long : length (field_bytes t n v) ≡ 3 + n = subst (λ (m : ℕ). length (field_bytes t m v) ≡ 3 + m) (sym en)
     (length_field t place v) in
-    let next : start + 3 + n ≡ start_of (place + 1) = omega (arith, next_start place h) in
-    let assoc : start + (3 + n) ≡ start + 3 + n = omega arith in
+    let next : start + (3 + n) ≡ start_of (place + 1) = omega (arith, next_start place h) in
     record {
       few = omega arith;
       begins = next;

@@ -42,6 +42,7 @@ const OP_TAG: usize = 0x41;
 
 const SUMCHECK_TAG: u8 = 0x7F;
 
+#[tactic(auto, unfolding(crate::specs::Fields::tag_of))]
 fn tag_of(place: usize) -> u8
     requires { place < 28 }
     ensures { result ≡ tag_of place }
@@ -55,16 +56,14 @@ fn tag_of(place: usize) -> u8
     }
 }
 
+#[tactic(auto, unfolding(crate::specs::Fields::length_of))]
 fn length_of(place: usize) -> u8
     requires { place < 28 }
     ensures { result ≡ length_of place }
 {
-    if place < REQUEST {
-        WORD_LENGTH
-    } else if place < SUMCHECK {
-        BYTE_LENGTH
-    } else {
-        WORD_LENGTH
+    match place {
+        REQUEST..=USER_BITS => BYTE_LENGTH,
+        _ => WORD_LENGTH,
     }
 }
 
@@ -77,11 +76,12 @@ fn encode_field(part: &mut [u8], tag: u8, size: u8, value: u16)
     part[0] = tag;
     part[1] = 0;
     part[2] = size;
+    let [high, low] = value.to_be_bytes();
     if size == WORD_LENGTH {
-        part[3] = (value / 256) as u8;
-        part[4] = (value % 256) as u8;
+        part[3] = high;
+        part[4] = low;
     } else {
-        part[3] = (value % 256) as u8;
+        part[3] = low;
     }
 }
 
@@ -90,13 +90,11 @@ fn encode(values: FieldValues, buffer: &mut [u8])
     requires { 137 ≤ length buffer.old }
     ensures { buffer.new ≡ fields_from 0 values ++ drop 137 buffer.old }
 {
-    let mut start: usize = 0;
-    let mut place: usize = 0;
-    while place < FIELD_COUNT {
+    let mut start = 0;
+    for (place, value) in values.iter().enumerate() {
         let size = length_of(place);
-        encode_field(&mut buffer[start..], tag_of(place), size, values[place]);
-        start = start + HEADER_LENGTH + (size as usize);
-        place += 1;
+        encode_field(&mut buffer[start..], tag_of(place), size, *value);
+        start += HEADER_LENGTH + size as usize;
     }
 }
 
@@ -119,13 +117,9 @@ pub fn save(values: FieldValues, buffer: &mut [u8]) -> Result<(), Refusal>
 pub fn sumcheck(values: FieldValues) -> u16
     ensures { result ≡ sum_of (take 27 values) }
 {
-    let mut sum: u16 = 0;
-    let mut place: usize = 0;
-    while place < SUMCHECK {
-        sum = std::num::wrapping_add_u16(sum, values[place]);
-        place += 1;
-    }
-    sum
+    values[..SUMCHECK]
+        .iter()
+        .fold(0, |sum: u16, value| sum.wrapping_add(*value))
 }
 
 // The values with their sumcheck behind them. The contract rules out a value that changes.

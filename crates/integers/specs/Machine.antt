@@ -1,8 +1,8 @@
 -- What the machine reads back of a signed number: the number itself, since it fits its width. Every
 -- width is covered by one law.
-use Rattle.std.specs.Prelude.{◌≡◌, true, false, cond, ℕ, ◌^◌, ◌<◌, ◌≤◌, ℤ, pos, negsuc, neg_ℤ, nat_abs, ◌+ℤ◌, ◌-ℤ◌}
+use Rattle.std.specs.Prelude.{◌≡◌, true, ℕ, ◌^◌, ◌<◌, ◌≤◌, ℤ, pos, negsuc, neg_ℤ, nat_abs, ◌+ℤ◌, ◌-ℤ◌}
 use Rattle.std.proofs.Common.{arith, leb-true, to_z-of_z}
-use Rattle.std.specs.Int.Signed.{mag, le_z, lt_z}
+use Rattle.std.specs.Int.Signed.{mag, le_z}
 use Rattle.std.specs.Int.{Width, w64}
 use mir.Val.{SFits, to_z, of_z, hbits}
 use Rattle.integers.specs.Operations.{sum_size, difference_size}
@@ -33,15 +33,6 @@ module _ (a b : ℤ) (small_a : Small a) (small_b : Small b) where
 
   pub difference_fits : SFits w64 (a -ℤ b)
   difference_fits = record { sfits = omega (arith, difference_size a b, small_a.small, small_b.small) }
-
--- ---- `if a < b { x } else { y }` of signed numbers, as each arm leaves it
-
-module _ {w : Width} {a b : ℤ} (x y : ℤ) (fa : SFits w a) (fb : SFits w b) where
-  pub choice_taken : SFits w x → lt_z (to_z w (of_z w a)) (to_z w (of_z w b)) ≡ true → to_z w (of_z w x) ≡ cond (lt_z a b) x y
-  choice_taken fx e = simp (to_z-of_z fx, simp (to_z-of_z fa, to_z-of_z fb) at e)
-
-  pub choice_left : SFits w y → lt_z (to_z w (of_z w a)) (to_z w (of_z w b)) ≡ false → to_z w (of_z w y) ≡ cond (lt_z a b) x y
-  choice_left fy e = simp (to_z-of_z fy, simp (to_z-of_z fa, to_z-of_z fb) at e)
 
 -- ---- a number that 32 bits hold
 

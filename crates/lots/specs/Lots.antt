@@ -6,11 +6,11 @@ use Rattle.std.proofs.Math.Option as option
 use Rattle.signals.specs.Bits.{bit}
 use Rattle.signals.specs.declared.Input.{Input}
 use Rattle.answers.specs.declared.ScanValues.{ScanValues}
-use Rattle.sheet.specs.Sheet.{Entry}
 use Rattle.sheet.specs.declared.Sheet.{Sheet}
 use Rattle.controller.specs.Answers.{Answer}
 use Rattle.sheet_guarantee.specs.Claim.{SheetClaim}
 use Rattle.sheet_guarantee.specs.Linked as sheets
+use Rattle.sheet_guarantee.specs.Linked.{Entry}
 use Rattle.sheet_guarantee.specs.Meaning as answers
 use Rattle.sheet_guarantee.specs.Meaning.{Answers}
 use Rattle.rights.specs.declared.Writer.{Writer}

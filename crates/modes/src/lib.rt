@@ -1,7 +1,7 @@
 // What decides the mode, and the mode: causes, the request, the priority order.
 #![tactic(auto)]
 
-ghost use Rattle.std.specs.Prelude.{◌≡◌, true};
+ghost use Rattle.std.specs.Prelude.{◌≡◌};
 ghost use Rattle.signals.specs.declared.Input.{Input};
 ghost use Rattle.modes.specs.Modes.{is_open_cause, is_cause, counted, open_count_after, request_by, request_after};
 ghost use Rattle.modes.specs.Modes.{conditions_after, mode_by, in_priority, mode_of, goes_to_minimum};

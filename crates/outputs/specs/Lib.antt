@@ -3,3 +3,4 @@ pub mod History
 pub mod Instruction
 pub mod OutputLaws
 pub mod Outputs
+pub mod Steps

@@ -1,13 +1,13 @@
 -- How large the numbers of step 6 are; what is remembered stays within -9999..9999, and the stored
 -- output within 0..9999 units.
-use Rattle.std.specs.Prelude.{◌≡◌, Bool, not, ◌&&◌, ℕ, ◌+◌, ◌≤◌, min, ℤ, pos, nat_abs, ◌+ℤ◌, ◌-ℤ◌, ◌*ℤ◌, ◌≤ℤ◌, if◌then◌else◌}
+use Rattle.std.specs.Prelude.{◌≡◌, Bool, not, ◌&&◌, ℕ, ◌+◌, ◌≤◌, min, ℤ, pos, nat_abs, ◌+ℤ◌, ◌-ℤ◌, ◌*ℤ◌, ◌≤ℤ◌}
 use Rattle.std.proofs.Math.Path.{refl}
 use Rattle.std.proofs.Math.Bool.{true, false}
 use Rattle.std.proofs.Common.{arith, to_z, of_z}
 use Rattle.std.specs.Int.{w64}
 use Rattle.integers.specs.Choice.{by_cases}
 use Rattle.integers.specs.Limit.{limited_low, limited_high}
-use Rattle.integers.specs.Machine.{Small, back, read_back, sum_fits, difference_fits}
+use Rattle.integers.specs.Machine.{Small, back}
 use Rattle.integers.specs.Operations.{Size, number, sum, difference, product, sum_size, difference_size}
 use Rattle.integers.specs.Parts.{integers, apart}
 use Rattle.signals.specs.declared.Switches.{Switches}
@@ -18,14 +18,14 @@ use Rattle.parameters.specs.Legal.{Legal}
 use Rattle.parameters.specs.LegalLaws.{ranges, value_most}
 use Rattle.parameters.specs.Table.{H1, L1, HO, LO, XP}
 use Rattle.parameters.specs.declared.Parameters.{Parameters}
-use Rattle.setpoints.specs.ComputationLaws.{InReadingRange, reading_back}
+use Rattle.setpoints.specs.ComputationLaws.{InReadingRange}
 use Rattle.setpoints.specs.declared.Readings.{Readings}
 use Rattle.terms.specs.Fraction.{Fraction, Positive, stored_units, limited_stored}
 use Rattle.terms.specs.TermLaws.{term_size}
 use Rattle.terms.specs.Terms.{stored_term, TuningRange}
 use Rattle.outputs.specs.ControlDifference.{control_difference, earlier_setpoint, change_of_difference, second_difference, tuning_of}
 use Rattle.outputs.specs.History.{history_before, remembered, history_after, recalled}
-use Rattle.outputs.specs.Instruction.{unlimited, between, stored_arithmetic, changed, limited_to, executed}
+use Rattle.outputs.specs.Instruction.{stored_arithmetic, changed, limited_to, executed}
 use Rattle.outputs.specs.Outputs.{change_in, limits_in, minimum_of, instruction_of, restarted_to, restart_instruction}
 use Rattle.outputs.specs.declared.History.{History}
 use Rattle.outputs.specs.declared.History.TheVariants.{Nothing, One, Two}
@@ -105,9 +105,6 @@ change_most s mode r past n k =
           (earlier_reading s mode r past n k) k.pv_read,
     )
 
-pub twice : (z : ℤ) → z +ℤ z ≡ pos 2 *ℤ z
-twice z = omega (arith, integers, sum z z, product (pos 2) z)
-
 pub second_most : (r : Readings) (past : Past) → ReadingsRange r → PastRange past → nat_abs (second_difference r past) ≤ 39996
 unfolding second_difference
 second_most r past n k =
@@ -155,12 +152,6 @@ stored_small x h = record { small = omega (arith, stored_most x h) }
 -- it is read back from the machine as it is
 pub stored_back : {x : ℤ} → OutputRange x → to_z w64 (of_z w64 x) ≡ x
 stored_back {x} h = back w64 x (omega (arith, stored_most x h, number x))
-
-pub limited_choice : (t : Bool) (low high x : ℤ) →
-    (if t then limited_stored low high x else x) ≡ limited_to stored_arithmetic (if t then between low high else unlimited) x
-unfolding limited_to stored_arithmetic
-limited_choice true low high x = refl
-limited_choice false low high x = refl
 
 module _ (p : Parameters) (legal : Legal p) where
   pub low_limit_most : nat_abs (LO p) ≤ 65535
@@ -288,18 +279,3 @@ module _ (p : Parameters) (legal : Legal p) where
   restart_stored s tominimum op output =
       let r = ranges p legal in
       in_units_stored (LO p) (HO p) _ r.outputs.not_below r.outputs.not_above (restart_in_units s tominimum op output)
-
--- for `grind`, where readings and outputs are computed with
-pub ruleset readings = (
-  read_back,
-  reading_back,
-  stored_back,
-  stored_small,
-  control_difference_most,
-  earlier_reading,
-  limited_choice,
-  low_limit_most,
-  high_limit_most,
-  minimum_most,
-  restarted_most,
-)

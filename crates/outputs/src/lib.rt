@@ -50,7 +50,7 @@ pub struct Context {
 }
 
 // c, the control difference, or c1 of earlier values.
-#[tactic(auto, using(crate::specs::OutputLaws::readings), unfolding(crate::specs::ControlDifference::control_difference))]
+#[tactic(auto, using(crate::specs::Steps::steps), unfolding(crate::specs::ControlDifference::control_difference))]
 fn control_difference(inverse: bool, sp: i64, pv: i64) -> i64
     requires { Small sp × Small pv }
     ensures { result ≡ control_difference inverse sp pv }
@@ -58,7 +58,7 @@ fn control_difference(inverse: bool, sp: i64, pv: i64) -> i64
     if inverse { pv - sp } else { sp - pv }
 }
 
-#[tactic(auto, using(crate::specs::OutputLaws::readings), unfolding(crate::specs::ControlDifference::earlier_setpoint))]
+#[tactic(auto, using(crate::specs::Steps::steps), unfolding(crate::specs::ControlDifference::earlier_setpoint))]
 fn earlier_setpoint(s: Switches, mode: Mode, r: Readings, past: Past) -> i64
     ensures { result ≡ earlier_setpoint s mode r past }
 {
@@ -69,7 +69,7 @@ fn earlier_setpoint(s: Switches, mode: Mode, r: Readings, past: Past) -> i64
     }
 }
 
-#[tactic(auto, using(crate::specs::OutputLaws::readings), unfolding(crate::specs::ControlDifference::change_of_difference))]
+#[tactic(auto, using(crate::specs::Steps::steps), unfolding(crate::specs::ControlDifference::change_of_difference))]
 fn change_of_difference(s: Switches, mode: Mode, r: Readings, past: Past) -> i64
     requires { ReadingsRange r × PastRange past }
     ensures { result ≡ change_of_difference s mode r past }
@@ -80,7 +80,7 @@ fn change_of_difference(s: Switches, mode: Mode, r: Readings, past: Past) -> i64
     now - earlier
 }
 
-#[tactic(auto, using(crate::specs::OutputLaws::readings), unfolding(crate::specs::ControlDifference::second_difference))]
+#[tactic(auto, using(crate::specs::Steps::steps), unfolding(crate::specs::ControlDifference::second_difference))]
 fn second_difference(r: Readings, past: Past) -> i64
     requires { ReadingsRange r × PastRange past }
     ensures { result ≡ second_difference r past }
@@ -118,7 +118,7 @@ fn with_terms(p: Parameters, x: Context, r: Readings, h: History, output: i64) -
 }
 
 // So many whole units, stored.
-#[tactic(auto, using(crate::specs::OutputLaws::readings), unfolding(terms::specs::Fraction::stored_units))]
+#[tactic(auto, using(crate::specs::Steps::steps), unfolding(terms::specs::Fraction::stored_units))]
 fn units(u: i64) -> i64
     requires { nat_abs u ≤ 65535 }
     ensures { result ≡ stored_units u }
@@ -126,7 +126,7 @@ fn units(u: i64) -> i64
     u * amounts::UNIT
 }
 
-#[tactic(auto, using(crate::specs::OutputLaws::readings), unfolding(crate::specs::Outputs::minimum_of))]
+#[tactic(auto, using(crate::specs::Steps::steps), unfolding(crate::specs::Outputs::minimum_of))]
 fn minimum_of(p: Parameters, s: Switches) -> i64
     ensures { result ≡ minimum_of p s }
 {
@@ -137,7 +137,7 @@ fn minimum_of(p: Parameters, s: Switches) -> i64
     }
 }
 
-#[tactic(auto, using(crate::specs::OutputLaws::readings), unfolding(crate::specs::Instruction::changed, crate::specs::Instruction::stored_arithmetic))]
+#[tactic(auto, using(crate::specs::Steps::steps))]
 fn adjusted(adjustment: Adjustment, output: i64) -> i64
     requires { OutputRange output }
     ensures { result ≡ changed stored_arithmetic (adjusted adjustment) output }
@@ -150,7 +150,7 @@ fn adjusted(adjustment: Adjustment, output: i64) -> i64
 }
 
 // Manual and Forced Manual. The contract rules out a move while SP is held, and Raise or Lower beside the minimum.
-#[tactic(auto, using(crate::specs::OutputLaws::readings), unfolding(crate::specs::Outputs::by_hand, crate::specs::Instruction::changed, crate::specs::Instruction::stored_arithmetic))]
+#[tactic(auto, using(crate::specs::Steps::steps), unfolding(crate::specs::Outputs::by_hand))]
 fn by_hand(p: Parameters, x: Context, output: i64) -> i64
     requires { Legal p × OutputRange output }
     ensures { result ≡ changed stored_arithmetic (by_hand p x) output }
@@ -166,7 +166,7 @@ fn by_hand(p: Parameters, x: Context, output: i64) -> i64
 }
 
 // The automatic modes.
-#[tactic(auto, using(crate::specs::OutputLaws::readings), unfolding(crate::specs::Outputs::by_terms, crate::specs::Instruction::changed, crate::specs::Instruction::stored_arithmetic))]
+#[tactic(auto, using(crate::specs::Steps::steps), unfolding(crate::specs::Outputs::by_terms))]
 fn by_terms(p: Parameters, x: Context, r: Readings, h: History, output: i64) -> i64
     requires { Legal p × ReadingsRange r × HistoryRange h × OutputRange output }
     ensures { result ≡ changed stored_arithmetic (by_terms p x r h) output }
@@ -179,14 +179,14 @@ fn by_terms(p: Parameters, x: Context, r: Readings, h: History, output: i64) -> 
 }
 
 // Track's output, stored: the lesser of sample 3 and 9999 units.
-#[tactic(auto, using(crate::specs::OutputLaws::readings), unfolding(terms::specs::Fraction::stored_units))]
+#[tactic(auto, using(crate::specs::Steps::steps), unfolding(terms::specs::Fraction::stored_units))]
 fn tracked(sample: u16) -> i64
     ensures { result ≡ stored_units (pos (min sample 9999)) }
 {
     i64::from(sample.min(parameters::OP_MOST)) * amounts::UNIT
 }
 
-#[tactic(auto, using(crate::specs::OutputLaws::readings), unfolding(crate::specs::Instruction::changed, crate::specs::Instruction::stored_arithmetic))]
+#[tactic(auto, using(crate::specs::Steps::steps))]
 fn changed_in(p: Parameters, x: Context, r: Readings, h: History, output: i64) -> i64
     requires { Legal p × ReadingsRange r × HistoryRange h × OutputRange output }
     ensures { result ≡ changed stored_arithmetic (change_in x.mode p x r h) output }
@@ -200,7 +200,7 @@ fn changed_in(p: Parameters, x: Context, r: Readings, h: History, output: i64) -
 }
 
 // Limited to LO..HO.
-#[tactic(auto, using(crate::specs::OutputLaws::readings), unfolding(terms::specs::Fraction::limited_stored))]
+#[tactic(auto, using(crate::specs::Steps::steps), unfolding(terms::specs::Fraction::limited_stored))]
 fn limited(p: Parameters, output: i64) -> i64
     requires { Legal p }
     ensures { result ≡ limited_stored (LO p) (HO p) output }
@@ -210,7 +210,7 @@ fn limited(p: Parameters, output: i64) -> i64
     integers::limit(low, high, output)
 }
 
-#[tactic(auto, using(crate::specs::OutputLaws::readings), unfolding(crate::specs::Outputs::limits_in, crate::specs::Instruction::limited_to, crate::specs::Instruction::stored_arithmetic))]
+#[tactic(auto, using(crate::specs::Steps::steps), unfolding(crate::specs::Outputs::limits_in))]
 fn limited_in(mode: Mode, p: Parameters, output: i64) -> i64
     requires { Legal p }
     ensures { result ≡ limited_to stored_arithmetic (limits_in mode p) output }
@@ -224,7 +224,7 @@ fn limited_in(mode: Mode, p: Parameters, output: i64) -> i64
 
 // The stored output after an accepted scan. The contract rules out an output limited in Hold, one that
 // is not limited elsewhere, one that never moves, and one that repeats an earlier one.
-#[tactic(auto, using(crate::specs::OutputLaws::readings), unfolding(crate::specs::Instruction::executed, crate::specs::Outputs::instruction_of))]
+#[tactic(auto, using(crate::specs::Steps::steps), unfolding(crate::specs::Instruction::executed, crate::specs::Outputs::instruction_of))]
 pub fn output_after(p: Parameters, x: Context, r: Readings, h: History, output: i64) -> i64
     requires { Legal p × ReadingsRange r × HistoryRange h × OutputRange output }
     ensures { result ≡ executed stored_arithmetic (instruction_of p x r h) output }
@@ -236,7 +236,7 @@ pub fn output_after(p: Parameters, x: Context, r: Readings, h: History, output: 
 
 // The stored output after an accepted write of the parameter with this number. The contract rules out an output
 // that HO or LO limits in Hold or Track, one that they leave outside elsewhere, and one that another write moves.
-#[tactic(auto, using(crate::specs::OutputLaws::readings), unfolding(crate::specs::Outputs::limits_written, crate::specs::Instruction::limited_to))]
+#[tactic(auto, using(crate::specs::Steps::steps), unfolding(crate::specs::Outputs::limits_written))]
 pub fn output_written(number: u64, mode: Mode, p: Parameters, output: i64) -> i64
     requires { Legal p }
     ensures { result ≡ limited_to stored_arithmetic (limits_written number mode p) output }

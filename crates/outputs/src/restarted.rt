@@ -9,7 +9,7 @@ use parameters::Parameters;
 use signals::Switches;
 
 // The contract rules out an OP that is left outside its limits, and a minimum that ignores S2.2.
-#[tactic(auto, using(crate::specs::OutputLaws::readings), unfolding(crate::specs::Outputs::restarted_to))]
+#[tactic(auto, using(crate::specs::Steps::steps), unfolding(crate::specs::Outputs::restarted_to))]
 pub fn output_restarted(p: Parameters, s: Switches, tominimum: bool, op: u16) -> i64
     requires { Legal p }
     ensures { result ≡ limited_stored (LO p) (HO p) (stored_units (restarted_to p s tominimum op)) }

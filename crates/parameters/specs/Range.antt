@@ -1,7 +1,8 @@
 -- A test of each number of a short range.
-use Rattle.std.specs.Prelude.{◌≡◌, Bool, true, false, ◌&&◌}
+use Rattle.std.specs.Prelude.{◌≡◌, Bool, true, ◌&&◌}
 use Rattle.std.proofs.Math.Path.{refl}
-use Rattle.std.proofs.Common.{subst, ⊎_elim, eq-or-lt_of_le}
+use Rattle.std.proofs.Common.{subst, ⊎_elim, eq-or-lt_of_le, ap, ◌∙◌, add-one}
+use Rattle.std.specs.List.{list_all, range_with_len}
 use Prim.Native.Nat.{ℕ, zero, suc, ◌+◌, ◌-◌, ◌≤◌, ◌<◌}
 use native.Mathlib.Omega.{arith}
 use Rattle.integers.specs.Choice.{both}
@@ -25,24 +26,10 @@ every_of test zero first f = refl
 every_of test (suc many) first f =
     rw (f first (omega arith) (omega arith)) (every_of test many (suc first) (λ n h l. f n (omega arith) (omega arith)))
 
--- ---- as a loop goes: from n up to an end
-
-module _ (test : ℕ → Bool) (n end : ℕ) where
-  pub every_next : n < end → test n ≡ true → every test n (end - n) ≡ every test (n + 1) (end - (n + 1))
-  unfolding every
-  every_next h e =
-      let one : end - n ≡ suc (end - (n + 1)) = omega arith in
-      let two : n + 1 ≡ suc n = omega arith in
-      rw (one, two, e) refl
-
-  pub every_not : n < end → test n ≡ false → every test n (end - n) ≡ false
-  unfolding every
-  every_not h e =
-      let one : end - n ≡ suc (end - (n + 1)) = omega arith in
-      rw (one, e) refl
-
-  pub every_done : end ≤ n → every test n (end - n) ≡ true
-  unfolding every
-  every_done h =
-      let none : end - n ≡ 0 = omega arith in
-      rw none refl
+-- what `all` of the numbers gives
+pub every_is : (test : ℕ → Bool) (first many : ℕ) → list_all test (range_with_len first many) ≡ every test first many
+unfolding every
+every_is test first zero = refl
+every_is test first (suc many) =
+    ap (λ (others : Bool). test first && others)
+    (ap (λ (n : ℕ). list_all test (range_with_len n many)) (add-one first) ∙ every_is test (suc first) many)

@@ -1,9 +1,6 @@
-// A host's loop, in which every call that returns a controller or a sheet is made; both stand in a struct. What is done
-// in a turn stands in functions whose contracts say that the controller is Valid before and after it; of a sheet its type
-// says so. They need no proof file; the loop alone has one (proofs/dry/Invariants.antt).
+// A host's loop, in which every call that returns a controller or a sheet is made; both stand in a struct. That each
+// can take the next call is in their types, so no function here has a contract or a proof file.
 #![tactic(auto)]
-
-ghost use Rattle.controller.specs.Valid.{Valid};
 
 use controller::Controller;
 use rights::Writer;
@@ -25,10 +22,7 @@ fn due(controller: Controller) -> u64 {
 }
 
 // A scan, and its answer entered in the sheet.
-fn scanned(dryer: Dryer) -> Dryer
-    requires { Valid dryer.controller }
-    ensures { Valid result.controller }
-{
+fn scanned(dryer: Dryer) -> Dryer {
     let before = dryer.controller;
     let r = before.scan(Input {
         pins: 0x80,
@@ -54,10 +48,7 @@ fn scanned(dryer: Dryer) -> Dryer
 }
 
 // A write where it is free, and a line of the hand-held terminal.
-fn adjusted(controller: Controller) -> Controller
-    requires { Valid controller }
-    ensures { Valid result }
-{
+fn adjusted(controller: Controller) -> Controller {
     let access = controller.write_access(Writer::Operator, parameters::SL);
     match access {
         Ok(()) => {
@@ -71,10 +62,7 @@ fn adjusted(controller: Controller) -> Controller
 }
 
 // Saved, and restarted with the image. A save is refused only for want of room, so its verdict isn't looked at.
-fn restarted(controller: Controller) -> Controller
-    requires { Valid controller }
-    ensures { Valid result }
-{
+fn restarted(controller: Controller) -> Controller {
     let mut image = [0u8; fields::IMAGE_LENGTH];
     let _ = controller.save(&mut image);
     let back = controller.restart(&image);
@@ -82,10 +70,7 @@ fn restarted(controller: Controller) -> Controller
 }
 
 // The power fails once.
-fn after_power(controller: Controller, turn: u64) -> Controller
-    requires { Valid controller }
-    ensures { Valid result }
-{
+fn after_power(controller: Controller, turn: u64) -> Controller {
     if turn == 50 {
         restarted(controller)
     } else {
@@ -94,10 +79,7 @@ fn after_power(controller: Controller, turn: u64) -> Controller
 }
 
 // What is done in a turn.
-fn turned(dryer: Dryer, turn: u64) -> Dryer
-    requires { Valid dryer.controller }
-    ensures { Valid result.controller }
-{
+fn turned(dryer: Dryer, turn: u64) -> Dryer {
     let after = scanned(dryer);
     Dryer {
         controller: after_power(adjusted(after.controller), turn),
@@ -105,9 +87,7 @@ fn turned(dryer: Dryer, turn: u64) -> Dryer
     }
 }
 
-fn dry(turns: u64) -> Dryer
-    ensures { Valid result.controller }
-{
+fn dry(turns: u64) -> Dryer {
     let mut dryer = Dryer {
         controller: Controller::fresh(0),
         sheet: Sheet::empty(),

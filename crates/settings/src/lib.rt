@@ -1,7 +1,7 @@
 // The settings that an image holds, as the values of its fields, and back.
 #![tactic(auto)]
 
-ghost use Rattle.std.specs.Prelude.{◌≡◌, ◌≤◌};
+ghost use Rattle.std.specs.Prelude.{◌≡◌};
 ghost use Rattle.signals.specs.Refusals.{number_in, refused_by};
 ghost use Rattle.fields.specs.Fields.{with_sumcheck, save_tests, saved_in};
 ghost use Rattle.parameters.specs.Legal.{Legal};

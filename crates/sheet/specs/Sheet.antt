@@ -1,6 +1,6 @@
 -- Document 02, request 1: an empty sheet, and what a sheet holds after one more answer. What it comes to over a list of
 -- answers is said apart (sheet_guarantee/specs/Meaning.antt).
-use Rattle.std.specs.Prelude.{Option, None, Some, Result, Ok, Err, ⊤}
+use Rattle.std.specs.Prelude.{Option, None, Some, Ok, Err}
 use Rattle.std.specs.Prelude.{Bool, not, ◌||◌, List, [], ◌∷◌, ℕ, ◌+◌, leb, ℤ, pos, ◌+ℤ◌, get_or, set, if◌then◌else◌}
 use Rattle.std.specs.Int.Signed.{lt_z}
 use Rattle.signals.specs.Bits.{bit}
@@ -10,7 +10,6 @@ use Rattle.answers.specs.declared.ScanValues.{ScanValues}
 use Rattle.sheet.specs.declared.Bound.{Bound}
 use Rattle.sheet.specs.declared.Bound.TheVariants.{Greatest, Least}
 use Rattle.sheet.specs.declared.EnterResult.{EnterResult}
-use Rattle.sheet.specs.declared.Full.{Full}
 use Rattle.sheet.specs.declared.Occurrence.{Occurrence}
 use Rattle.sheet.specs.declared.Sheet.{Sheet}
 use Rattle.sheet.specs.declared.SheetValues.{SheetValues}
@@ -83,10 +82,6 @@ taken v a =
       sumpv = v.sumpv +ℤ a.pv;
       sumop = v.sumop +ℤ pos a.op;
     }
-
--- what entering an answer says: that it was taken, or full
-abbrev pub Entry : Type 0
-Entry = Result ⊤ Full
 
 -- "A sheet holds up to 4,294,967,295 scans; the next one leaves it as it was and says full."
 unfoldable pub entered : Sheet → ScanValues → EnterResult

@@ -1,6 +1,7 @@
 -- The tests of extremes and sum, read as laws; and extremes and sum after one more scan.
 use Rattle.std.specs.Prelude.{Option, None, Some}
-use Rattle.std.specs.Prelude.{◌⊎◌, ◌≡◌, refl, Bool, true, false, not, ◌&&◌, ◌||◌, ℕ, zero, suc, ◌+◌, ◌≤◌, ◌<◌, eqb, leb, ℤ, pos, neg_ℤ, ◌+ℤ◌}
+use Rattle.std.specs.Prelude.{◌⊎◌, ◌≡◌, refl, Bool, true, false, not, ◌&&◌, ◌||◌, ℕ, zero, suc, ◌+◌, ◌≤◌, ◌<◌, eqb, leb}
+use Rattle.std.specs.Prelude.{ℤ, pos, neg_ℤ, ◌+ℤ◌}
 use Rattle.std.specs.Prelude.{◌-ℤ◌, ◌*ℤ◌, ◌≤ℤ◌, if◌then◌else◌}
 use Rattle.std.proofs.Common.{inl, inr, ⊎_elim, sym, ap, subst, arith, leb-true, le-leb, eqb-true, eq-eqb, ne_eqb}
 use Rattle.std.specs.Int.Signed.{mag, le_z, lt_z}
@@ -237,7 +238,8 @@ no_scan g l s e =
 abbrev pub Extended : Option Occurrence → Option Occurrence → ℤ → ℤ → ℕ → Type 0
 Extended g l s x n = are_extremes n (extreme_after Greatest g x n) (extreme_after Least l x n) (s +ℤ x) ≡ true
 
-pub extremes_after : (scans : ℕ) (g l : Option Occurrence) (s x : ℤ) → are_extremes scans g l s ≡ true → Held x → Extended g l s x (scans + 1)
+pub extremes_after : (scans : ℕ) (g l : Option Occurrence) (s x : ℤ) → are_extremes scans g l s ≡ true → Held x →
+    Extended g l s x (scans + 1)
 extremes_after scans None None s x e h =
     let a = both (eqb scans 0 && le_z (pos 0) s) (le_z s (pos 0)) e in
     let b = both (eqb scans 0) (le_z (pos 0) s) a.0 in

@@ -11,7 +11,7 @@ use Rattle.integers.specs.Choice.{by_cases}
 use Rattle.answers.specs.declared.ScanValues.{ScanValues}
 use Rattle.sheet.specs.EnteredLaws.{parts, empty_valid, entered_valid}
 use Rattle.sheet.specs.Sheet as rules
-use Rattle.sheet.specs.Sheet.{Entry, scans_in, empty_sheet}
+use Rattle.sheet.specs.Sheet.{scans_in, empty_sheet}
 use Rattle.sheet.specs.Valid.{Valid, kept_sheet}
 use Rattle.sheet.specs.declared.EnterResult.{EnterResult}
 use Rattle.sheet.specs.declared.Bound.TheVariants.{Greatest, Least}
@@ -20,7 +20,7 @@ use Rattle.sheet.specs.declared.SheetValues.{SheetValues}
 use Rattle.sheet.specs.declared.Mean.{Mean}
 use Rattle.sheet_guarantee.specs.Claim.{FullExactly, no_entry, and_entry, Results, Always}
 use Rattle.sheet_guarantee.specs.Claim.{AlwaysLinked}
-use Rattle.sheet_guarantee.specs.Linked.{Linked, started, entered, kept, taken_of}
+use Rattle.sheet_guarantee.specs.Linked.{Entry, Linked, started, entered, kept, taken_of}
 use Rattle.sheet_guarantee.specs.Meaning.{Answers, none, ◌then◌, many, IsExtreme, Gives}
 use Rattle.sheet_guarantee.proofs.Unique.{answerable}
 use Rattle.sheet_guarantee.proofs.Step.{place_is, empty_gives, taken_gives}

@@ -175,11 +175,14 @@ module _ (v : SheetValues) (p : Parts v) where
 abbrev Exactly : SheetValues → Option Sheet → Type 0
 Exactly v r = ((s : Sheet) → r ≡ Some s → Possible v × (s.values ≡ v)) × (Possible v → r ≡ Some (record { values = v }))
 
+its_values : (v : SheetValues) (s : Sheet) → Some (record { values = v }) ≡ Some s → s.values ≡ v
+its_values v s q = let same : record { values = v } ≡ s = cc in ap (λ (s : Sheet). s.values) (sym same)
+
 exactly : (v : SheetValues) → Exactly v (kept_sheet v)
 unfolding kept_sheet
 exactly v =
     by_cases (Exactly v) (is_valid v) _ _
-    (λ e. (λ s q. let same : record { values = v } ≡ s = cc in (some_answers v (parts v e), ap (λ (s : Sheet). s.values) (sym same)), λ p. refl))
+    (λ e. (λ s q. (some_answers v (parts v e), its_values v s q), λ p. refl))
     (λ e. (λ s q. cc, λ p. never (sym e ∙ possible_valid v p)))
 
 pub kept_exactly : KeptExactly

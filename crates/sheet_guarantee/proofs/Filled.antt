@@ -41,7 +41,8 @@ record Some (ns : List ℕ) : Type 0 where
 some_count : (ns : List ℕ) (k : ℕ) → total ns ≡ suc k → Some ns
 some_count [] k e = absurd (omega arith)
 some_count (zero ∷ ns) k e =
-    let s = some_count ns k (omega (arith, sum_by-cons (λ n. n) zero ns)) in record { place = suc s.place; inside = omega (arith, s.inside); counts = s.counts }
+    let s = some_count ns k (omega (arith, sum_by-cons (λ n. n) zero ns)) in
+    record { place = suc s.place; inside = omega (arith, s.inside); counts = s.counts }
 some_count (suc n ∷ ns) k e = record { place = 0; inside = omega arith; counts = omega arith }
 
 one_fewer : (ns : List ℕ) (k : ℕ) → k < length ns → 1 ≤ get_or ns k 0 → total (set ns k (get_or ns k 0 - 1)) + 1 ≡ total ns

@@ -3,7 +3,6 @@ use Rattle.std.specs.Prelude.{Option, Some, Ok, Err}
 use Rattle.std.specs.Prelude.{◌≡◌, List, [], ◌∷◌, ℕ, ◌≤◌, eqb, ℤ, pos, neg_ℤ, ◌≤ℤ◌, if◌then◌else◌}
 use Rattle.modes.specs.declared.Mode.{Mode}
 use Rattle.answers.specs.declared.ScanValues.{ScanValues}
-use Rattle.sheet.specs.Sheet.{Entry}
 use Rattle.sheet.specs.declared.Bound.TheVariants.{Greatest, Least}
 use Rattle.sheet.specs.declared.EnterResult.{EnterResult}
 use Rattle.sheet.specs.declared.Occurrence.{Occurrence}
@@ -11,7 +10,7 @@ use Rattle.sheet.specs.declared.Sheet.{Sheet}
 use Rattle.sheet.specs.declared.SheetValues.{SheetValues}
 use Rattle.sheet.specs.declared.Mean.{Mean}
 use Rattle.sheet_guarantee.specs.Linked as linked
-use Rattle.sheet_guarantee.specs.Linked.{Linked, taken_of}
+use Rattle.sheet_guarantee.specs.Linked.{Entry, Linked, taken_of}
 use Rattle.sheet_guarantee.specs.Meaning.{Answers, none, ◌then◌, many, how_many, is_in, is_alarmed, sum_pv, sum_op, IsExtreme, Gives}
 
 -- "A sheet holds up to 4,294,967,295 scans; the next one leaves it as it was and says full.": an answer says full

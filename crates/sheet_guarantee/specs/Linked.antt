@@ -1,11 +1,11 @@
 -- What the calls of a sheet return, by the contracts of the code itself: an empty sheet, each later answer entered in
 -- the sheet that was returned.
-use Rattle.std.specs.Prelude.{List, [], ◌∷◌, ℕ, ℤ, Option, Some, Ok, Err}
+use Rattle.std.specs.Prelude.{List, [], ◌∷◌, ℕ, ℤ, Option, Some, Result, Ok, Err, ⊤}
 use Rattle.modes.specs.declared.Mode.{Mode}
 use Rattle.answers.specs.declared.ScanValues.{ScanValues}
-use Rattle.sheet.specs.Sheet.{Entry}
 use Rattle.sheet.specs.Valid.{Valid}
 use Rattle.sheet.specs.declared.EnterResult.{EnterResult}
+use Rattle.sheet.specs.declared.Full.{Full}
 use Rattle.sheet.specs.declared.Occurrence.{Occurrence}
 use Rattle.sheet.specs.declared.Sheet.{Sheet}
 use Rattle.sheet.specs.declared.SheetValues.{SheetValues}
@@ -64,6 +64,10 @@ MeanPVEnsures s r = mean-pv-reads.Post tt (s, tt) r (s, tt)
 
 abbrev pub MeanOPEnsures : Sheet → Mean → Type 0
 MeanOPEnsures s r = mean-op-reads.Post tt (s, tt) r (s, tt)
+
+-- what entering an answer says: that it was taken, or full
+abbrev pub Entry : Type 0
+Entry = Result ⊤ Full
 
 -- after these answers were entered, and these said, the latest first, the sheet is this one
 pub data Linked : Answers → List Entry → Sheet → Type 0 where

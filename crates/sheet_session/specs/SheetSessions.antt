@@ -1,10 +1,11 @@
 -- What a run of the console holds for the drying sheet, and what each command of the sheet does to it.
 use Rattle.std.specs.Option.{option_and_then}
-use Rattle.std.specs.Prelude.{ℕ, ℤ, Option, None, Some, Ok, Err}
+use Rattle.std.specs.Prelude.{ℕ, ℤ, Option, None, Some, Result, Ok, Err, ⊤}
 use Rattle.answers.specs.declared.ScanValues.{ScanValues}
-use Rattle.sheet.specs.Sheet.{Entry, empty_sheet, entered}
+use Rattle.sheet.specs.Sheet.{empty_sheet, entered}
 use Rattle.sheet.specs.Valid.{kept_sheet}
 use Rattle.sheet.specs.declared.EnterResult.{EnterResult}
+use Rattle.sheet.specs.declared.Full as sheet
 use Rattle.sheet.specs.declared.Sheet.{Sheet}
 use Rattle.sheet_numbers.specs.Numbers.{no_numbers, values_in, with_number}
 use Rattle.commands.specs.declared.SheetCall.{SheetCall}
@@ -49,7 +50,7 @@ after_reply s reply = record { sheet = s.sheet; numbers = s.numbers; last = last
 abbrev pub with_sheet : SheetSession → Sheet → SheetSession
 with_sheet s sheet = record { sheet = sheet; numbers = s.numbers; last = s.last }
 
-abbrev pub reply_to_entry : Entry → Reply
+abbrev pub reply_to_entry : Result ⊤ sheet.Full → Reply
 reply_to_entry (Ok taken) = Accepted
 reply_to_entry (Err full) = Full
 

@@ -22,10 +22,10 @@ refused_append (t ∷ ts) us = go t.0 (refused_append ts us)
     go true e = refl
     go false e = e
 
--- ---- what `?` hands on: the refusal that it met
+-- ---- what `?` returns: the refusal that it met
 
-pub handed_on : {T : Type 0} (r : Result T Refusal) (refusal : Refusal) → IsErrAnd r (λ e. e ≡ refusal) → r ≡ Err refusal
-handed_on r refusal h = let e = err_from_is_err_and r h in e.1 ∙ ap Err e.2
+pub refusal_returned : {T : Type 0} (r : Result T Refusal) (refusal : Refusal) → IsErrAnd r (λ e. e ≡ refusal) → r ≡ Err refusal
+refusal_returned r refusal h = let e = err_from_is_err_and r h in e.1 ∙ ap Err e.2
 
 -- ---- an order of refusals: each number has a rank
 

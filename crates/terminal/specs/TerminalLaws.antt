@@ -193,11 +193,6 @@ pub valid_line : (c : Controller) (w : Writer) (line room : List ℕ) → Valid 
 unfolding answered
 valid_line c w line room valid = line_valid c w room _ valid
 
--- what is returned is what the line gives, and is valid
-pub with_valid : (c : Controller) (w : Writer) (line room : List ℕ) (o : LineOutcome) → Valid c → o ≡ answered c w line room →
-    (o ≡ answered c w line room) × Valid o.next
-with_valid c w line room o valid is = (is, rw is (valid_line c w line room valid))
-
 -- ---- what a line asks, in the code's form
 
 -- the mnemonic names a parameter

@@ -2,7 +2,6 @@
 #![tactic(auto)]
 
 ghost use Rattle.std.specs.Prelude.{◌≡◌, ◌≤◌, Err, length};
-ghost use Rattle.controller.specs.Valid.{Valid};
 ghost use Rattle.terminal.specs.Terminal.{replied, outcome_of, read_to, written_to, answered};
 
 use command::Command;
@@ -36,7 +35,7 @@ fn refused(controller: Controller, refusal: Refusal) -> LineResult
 // The reply with the present value; a read of one of these numbers is never refused. The contract rules out the value
 // of another parameter, one of an earlier state, and a byte that changes behind the reply.
 fn show(controller: Controller, number: u64, reply: &mut [u8]) -> LineResult
-    requires { Valid controller × (1 ≤ number) × (number ≤ 32) × (9 ≤ length reply.old) }
+    requires { (1 ≤ number) × (number ≤ 32) × (9 ≤ length reply.old) }
     ensures { outcome_of result reply.new ≡ replied controller number reply.old }
 {
     let present = controller.read(number);
@@ -51,7 +50,7 @@ fn show(controller: Controller, number: u64, reply: &mut [u8]) -> LineResult
 
 // A read needs no writer. The contract rules out that it needs a right.
 fn read(controller: Controller, number: u64, reply: &mut [u8]) -> LineResult
-    requires { Valid controller × (1 ≤ number) × (number ≤ 32) }
+    requires { (1 ≤ number) × (number ≤ 32) }
     ensures { outcome_of result reply.new ≡ read_to controller number reply.old }
 {
     if reply.len() < REPLY_LENGTH {
@@ -69,7 +68,7 @@ fn write(
     value: i32,
     reply: &mut [u8],
 ) -> LineResult
-    requires { Valid controller × (1 ≤ number) × (number ≤ 32) }
+    requires { (1 ≤ number) × (number ≤ 32) }
     ensures { outcome_of result reply.new ≡ written_to controller writer number value reply.old }
 {
     if reply.len() < REPLY_LENGTH {
@@ -88,9 +87,7 @@ fn write(
 // buffer, so it rules out a line that is taken for another, a refusal out of its order, a write by someone without the
 // right, a read that needs one, a reply with another value than the present one, and a change behind the reply.
 pub fn answer(controller: Controller, writer: Writer, line: &[u8], reply: &mut [u8]) -> LineResult
-    requires { Valid controller }
-    ensures { (outcome_of result reply.new ≡ answered controller writer line.now reply.old)
-        × Valid result.controller }
+    ensures { outcome_of result reply.new ≡ answered controller writer line.now reply.old }
 {
     match command::parse(line) {
         Ok(Command::Read(number)) => read(controller, number, reply),

@@ -26,7 +26,7 @@ use Rattle.terminal.specs.Commands.{command_in}
 use Rattle.terminal.specs.Terminal.{LineOutcome, reply_text, present_value, refused_line, replied, wrote_or, answered_to, answered}
 use Rattle.terminal.specs.Terminal.{read_to, written_to, outcome_of}
 use Rattle.controller.specs.WriteLaws.{write_accepted_lem, write_refused}
-use Rattle.terminal.specs.TerminalLaws.{with_valid}
+use Rattle.terminal.specs.TerminalLaws.{valid_line}
 use Rattle.terminal.specs.declared.LineResult.{LineResult}
 use Rattle.terminal.specs.Commands.{Command, Read, Write, NoMnemonic, NoValue}
 use Rattle.terminal_guarantee.specs.Lines.{Lifetimes}
@@ -80,7 +80,8 @@ valid_visited (started r e) = e.1
 valid_visited (scanned i r l e) = e.1
 valid_visited (wrote w n v r l e) = e.1
 valid_visited (restarted life image r l e) = e.1
-valid_visited (typed lives w bytes buffer r after l e) = e.1
+valid_visited (typed {c = c} lives w bytes buffer r after l e) =
+    subst (λ (o : LineOutcome). Valid o.next) (sym e) (valid_line c w bytes.now buffer.now (valid_visited l))
 
 -- these bytes, as a reference that may be written to
 abbrev lend_mut : List ℕ → MutSlice
@@ -106,8 +107,7 @@ always_visited word (es then line who bytes room) =
     let buffer : List ℕ = replicate room 0 in
     let valid = valid_visited w.visited in
     let r = result_by w.last who buffer (command_in bytes) valid in
-    let e = with_valid w.last who bytes buffer _ valid r.described in
-    let here = typed lives who (lend bytes) (lend_mut buffer) r.result r.after w.visited e in
+    let here = typed lives who (lend bytes) (lend_mut buffer) r.result r.after w.visited r.described in
     record {
       last = r.result.controller;
       visited = subst (λ (k : ℕ). Visited word (es then line who bytes k) r.result.controller) (length-replicate room 0) here;

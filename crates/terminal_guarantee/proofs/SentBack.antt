@@ -194,7 +194,7 @@ reply_sent_back word es c visited n least most lives w bytes buffer r after e na
     let t : InTable n = record { least = least; most = omega arith } in
     let answer = ap reply_of_line given in
     let line = bytes.now in
-    let first = by_command c line buffer.now r after n k t named-so answer w (command_in line) (meaning line) e.0 in
+    let first = by_command c line buffer.now r after n k t named-so answer w (command_in line) (meaning line) e in
     let now-visited = typed lives w bytes buffer r after visited e in
     let claim = lines_are_writes word _ r.controller now-visited in
     let valid = claim.ready.valid in
@@ -205,7 +205,7 @@ reply_sent_back word es c visited n least most lives w bytes buffer r after e na
     let text_is = sent ∙ reply-is in
     record {
       same = λ right free.
-          let again-replied = accepted d n least most valid within w2 again.now buffer2.now r2 after2 text_is room e2.0 right free in
+          let again-replied = accepted d n least most valid within w2 again.now buffer2.now r2 after2 text_is room e2 right free in
           let answer2 = reply_size d n buffer.now buffer2.now r after r2 after2 first again-replied ∙ answer in
           record {
             controller = next_is d n buffer2.now r2 after2 again-replied;
@@ -213,9 +213,9 @@ reply_sent_back word es c visited n least most lives w bytes buffer r after e na
             bytes = front d n k buffer2.now r2 after2 again-replied answer2 ∙ sym reply-is;
             behind = behind d n k buffer2.now r2 after2 again-replied answer2;
           };
-      setpoint = held_refused d n least most valid within w2 again.now buffer2.now r2 after2 text_is room e2.0;
+      setpoint = held_refused d n least most valid within w2 again.now buffer2.now r2 after2 text_is room e2;
       without = λ none-there.
-          refused d n least most valid within w2 again.now buffer2.now r2 after2 text_is room e2.0 _
+          refused d n least most valid within w2 again.now buffer2.now r2 after2 text_is room e2 _
           (refused_without d.core w2 n (value d.core.parameters n) none-there ∙
           some_without d.core.conditions.pins w2 n least (omega arith) none-there);
     }

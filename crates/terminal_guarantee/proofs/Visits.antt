@@ -121,5 +121,5 @@ lines_are_writes word es c l =
       linked = w.linked;
       guaranteed = guarantee word w.without w.responses c w.linked;
       ready = ready-now;
-      line_ready = λ lives who bytes buffer. ready-now.valid;
+      line_ready = λ lives who bytes buffer. tt;
     }

@@ -6,13 +6,13 @@ use lib.IntN.{nat_abs}
 use mir.Facts.{to_z-of_z}
 use Rattle.outputs.specs.OutputLaws.{stored_most}
 use Rattle.controller.specs.Answers.{op_of}
-use Rattle.controller.proofs.op_of.Goals.{After-magnitude}
+use Rattle.controller.proofs.op_of.Goals.{After-unsigned_abs}
 use Rattle.controller.proofs.op_of.Goals as goal
 
-magnitude_is : (c : After-magnitude) → c.magnitude.result ≡ nat_abs c.args.output
-magnitude_is c = c.magnitude.ensures ∙ ap nat_abs (to_z-of_z c.ranges.output)
+magnitude_is : (c : After-unsigned_abs) → c.unsigned_abs.result ≡ nat_abs c.args.output
+magnitude_is c = c.unsigned_abs.ensures.value ∙ ap nat_abs (to_z-of_z c.ranges.output)
 
-most : (c : After-magnitude) → c.magnitude.result / 65536 ≤ 9999
+most : (c : After-unsigned_abs) → c.unsigned_abs.result / 65536 ≤ 9999
 most c = omega (arith, magnitude_is c, stored_most c.args.output c.requires)
 
 pub overflow_cast-result : goal.overflow_cast-result

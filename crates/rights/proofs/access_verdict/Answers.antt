@@ -1,10 +1,9 @@
 -- `rights::access_verdict` meets its contract.
-use mathlib.Core.Bool.{Bool}
-use mathlib.Core.List.{List, ◌++◌}
+use mathlib.Core.List.{◌++◌}
 use mathlib.Core.Option.{Option, some, none}
-use mathlib.Core.Path.{◌≡◌, refl, sym, ap, ◌∙◌}
+use mathlib.Core.Path.{◌≡◌, refl, ap, ◌∙◌}
 use Prim.Native.Nat.{ℕ}
-use Rattle.signals.specs.RefusalLaws.{handed_on, refused_append}
+use Rattle.signals.specs.RefusalLaws.{refusal_returned, refused_append}
 use Rattle.signals.specs.Refusals.{number_in, first_of, refused_by}
 use Rattle.parameters.specs.Legal.{unknown_refusal, read_only_refusal}
 use Rattle.parameters.specs.declared.Rule.{Rule}
@@ -32,21 +31,24 @@ in_order_lem rule writer pins number =
 
 pub returns-in_err-unknown_verdict : goal.returns-in_err-unknown_verdict
 returns-in_err-unknown_verdict c =
-    ap number_in (handed_on _ _ c.from_residual.ensures.1) ∙
+    ap number_in (refusal_returned _ _ c.from_residual.ensures.1) ∙
     rw (in_order_lem c.args.rule c.args.writer c.args.pins c.args.number, ← c.in_err-unknown_verdict.ensures) refl
 
 pub returns-in_err-pin_verdict : goal.returns-in_err-pin_verdict
 returns-in_err-pin_verdict c =
-    ap number_in (handed_on _ _ c.from_residual-in_err-pin_verdict.ensures.1) ∙
-    rw (in_order_lem c.args.rule c.args.writer c.args.pins c.args.number, ← c.in_ok-unknown_verdict.ensures, ← c.in_err-pin_verdict.ensures) refl
+    ap number_in (refusal_returned _ _ c.from_residual-in_err-pin_verdict.ensures.1) ∙
+    rw (in_order_lem c.args.rule c.args.writer c.args.pins c.args.number, ← c.in_ok-unknown_verdict.ensures,
+      ← c.in_err-pin_verdict.ensures) refl
 
 pub returns-in_err-right_verdict : goal.returns-in_err-right_verdict
 returns-in_err-right_verdict c =
-    ap number_in (handed_on _ _ c.from_residual-in_err-right_verdict.ensures.1) ∙
-    rw (in_order_lem c.args.rule c.args.writer c.args.pins c.args.number, ← c.in_ok-unknown_verdict.ensures, ← c.in_ok-pin_verdict.ensures,
+    ap number_in (refusal_returned _ _ c.from_residual-in_err-right_verdict.ensures.1) ∙
+    rw (in_order_lem c.args.rule c.args.writer c.args.pins c.args.number, ← c.in_ok-unknown_verdict.ensures,
+      ← c.in_ok-pin_verdict.ensures,
       ← c.in_err-right_verdict.ensures) refl
 
 pub returns : goal.returns
 returns c =
-    rw (in_order_lem c.args.rule c.args.writer c.args.pins c.args.number, ← c.in_ok-unknown_verdict.ensures, ← c.in_ok-pin_verdict.ensures,
+    rw (in_order_lem c.args.rule c.args.writer c.args.pins c.args.number, ← c.in_ok-unknown_verdict.ensures,
+      ← c.in_ok-pin_verdict.ensures,
       ← c.in_ok-right_verdict.ensures) c.read_only_verdict.ensures

@@ -11,7 +11,7 @@ use Rattle.scaling.specs.Scale.{scaled}
 use Rattle.parameters.specs.Table.{H2, L2, HR, LR}
 use Rattle.setpoints.specs.ComputationLaws.{range2, ratio_range, quotient_small, bias_small}
 use Rattle.setpoints.specs.Setpoints.{ratio_setpoint}
-use Rattle.setpoints.proofs.ratio_setpoint.Goals.{After-channel-q, After-limit, After-unsigned_abs-s, After-get}
+use Rattle.setpoints.proofs.ratio_setpoint.Goals.{After-channel-q, After-unsigned_abs-s}
 use Rattle.setpoints.proofs.ratio_setpoint.Goals as goal
 
 pub channel-q-requires : goal.channel-q-requires

@@ -15,13 +15,13 @@ displayed : (k : In-Ok) → let a = k.args in
     to_z w32 (of_z w32 k.in-Ok.value) ≡ present_value a.controller a.number
 displayed k =
     back w32 k.in-Ok.value (search rules) ∙
-    value_read k.args.number k.requires.1 k.requires.2 k.args.controller k.in-Ok.value
-    (ap reply_of_read (sym k.in-Ok.is) ∙ k.read-present.ensures)
+    value_read k.args.number k.requires.0 k.requires.1 k.args.controller k.in-Ok.value
+    (ap reply_of_read (sym k.in-Ok.is) ∙ k.read-present.ensures.0)
 
 pub write-requires : goal.write-requires
 write-requires c =
-    let few = value_few c.args.controller c.args.number c.requires.0 in
-    (c.requires.1, c.requires.2, (λ e. rw (displayed (goal.at.write-requires c).In-Ok) (few e)), search rules)
+    let few = value_few c.args.controller c.args.number c.read-present.ensures.1 in
+    (c.requires.0, c.requires.1, (λ e. rw (displayed (goal.at.write-requires c).In-Ok) (few e)), search rules)
 
 pub returns-in-Ok : goal.returns-in-Ok
 unfolding replied
@@ -32,5 +32,5 @@ returns-in-Ok c =
 pub returns-in-Err : goal.returns-in-Err
 unfolding replied
 returns-in-Err c =
-    absurd (never_refused c.args.number c.requires.1 c.requires.2 c.args.controller _
-    (ap reply_of_read (sym c.in-Err.is) ∙ c.read-present.ensures))
+    absurd (never_refused c.args.number c.requires.0 c.requires.1 c.args.controller _
+    (ap reply_of_read (sym c.in-Err.is) ∙ c.read-present.ensures.0))

@@ -1,14 +1,12 @@
 -- `controller::Controller::answer` meets its contract.
 use Rattle.std.specs.Prelude.{Ok}
 use mathlib.Core.Path.{◌≡◌, refl, ap, ◌∙◌}
-use mir.Syntax.{w32}
-use Rattle.integers.specs.Machine.{back}
 use Rattle.outputs.specs.OutputLaws.{stored_back}
 use Rattle.answers.specs.declared.ScanValues.{ScanValues}
 use Rattle.controller.specs.Answers.{op_of, electrical_of, reply_of}
 use Rattle.controller.specs.Scan.{mode_now, md_now, ds_now, status_of, with_output}
 use Rattle.controller.specs.declared.Controller.{Controller}
-use Rattle.controller.specs.ValidLaws.{reading_back}
+use Rattle.controller.specs.ValidLaws.{reading_narrowed}
 use Rattle.controller.proofs.Controller.answer.Goals as goal
 
 -- values that are those of a controller make its answer
@@ -28,5 +26,4 @@ returns c =
     (c.op_of-op.ensures.0 ∙ ap op_of stored)
     (c.electrical_of-electrical.ensures ∙ ap (electrical_of c.self.inside.core.sw) stored)
     c.mode-mode.ensures
-    (back w32 c.narrow-pv.result c.narrow-pv.type_inv ∙ c.narrow-pv.ensures ∙
-    reading_back c.self.inside.core.readings.pv c.self.invariant.readable.pv_most))
+    (reading_narrowed c.self.inside.core.readings.pv c.self.invariant.readable.pv_most))

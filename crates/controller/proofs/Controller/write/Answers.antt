@@ -20,8 +20,8 @@ use Rattle.controller.proofs.Controller.write.Goals.{After-write_verdict}
 use Rattle.controller.proofs.Controller.write.Goals as goal
 
 -- the value that was widened is the value
-value_is : (c : After-write_verdict) → to_z w64 (of_z w64 c.wide-v.result) ≡ c.args.value
-value_is c = back w64 c.wide-v.result c.wide-v.type_inv ∙ c.wide-v.ensures ∙ to_z-of_z {w = w32} c.ranges.value
+value_is : (c : After-write_verdict) → to_z w64 (of_z w64 c.from-v.result) ≡ c.args.value
+value_is c = back w64 c.from-v.result c.from-v.type_inv ∙ c.from-v.ensures ∙ to_z-of_z {w = w32} c.ranges.value
 
 verdict_is : (c : After-write_verdict) → number_in c.write_verdict.result
     ≡ refused_by (write_tests c.args.self.core c.args.writer c.args.number c.args.value)

@@ -1,24 +1,13 @@
 -- `controller::repaired::by_pairs` meets its contract.
-use mathlib.Core.Path.{refl, ap, ◌∙◌}
-use native.Mathlib.Omega.{arith}
-use mir.Syntax.{w64}
-use Rattle.integers.specs.Listed.{filled_start, filled_next, filled_all}
-use Rattle.integers.specs.Machine.{back}
+use mathlib.Core.Path.{ap, ◌∙◌}
+use borrow.Author.Rules.{rules}
+use Rattle.integers.specs.Listed.{made_listed}
 use Rattle.parameters.specs.Repaired.{paired_value, by_pairs}
 use Rattle.parameters.specs.Table.{parameters_of}
 use Rattle.controller.proofs.repaired.by_pairs.Goals as goal
 
-pub loop-number-init : goal.loop-number-init
-loop-number-init c = filled_start (paired_value c.args.p) 24 24 _ refl
-
-pub loop-number-preserved : goal.loop-number-preserved
-loop-number-preserved c = let l = c.loop-number in
-    filled_next (paired_value c.args.p) 24 24 l.values l.number _ (omega arith) l.invariant
-    c.loop-number-test.true
-    (back w64 c.paired_value-v.result c.paired_value-v.type_inv ∙ c.paired_value-v.ensures)
-
 pub returns : goal.returns
 unfolding by_pairs
-returns c = let l = c.loop-number in
+returns c =
     c.of.ensures ∙ ap parameters_of
-    (filled_all (paired_value c.args.p) 24 l.values l.number l.invariant c.loop-number-test.false)
+    (made_listed _ _ (paired_value c.args.p) (λ number v q call. (search rules, search rules)) c.from_fn.result 24 c.from_fn.ensures.items)

@@ -21,7 +21,7 @@ returns-then-fits c =
     let fits : Fits count size (length bytes) = line_fits _ _ _ is in
     let written = rw c.new-line.ensures at c.push_all.ensures in
     let line = append_front (take count bytes) _ _ (omega (arith, length-take count bytes)) written in
-    let o = rw (c.fill.ensures, c.as_slice.ensures, line.1) at c.answer-result.ensures.0 in
+    let o = rw (c.fill.ensures, c.as_slice.ensures, line.1) at c.answer-result.ensures in
     let whole = filled_replicate (length bytes) in
     let checked = checked_line part rest (filled_take size (filled bytes) whole) (filled_drop size (filled bytes) whole)
     c.args.controller c.args.writer (take count bytes) in

@@ -17,11 +17,11 @@ value_in-requires c = let l = c.loop-place in
 
 pub loop-place-preserved : goal.loop-place-preserved
 loop-place-preserved c = let l = c.loop-place in
-    decoded_next c.args.image.now l.values l.start l.place
+    decoded_next c.args.image.now l.value-items l.start l.place
     c.length_of-size.result c.value_in.result l.invariant c.loop-place-test.true
     c.length_of-size.ensures c.value_in.ensures
 
 pub returns : goal.returns
 returns c =
     let l = c.loop-place in
-    decoded_all c.args.image.now l.values l.start l.place l.invariant c.loop-place-test.false
+    decoded_all c.args.image.now l.value-items l.start l.place l.invariant c.loop-place-test.false

@@ -12,7 +12,6 @@ use Rattle.integers.specs.TwosComplement.{as_word_is}
 use Rattle.parameters.specs.LegalLaws.{value_most}
 use Rattle.parameters.specs.Table.{value}
 use Rattle.settings.specs.Settings.{value_at}
-use Rattle.settings.proofs.Settings.value_at.Goals.{After-get-value}
 use Rattle.settings.proofs.Settings.value_at.Goals as goal
 
 pub overflow_cast-value : goal.overflow_cast-value

@@ -10,4 +10,5 @@ pub returns : goal.returns
 unfolding parameters_in
 returns c =
     c.of.ensures ∙ ap parameters_of
-    (made_listed _ _ (parameter_in c.args.values) (λ place y q call. (search rules, search rules)) c.from_fn.result 24 c.from_fn.ensures.items)
+    (made_listed _ _ (parameter_in c.args.values) (λ place y q call. (search rules, search rules))
+    c.from_fn.result 24 c.from_fn.ensures.items)

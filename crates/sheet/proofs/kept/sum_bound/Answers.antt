@@ -42,7 +42,8 @@ module _ (c : Start) where
 
   sum_held : SFits w64 ((c.args.here.pv *ℤ pos (c.args.scans - 1)) +ℤ c.args.other.pv)
   sum_held =
-      record { sfits = sum_of_fits c.args.here.pv c.args.other.pv c.args.scans c.requires.bounded.held c.requires.bounded.other_held c.requires.few }
+      let b = c.requires.bounded in
+      record { sfits = sum_of_fits c.args.here.pv c.args.other.pv c.args.scans b.held b.other_held c.requires.few }
 
   sum_read :
       to_z w64 (of_z w64 ((c.args.here.pv *ℤ pos (c.args.scans - 1)) +ℤ c.args.other.pv))
