@@ -43,7 +43,8 @@ written-requires c = simp (value_is (goal.at.written-requires c).After-write_ver
 pub returns-in-Err : goal.returns-in-Err
 unfolding write write_core response_from controller_after refused executed changed limited_to
 returns-in-Err c =
-    (simp (some_refuses _ _ (verdict_is (goal.at.returns-in-Err c).After-write_verdict) c.in-Err.is), (rw (← c.self.view_is) c.self.invariant))
+    let refuses = some_refuses _ _ (verdict_is (goal.at.returns-in-Err c).After-write_verdict) c.in-Err.is in
+    (simp refuses, rw (← c.self.view_is) c.self.invariant)
 
 pub returns-in-Ok : goal.returns-in-Ok
 unfolding write write_core response_from controller_after controller_written write_accepted
