@@ -8,7 +8,7 @@ use Rattle.std.proofs.Common.{◌∙◌, arith, length-drop, take_all, drop_of_l
 use Rattle.numerals.specs.Numerals.{integer_of, word_of}
 use Rattle.numerals.specs.Parsed.{number_of, parsed_word}
 use Rattle.numerals.specs.ParsedValues.{number_told, number_untold, word_told, word_untold, integer_most}
-use Rattle.terminal.specs.Commands.{Command, Read, NoValue, is_word, value_of, value_in, writing, command_of, command_by, command_in, asked}
+use Rattle.terminal.specs.Commands.{Read, NoValue, is_word, value_of, value_in, writing, command_of, command_by, command_in, asked}
 use Rattle.terminal.specs.MnemonicLaws.{no_name, name_found}
 use Rattle.terminal.specs.Mnemonics.{named, number_in}
 use Rattle.terminal.specs.declared.command.Command.TheVariants as code

@@ -1,5 +1,5 @@
 -- `terminal::answer` meets its contract.
-use mathlib.Core.Path.{refl, sym, ap, ◌∙◌}
+use mathlib.Core.Path.{sym, ap, ◌∙◌}
 use mir.Syntax.{w32}
 use Rattle.integers.specs.Machine.{back}
 use Rattle.terminal.specs.Terminal.{answered, answered_to}

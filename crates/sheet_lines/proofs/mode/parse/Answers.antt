@@ -1,5 +1,5 @@
 -- `sheet_lines::mode::parse` meets its contract.
-use mathlib.Core.Path.{◌≡◌, ap, sym, ◌∙◌, refl}
+use mathlib.Core.Path.{◌≡◌, ◌∙◌}
 use mathlib.Core.List.{List}
 use Prim.Native.Nat.{ℕ}
 use lib.Pointwise.{pointwise}
@@ -19,6 +19,7 @@ found word = simp same_pointwise
 pub returns : goal.returns
 returns c =
     c.copied.ensures ∙
-    find_from_yields_List (λ m. pointwise nat_eq c.args.word.now (mode_word m)) _ _ c.find.result c.find.ensures.ran (YieldsList-from_slice MODES cc)
+    find_from_yields_List (λ m. pointwise nat_eq c.args.word.now (mode_word m)) _ _ c.find.result c.find.ensures.ran
+    (YieldsList-from_slice MODES cc)
     (λ x b q k. search (rules, tests)) ∙
     found c.args.word.now

@@ -1,13 +1,10 @@
 -- `terminal::command::parse` meets its contract.
-use mathlib.Core.Path.{◌∙◌, ap}
 use native.Mathlib.Omega.{arith}
 use mir.Syntax.{w32}
 use borrow.Author.Rules.{rules}
-use Rattle.std.specs.Prelude.{Ok}
 use Rattle.integers.specs.Machine.{back}
 use Rattle.terminal.specs.CommandLaws.{none_named, read_asked, other_asked, write_asked, no_value_asked}
 use Rattle.terminal.specs.MnemonicLaws.{named_range, name_found}
-use Rattle.terminal.specs.declared.command.Command.TheVariants.{Write}
 use Rattle.terminal.proofs.command.parse.Goals as goal
 
 pub returns-in_default : goal.returns-in_default

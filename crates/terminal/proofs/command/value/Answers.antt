@@ -1,8 +1,7 @@
 -- `terminal::command::value` meets its contract. Five digits fit 32 bits.
-use mathlib.Core.Path.{◌≡◌, sym, ap, ◌∙◌}
+use mathlib.Core.Path.{sym, ap, ◌∙◌}
 use native.Mathlib.Omega.{arith}
 use mir.Syntax.{w32, w64}
-use mir.Val.{to_z, of_z}
 use borrow.Author.Rules.{rules}
 use Rattle.std.specs.Prelude.{Some}
 use Rattle.integers.specs.Machine.{back, cast_back}
