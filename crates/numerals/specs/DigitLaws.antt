@@ -112,7 +112,7 @@ module _ (b : ℕ) (base : 1 < b) where
   places_between n k low high =
       let most = places_least n (suc k) (rw pow-suc (omega (arith, mul_comm b (b ^ k)))) (omega arith) in
       let least : (places b n ≤ k) → ⊥ =
-          λ h. omega (arith, places_hold n, pow-le-pow_right {n = b} (omega arith) {i = places b n} {j = k} h) in
+      λ h. omega (arith, places_hold n, pow-le-pow_right {n = b} (omega arith) {i = places b n} {j = k} h) in
       omega (arith, least)
 
 -- ---- bytes, two digits to each
