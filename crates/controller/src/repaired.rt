@@ -71,11 +71,6 @@ fn by_pairs(p: Parameters) -> Parameters
 
 // The contract rules out HO and LO as the image holds them, pairs that are looked at before the ranges,
 // and SL or RS that take defaults.
-#[tactic(auto, unfolding(
-    parameters::specs::Repaired::repaired,
-    parameters::specs::Repaired::setpoint_and_ratio_limited,
-    parameters::specs::Repaired::widest_output
-))]
 pub fn repaired(p: Parameters) -> Parameters
     ensures { result ≡ repaired p }
 {

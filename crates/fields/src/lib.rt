@@ -42,6 +42,7 @@ const OP_TAG: usize = 0x41;
 
 const SUMCHECK_TAG: u8 = 0x7F;
 
+// By cases: in a table the rows of 23 parameters would be alike.
 #[tactic(auto, unfolding(crate::specs::Fields::tag_of))]
 fn tag_of(place: usize) -> u8
     requires { place < 28 }

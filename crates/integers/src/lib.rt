@@ -18,7 +18,7 @@ pub fn signed(minus: bool, m: u64) -> i64
 }
 
 // The value, but low where it is below low, and high where it is above high. The contract rules out a
-// limit that is off by one.
+// limit that is off by one. `clamp` would ask that low isn't above high.
 pub fn limit(low: i64, high: i64, value: i64) -> i64
     ensures { result ≡ limited low high value }
 {

@@ -131,7 +131,10 @@ fn in_priority(holdpin: bool, trackpin: bool, cause: bool, requested: Mode) -> M
 pub fn is_automatic(mode: Mode) -> bool
     ensures { result ≡ is_automatic mode }
 {
-    matches!(mode, Mode::Auto | Mode::Remote | Mode::Ratio | Mode::Fallback)
+    matches!(
+        mode,
+        Mode::Auto | Mode::Remote | Mode::Ratio | Mode::Fallback
+    )
 }
 
 // The contract rules out Remote and Ratio, which keep the previous SP within c1.

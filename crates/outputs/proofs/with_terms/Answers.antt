@@ -155,7 +155,7 @@ overflow_add-result-3 c =
     simp (two_is c.before, derivative_is c)
     (sum_fits _ _
     (small_of (sum_most (sum_most (stored_size c.requires.3) (term_sized _ (proportional_positive _ tuned _)))
-        (term_sized _ (integral_positive _ tuned _))) (omega arith))
+    (term_sized _ (integral_positive _ tuned _))) (omega arith))
     (small_of (term_sized _ (derivative_positive _ tuned _)) (omega arith)))
 
 pub returns : goal.returns
