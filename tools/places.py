@@ -14,9 +14,10 @@ from pathlib import Path
 ROOT = Path(__file__).resolve().parent.parent
 # Lines of src/, without comments, by point: what the pattern finds
 LINES = {
-    "1 own cases for a missing value or a refusal": r"^    (None|Malformed|NoCall|Terminal|Invalid|Full|NoMnemonic|NoValue|Refused\(.*\)),$",
+    "1 own cases for a missing value or a refusal":
+        r"^    (None|Malformed|NoCall|Terminal|Invalid|Full|NoMnemonic|NoValue|Refused\(.*\)),$",
     "1 a flag beside a value": r"^    (pub )?(ok|complete|more|validity|entry): ",
-    "1 a number for a case": r"fn number\(self\) -> u8|_ => 16,|return 0;$|== 16 |number == 0 |\.number\(\)",
+    "1 a number for a case": r"fn number\(self\) -> u8|_ => 16,|^        return 0;$|== 16 |\.number\(\)",
     "3 a loop that counts by hand": r"^\s*while ",
     "4 a comparison, choice or conversion by hand":
         r"fn (negative|magnitude|less|not_above|choose|plus|minus|sum|times|wide|narrow|as_word|from_word|at_least|at_most"
