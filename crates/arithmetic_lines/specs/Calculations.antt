@@ -20,36 +20,36 @@ signed_in value most = if ltb most (nat_abs value) then None else Some value
 unfoldable pub scale_calculation : List ℤ → Option ℤ
 scale_calculation numbers =
     if eqb (length numbers) 3 then
-      given (signed_in (argument numbers 0) 9999) (λ low.
-      given (signed_in (argument numbers 1) 9999) (λ high.
-      given (natural_in (argument numbers 2) 0 10000) (λ sample.
-      if lt_z low high then Some (scaled low high sample) else None)))
+    given (signed_in (argument numbers 0) 9999) (λ low.
+    given (signed_in (argument numbers 1) 9999) (λ high.
+    given (natural_in (argument numbers 2) 0 10000) (λ sample.
+    if lt_z low high then Some (scaled low high sample) else None)))
     else None
 
 -- root SAMPLE
 unfoldable pub root_calculation : List ℤ → Option ℤ
 root_calculation numbers =
     if eqb (length numbers) 1 then
-      given (natural_in (argument numbers 0) 0 10000) (λ sample. Some (pos (root_of sample)))
+    given (natural_in (argument numbers 0) 0 10000) (λ sample. Some (pos (root_of sample)))
     else None
 
 -- limit LOW HIGH VALUE: LOW isn't above HIGH
 unfoldable pub limit_calculation : List ℤ → Option ℤ
 limit_calculation numbers =
     if eqb (length numbers) 3 then
-      given (signed_in (argument numbers 0) 999999999) (λ low.
-      given (signed_in (argument numbers 1) 999999999) (λ high.
-      given (signed_in (argument numbers 2) 999999999) (λ value.
-      if le_z low high then Some (limited low high value) else None)))
+    given (signed_in (argument numbers 0) 999999999) (λ low.
+    given (signed_in (argument numbers 1) 999999999) (λ high.
+    given (signed_in (argument numbers 2) 999999999) (λ value.
+    if le_z low high then Some (limited low high value) else None)))
     else None
 
 -- ratio Q S, or inverse Q S
 unfoldable pub ratio_calculation : List ℤ → Bool → Option ℤ
 ratio_calculation numbers inverse =
     if eqb (length numbers) 2 then
-      given (signed_in (argument numbers 0) 9999) (λ q.
-      given (natural_in (argument numbers 1) 1 9999) (λ s.
-      Some (if inverse then inverse_quotient q s else ratio_quotient q s)))
+    given (signed_in (argument numbers 0) 9999) (λ q.
+    given (natural_in (argument numbers 1) 1 9999) (λ s.
+    Some (if inverse then inverse_quotient q s else ratio_quotient q s)))
     else None
 
 -- the tuning of XP and W, with which every term's arguments begin, and of the rest
@@ -63,32 +63,32 @@ tuning_in xp span ti td minutes inverted =
 unfoldable pub proportional_calculation : List ℤ → Option ℤ
 proportional_calculation numbers =
     if eqb (length numbers) 3 then
-      given (tuning_in (argument numbers 0) (argument numbers 1) 0 0 false false) (λ tuning.
-      given (signed_in (argument numbers 2) 39996) (λ change.
-      Some (stored_term (proportional_term tuning change))))
+    given (tuning_in (argument numbers 0) (argument numbers 1) 0 0 false false) (λ tuning.
+    given (signed_in (argument numbers 2) 39996) (λ change.
+    Some (stored_term (proportional_term tuning change))))
     else None
 
 -- integral XP W TI MINUTES C
 unfoldable pub integral_calculation : List ℤ → Option ℤ
 integral_calculation numbers =
     if eqb (length numbers) 5 then
-      given (natural_in (argument numbers 2) 0 9999) (λ ti.
-      given (natural_in (argument numbers 3) 0 1) (λ minutes.
-      given (tuning_in (argument numbers 0) (argument numbers 1) ti 0 (eqb minutes 1) false) (λ tuning.
-      given (signed_in (argument numbers 4) 19998) (λ c.
-      Some (stored_term (integral_term tuning c))))))
+    given (natural_in (argument numbers 2) 0 9999) (λ ti.
+    given (natural_in (argument numbers 3) 0 1) (λ minutes.
+    given (tuning_in (argument numbers 0) (argument numbers 1) ti 0 (eqb minutes 1) false) (λ tuning.
+    given (signed_in (argument numbers 4) 19998) (λ c.
+    Some (stored_term (integral_term tuning c))))))
     else None
 
 -- derivative XP W TD MINUTES INVERTED D
 unfoldable pub derivative_calculation : List ℤ → Option ℤ
 derivative_calculation numbers =
     if eqb (length numbers) 6 then
-      given (natural_in (argument numbers 2) 0 9999) (λ td.
-      given (natural_in (argument numbers 3) 0 1) (λ minutes.
-      given (natural_in (argument numbers 4) 0 1) (λ inverted.
-      given (tuning_in (argument numbers 0) (argument numbers 1) 0 td (eqb minutes 1) (eqb inverted 1)) (λ tuning.
-      given (signed_in (argument numbers 5) 39996) (λ d.
-      Some (stored_term (derivative_term tuning d)))))))
+    given (natural_in (argument numbers 2) 0 9999) (λ td.
+    given (natural_in (argument numbers 3) 0 1) (λ minutes.
+    given (natural_in (argument numbers 4) 0 1) (λ inverted.
+    given (tuning_in (argument numbers 0) (argument numbers 1) 0 td (eqb minutes 1) (eqb inverted 1)) (λ tuning.
+    given (signed_in (argument numbers 5) 39996) (λ d.
+    Some (stored_term (derivative_term tuning d)))))))
     else None
 
 -- by a line's first word and its arguments

@@ -18,7 +18,11 @@ fn signed_in(value: i64, most: u64) -> Option<i64>
     ensures value { result ≡ signed_in value most }
     ensures range { IfSome result (λ v. nat_abs v ≤ most) }
 {
-    if most < value.unsigned_abs() { None } else { Some(value) }
+    if most < value.unsigned_abs() {
+        None
+    } else {
+        Some(value)
+    }
 }
 
 // scale L H SAMPLE. This contract and those below rule out another function than the line names, an argument of another
@@ -78,7 +82,11 @@ fn ratio(numbers: &[i64], inverse: bool) -> Option<i64>
     };
     let q = signed_in(q, 9999)?;
     let s = natural_in(s, 1, 9999)?;
-    Some(if inverse { scaling::inverse_ratio(q, s) } else { scaling::ratio(q, s) })
+    Some(if inverse {
+        scaling::inverse_ratio(q, s)
+    } else {
+        scaling::ratio(q, s)
+    })
 }
 
 // The tuning of XP and W, with which every term's arguments begin, and of the rest. The contract rules out that the two

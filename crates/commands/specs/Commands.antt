@@ -37,7 +37,7 @@ alone asked numbers = if eqb (length numbers) 0 then Some asked else None
 unfoldable pub sheet_number_command : List ℤ → answer.Option Command
 sheet_number_command numbers =
     if eqb (length numbers) 2 then
-      given (natural_in (argument numbers 0) 0 15) (λ place. Some (command.Sheet (sheetcall.Number place (argument numbers 1))))
+    given (natural_in (argument numbers 0) 0 15) (λ place. Some (command.Sheet (sheetcall.Number place (argument numbers 1))))
     else None
 
 -- sheet-new, sheet-last, sheet, sheet-kept, sheet-number; else it may be a line of the arithmetic
@@ -68,14 +68,14 @@ read_command numbers =
 unfoldable pub fresh_command : List ℤ → answer.Option Command
 fresh_command numbers =
     if eqb (length numbers) 1 then
-      given (natural_in (argument numbers 0) 0 65535) (λ sw. Some (command.Call (Fresh sw)))
+    given (natural_in (argument numbers 0) 0 65535) (λ sw. Some (command.Call (Fresh sw)))
     else None
 
 -- save LENGTH
 unfoldable pub save_command : List ℤ → answer.Option Command
 save_command numbers =
     if eqb (length numbers) 1 then
-      given (natural_in (argument numbers 0) 0 300) (λ size. Some (command.Call (Save size)))
+    given (natural_in (argument numbers 0) 0 300) (λ size. Some (command.Call (Save size)))
     else None
 
 -- a command whose arguments are numbers
@@ -92,7 +92,7 @@ numbers_command word numbers =
 unfoldable pub write_of : Writer → List ℤ → answer.Option Command
 write_of w numbers =
     if eqb (length numbers) 2 then
-      given (integer_in (argument numbers 1)) (λ v. Some (command.Call (Write w (parameter_number (argument numbers 0)) v)))
+    given (integer_in (argument numbers 1)) (λ v. Some (command.Call (Write w (parameter_number (argument numbers 0)) v)))
     else None
 
 -- write WRITER NUMBER VALUE: a writer's word, and the numbers behind it
@@ -116,21 +116,21 @@ access_command line start =
 unfoldable pub scan_of : List ℤ → ℕ → answer.Option Command
 scan_of numbers milliseconds =
     if eqb (length numbers) 6 then
-      given (natural_in (argument numbers 0) 0 255) (λ pins.
-      given (natural_in (argument numbers 1) 0 65535) (λ sample1.
-      given (natural_in (argument numbers 2) 0 65535) (λ sample2.
-      given (natural_in (argument numbers 3) 0 65535) (λ sample3.
-      given (natural_in (argument numbers 4) 0 255) (λ buttons.
-      given (natural_in (argument numbers 5) 0 255) (λ sensors.
-      Some (command.Call (Scan (record {
-        pins = pins;
-        sample1 = sample1;
-        sample2 = sample2;
-        sample3 = sample3;
-        buttons = buttons;
-        sensors = sensors;
-        milliseconds = milliseconds;
-      })))))))))
+    given (natural_in (argument numbers 0) 0 255) (λ pins.
+    given (natural_in (argument numbers 1) 0 65535) (λ sample1.
+    given (natural_in (argument numbers 2) 0 65535) (λ sample2.
+    given (natural_in (argument numbers 3) 0 65535) (λ sample3.
+    given (natural_in (argument numbers 4) 0 255) (λ buttons.
+    given (natural_in (argument numbers 5) 0 255) (λ sensors.
+    Some (command.Call (Scan (record {
+      pins = pins;
+      sample1 = sample1;
+      sample2 = sample2;
+      sample3 = sample3;
+      buttons = buttons;
+      sensors = sensors;
+      milliseconds = milliseconds;
+    })))))))))
     else None
 
 -- scan PINS S1 S2 S3 BUTTONS SENSORS MS: six words that are numbers, and one behind them that is a number of 64 bits
@@ -154,7 +154,7 @@ restart_of count = given count (λ n. Some (command.Call (Restart n)))
 -- ---- a line of the terminal
 
 -- line WRITER HEX LENGTH: the second word behind a place
-unfoldable pub terminal_word : List ℕ → ℕ → Span
+abbrev pub terminal_word : List ℕ → ℕ → Span
 terminal_word line start = word_at line (after_words 1 line start)
 
 -- its bytes
@@ -165,7 +165,7 @@ terminal_bytes line start = let word = terminal_word line start in bytes_of (par
 unfoldable pub terminal_of : Writer → ℕ → List ℤ → answer.Option Command
 terminal_of w n numbers =
     if eqb (length numbers) 1 then
-      given (natural_in (argument numbers 0) 0 300) (λ size. if leb n 300 then Some (command.Call (Line w n size)) else None)
+    given (natural_in (argument numbers 0) 0 300) (λ size. if leb n 300 then Some (command.Call (Line w n size)) else None)
     else None
 
 -- with a buffer of that length for the bytes; typed by nobody, or of a malformed word, it is no line

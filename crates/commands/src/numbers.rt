@@ -10,7 +10,11 @@ use text::arguments::natural_in;
 pub fn alone(command: Command, numbers: &[i64]) -> Option<Command>
     ensures { result ≡ alone command numbers.now }
 {
-    if numbers.is_empty() { Some(command) } else { None }
+    if numbers.is_empty() {
+        Some(command)
+    } else {
+        None
+    }
 }
 
 // The number of a parameter, as a line has it: one below zero is no parameter's, and 0 stands for it.

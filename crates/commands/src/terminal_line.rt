@@ -25,7 +25,7 @@ fn of_numbers(writer: Writer, count: usize, numbers: &[i64]) -> Option<Command>
 
 // line WRITER HEX LENGTH, or - for no bytes. The contract gives every byte of the buffer, so it rules out other bytes
 // than the line has; it rules out another writer, and a line that nobody typed.
-#[tactic(auto, unfolding(crate::specs::Commands::terminal_command, crate::specs::Commands::terminal_bytes, crate::specs::Commands::terminal_word))]
+#[tactic(auto, unfolding(crate::specs::Commands::terminal_command, crate::specs::Commands::terminal_bytes))]
 pub fn parse(line: &[u8], start: usize, bytes: &mut [u8]) -> Option<Command>
     requires { start ≤ length line.now }
     ensures command { result ≡ terminal_command line.now start (length bytes.old) }

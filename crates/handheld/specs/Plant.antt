@@ -14,7 +14,7 @@ use Rattle.terminal.specs.Terminal.{LineOutcome, reply, number, answered}
 
 -- ---- `pins`, one blank and a number from 0 to 255
 
-unfoldable pub pins_from : Option ℤ → Option ℕ
+abbrev pub pins_from : Option ℤ → Option ℕ
 pins_from read = given read (λ v. natural_in v 0 255)
 
 -- any other line is the terminal's

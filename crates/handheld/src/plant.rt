@@ -10,8 +10,7 @@ use terminal::LineResult;
 
 // `pins`, one blank and a number from 0 to 255; any other line is the terminal's. The contract rules out one of the
 // terminal's that is taken, and a number beyond eight bits.
-#[tactic(auto, unfolding(crate::specs::Plant::pins_in, crate::specs::Plant::pins_from, text::specs::Arguments::natural_in),
-    using(text::specs::Words::same_pointwise))]
+#[tactic(auto, unfolding(crate::specs::Plant::pins_in, text::specs::Arguments::natural_in), using(text::specs::Words::same_pointwise))]
 fn parse(line: &[u8]) -> Option<u8>
     ensures { result ≡ pins_in line.now }
 {

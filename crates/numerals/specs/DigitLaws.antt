@@ -1,9 +1,9 @@
 -- Laws of digits: their bytes and values, and how many a number has.
 use Rattle.std.specs.Prelude.{◌≡◌, Bool, true, false, cond, List, [], ◌∷◌, leb, ltb, length, get_or}
 use Rattle.std.proofs.Math.Path.{refl}
-use Rattle.std.proofs.Common.{ap, div-lt_iff_lt-mul, length-append}
+use Rattle.std.proofs.Common.{mul_comm, div-lt_iff_lt-mul, length-append}
 use Prim.Native.Nat.{ℕ, zero, suc, ◌+◌, ◌-◌, ◌*◌, ◌/◌, ◌%◌, ◌^◌, ◌≤◌, ◌<◌}
-use Rattle.std.proofs.Math.Nat.{pow-zero, pow-suc, div-lt_self}
+use Rattle.std.proofs.Math.Nat.{pow-zero, pow-suc, pow-le-pow_right, div-lt_self}
 use native.Mathlib.Omega.{arith}
 use borrow.Author.Tests.{ltb-true, ltb-false, leb-true, lt-ltb, le-ltb, le-leb, lt-leb}
 use Rattle.integers.specs.Choice.{by_cases, both}
@@ -90,24 +90,10 @@ module _ (b : ℕ) (base : 1 < b) where
   at_least_one zero n = omega arith
   at_least_one (suc more) n = by_cases (λ k. 0 < k) (ltb n b) 1 _ (λ e. omega arith) (λ e. omega arith)
 
-  -- divisions beyond the number's own count change nothing
-  same_places : (f g n : ℕ) → n ≤ f → n ≤ g → places_within b f n ≡ places_within b g n
-  same_places f g n h k =
-      let one = fewest f n (places_within b g n) (enough g n k) (at_least_one g n) in
-      let other = fewest g n (places_within b f n) (enough f n h) (at_least_one f n) in
-      omega arith
-
   pub places_last : (n : ℕ) → n < b → places b n ≡ 1
   unfolding places places_within
   places_last zero h = refl
   places_last (suc n) h = simp (lt-ltb (suc n) b h)
-
-  pub places_more : (n : ℕ) → b ≤ n → places b n ≡ suc (places b (n / b))
-  unfolding places places_within
-  places_more zero h = absurd (omega arith)
-  places_more (suc n) h =
-      let s = div-lt_self {n = suc n} {k = b} (omega arith) base in
-      simp (le-ltb (suc n) b h) (ap suc (same_places n (suc n / b) (suc n / b) (omega arith) (omega arith)))
 
   pub places_hold : (n : ℕ) → n < b ^ places b n
   unfolding places
@@ -120,6 +106,14 @@ module _ (b : ℕ) (base : 1 < b) where
   pub places_least : (n k : ℕ) → n < b ^ k → 0 < k → places b n ≤ k
   unfolding places
   places_least n k = fewest n n k
+
+  -- between two powers of the base
+  pub places_between : (n k : ℕ) → b ^ k ≤ n → n < b * b ^ k → places b n ≡ suc k
+  places_between n k low high =
+      let most = places_least n (suc k) (rw pow-suc (omega (arith, mul_comm b (b ^ k)))) (omega arith) in
+      let least : (places b n ≤ k) → ⊥ =
+      λ h. omega (arith, places_hold n, pow-le-pow_right {n = b} (omega arith) {i = places b n} {j = k} h) in
+      omega (arith, least)
 
 -- ---- bytes, two digits to each
 

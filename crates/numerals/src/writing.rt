@@ -2,6 +2,7 @@
 ghost use Rattle.std.specs.Prelude.{◌≡◌, ◌++◌, ◌≤◌, ◌<◌, length, drop};
 ghost use Rattle.numerals.specs.Numerals.{digit_byte, last_digits, places};
 
+#[tactic(auto, unfolding(crate::specs::Numerals::digit_byte))]
 fn digit_byte(d: u64) -> u8
     requires { d < 16 }
     ensures { result ≡ digit_byte d }
@@ -18,13 +19,10 @@ fn digit_byte(d: u64) -> u8
 pub fn places(n: u64) -> usize
     ensures { (result ≡ places 10 n) × (result ≤ 20) }
 {
-    let mut count = 1;
-    let mut rest = n;
-    while 10 <= rest {
-        rest = rest / 10;
-        count += 1;
+    match n.checked_ilog10() {
+        Some(power) => power as usize + 1,
+        None => 1,
     }
-    count
 }
 
 // The last digits of a number, so many. The contract gives every byte of the buffer, so it rules out a digit out of its
@@ -33,11 +31,9 @@ pub fn write_digits(out: &mut [u8], base: u64, count: usize, n: u64)
     requires { (1 < base) × (base ≤ 16) × (count ≤ length out.old) }
     ensures { out.new ≡ last_digits base count n ++ drop count out.old }
 {
-    let mut i = count;
     let mut rest = n;
-    while 0 < i {
-        i -= 1;
+    for i in (0..count).rev() {
         out[i] = digit_byte(rest % base);
-        rest = rest / base;
+        rest /= base;
     }
 }

@@ -10,17 +10,17 @@ use Rattle.sheet_lines.specs.ModeWords.{mode_of}
 unfoldable pub answer_of_numbers : Mode → List ℤ → Option ScanValues
 answer_of_numbers mode numbers =
     if eqb (length numbers) 3 then
-      given (integer_in (argument numbers 0)) (λ pv.
-      given (natural_in (argument numbers 1) 0 65535) (λ ds.
-      given (natural_in (argument numbers 2) 0 65535) (λ op.
-      Some (record {
-        md = 0;
-        ds = ds;
-        op = op;
-        electrical = 0;
-        mode = mode;
-        pv = pv;
-      }))))
+    given (integer_in (argument numbers 0)) (λ pv.
+    given (natural_in (argument numbers 1) 0 65535) (λ ds.
+    given (natural_in (argument numbers 2) 0 65535) (λ op.
+    Some (record {
+      md = 0;
+      ds = ds;
+      op = op;
+      electrical = 0;
+      mode = mode;
+      pv = pv;
+    }))))
     else None
 
 -- of a line from a position on: a mode's word and three numbers

@@ -215,10 +215,10 @@ write_asked line n v e = go (command_in line) e
     go (Write m u) f = cc
 
 -- a refusal's number is the line's
-pub refused_asked : (c : Controller) (w : Writer) (lent : List ℕ) (k : Command) (r : Refusal) → Err r ≡ asked k
-    → refused_line c lent (number_of r) ≡ answered_to c w lent k
+pub refused_asked : (c : Controller) (w : Writer) (bytes : List ℕ) (k : Command) (r : Refusal) → Err r ≡ asked k
+    → refused_line c bytes (number_of r) ≡ answered_to c w bytes k
 unfolding answered_to
-refused_asked c w lent NoMnemonic r e = let is : r ≡ Mnemonic = cc in rw is refl
-refused_asked c w lent NoValue r e = let is : r ≡ ValueForm = cc in rw is refl
-refused_asked c w lent (Read n) r e = cc
-refused_asked c w lent (Write n v) r e = cc
+refused_asked c w bytes NoMnemonic r e = let is : r ≡ Mnemonic = cc in rw is refl
+refused_asked c w bytes NoValue r e = let is : r ≡ ValueForm = cc in rw is refl
+refused_asked c w bytes (Read n) r e = cc
+refused_asked c w bytes (Write n v) r e = cc

@@ -1,9 +1,8 @@
 -- The words of a line: what stands between blanks.
-use Rattle.std.specs.Prelude.{◌≡◌, refl, Bool, true, false, ◌&&◌, not, cond, nat_eq, List, [], ◌∷◌, ℕ, zero, suc, ◌+◌, ◌-◌, ◌≤◌, ◌<◌, eqb, ltb, length}
-use Rattle.std.specs.Prelude.{drop, get_or}
+use Rattle.std.specs.Prelude.{◌≡◌, refl, Bool, true, false, ◌&&◌, not, cond, nat_eq, List, [], ◌∷◌, ℕ, zero, suc, ◌+◌, ◌-◌, ◌≤◌, ◌<◌}
+use Rattle.std.specs.Prelude.{eqb, ltb, length, drop, get_or}
 use Rattle.std.specs.Cmp.Lexicographic.{pointwise}
-use Rattle.std.proofs.Common.{ap, arith, length-drop, eq-eqb, ne_eqb, eqb-true}
-use Rattle.std.proofs.Math.ListN.{drop_of_length-le}
+use Rattle.std.proofs.Common.{ap, arith, length-drop, eqb-true}
 use Rattle.std.proofs.Math.Seq.{drop-cons}
 use Rattle.integers.specs.Choice.{by_cases, never}
 use Rattle.text.specs.declared.Span.{Span}
@@ -89,20 +88,6 @@ same_equal (x ∷ xs) (y ∷ ys) e = go (eqb x y) refl e (same_equal xs ys)
     go : (t : Bool) → eqb x y ≡ t → cond t (same_bytes xs ys) false ≡ true → (same_bytes xs ys ≡ true → xs ≡ ys) → x ∷ xs ≡ y ∷ ys
     go true f r more = rw (eqb-true x y f, more r) refl
     go false f r more = never r
-
-module _ (a b : List ℕ) (i : ℕ) where
-  module _ (h : i < length a) (k : i < length b) where
-    pub same_more : get_or a i 0 ≡ get_or b i 0 → same_bytes (drop i a) (drop i b) ≡ same_bytes (drop (suc i) a) (drop (suc i) b)
-    unfolding same_bytes
-    same_more e = rw (drop-cons a i 0 h, drop-cons b i 0 k) (simp (eq-eqb (get_or a i 0) (get_or b i 0) e))
-
-    pub same_fails : (get_or a i 0 ≡ get_or b i 0 → ⊥) → same_bytes (drop i a) (drop i b) ≡ false
-    unfolding same_bytes
-    same_fails e = rw (drop-cons a i 0 h, drop-cons b i 0 k) (simp (ne_eqb (get_or a i 0) (get_or b i 0) e))
-
-  pub same_ends : length a ≤ i → length b ≤ i → same_bytes (drop i a) (drop i b) ≡ true
-  unfolding same_bytes
-  same_ends h k = rw (drop_of_length-le a h, drop_of_length-le b k)
 
 -- two words are the same where their bytes are, place by place
 pub same_pointwise : (a b : List ℕ) → same_bytes a b ≡ pointwise nat_eq a b

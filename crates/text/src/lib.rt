@@ -2,7 +2,7 @@
 #![tactic(auto)]
 
 ghost use Rattle.std.specs.Prelude.{◌≡◌, ◌+◌, ◌≤◌, max, length, drop};
-ghost use Rattle.text.specs.Words.{fits_blank, leading, word_at, only_word, after_words, same_bytes};
+ghost use Rattle.text.specs.Words.{fits_blank, leading, word_at, only_word, after_words};
 
 pub mod arguments;
 pub mod hexadecimal;
@@ -70,12 +70,4 @@ pub fn after_words(line: &[u8], start: usize, count: usize) -> usize
         at = word(line, at).to;
     }
     at
-}
-
-// Whether two words are the same. The contract rules out a word that is taken for a longer one.
-#[tactic(auto, using(crate::specs::Words::same_pointwise))]
-pub fn same(a: &[u8], b: &[u8]) -> bool
-    ensures { result ≡ same_bytes a.now b.now }
-{
-    a == b
 }

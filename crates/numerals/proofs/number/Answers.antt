@@ -11,7 +11,6 @@ use borrow.Author.Rules.{rules}
 use borrow.Author.Tests.{eq-eqb, ne_eqb}
 use Rattle.numerals.specs.Numerals.{integer_of}
 use Rattle.numerals.specs.Parsed.{number_of}
-use Rattle.numerals.proofs.number.Goals.{in_default-via-then-s-lt1, in_default-via-else-s-lt1+in_default-1}
 use Rattle.numerals.proofs.number.Goals as goal
 
 nothing : (s : List ℕ) → length s < 1 → eqb (get_or s 0 0) 45 ≡ false
@@ -28,8 +27,5 @@ returns-in-45 c =
 pub returns-in_default : goal.returns-in_default
 unfolding number_of integer_of
 returns-in_default c =
-    let other : eqb (get_or c.args.s.now 0 0) 45 ≡ false =
-        elim c.in_default-1.branch [
-          in_default-via-then-s-lt1 w ↦ nothing c.args.s.now (search rules)
-        | in_default-via-else-s-lt1+in_default-1 w ↦ ne_eqb _ _ (search rules) ] in
+    let other : eqb (get_or c.args.s.now 0 0) 45 ≡ false = grind (arith, nothing, ne_eqb) in
     simp other c.signed-in_default.ensures

@@ -19,7 +19,7 @@ pub returns-in_err-value : goal.returns-in_err-value
 unfolding with_sign parsed_number
 returns-in_err-value c =
     let few : (n : ℕ) → digits_of 10 c.args.most c.args.s.now ≡ some n → n < 2 ^ 64 =
-        λ n e. omega (arith, few_digits c.args.most n c.args.s.now c.requires e) in
+    λ n e. omega (arith, few_digits c.args.most n c.args.s.now c.requires e) in
     c.from_residual.ensures ∙ rw (untold (digits_of 10 c.args.most c.args.s.now) few (sym c.in_err-value.ensures))
 
 pub signed-requires : goal.signed-requires

@@ -1,9 +1,9 @@
 -- `numerals::value_of` meets its contract. What is left, read on from the value of the digits passed, is what the whole
 -- reads.
 use mathlib.Core.Path.{◌≡◌, sym, ap, ◌∙◌}
-use Prim.Native.Nat.{◌+◌, ◌*◌, ◌<◌}
+use Prim.Native.Nat.{◌+◌, ◌*◌}
 use native.Mathlib.Omega.{arith}
-use lib.ListN.{drop, length}
+use lib.ListN.{drop}
 use borrow.Author.Rules.{rules}
 use Rattle.numerals.specs.Numerals.{read_on}
 use Rattle.numerals.specs.Parsed.{within64}
@@ -16,7 +16,8 @@ pub returns-in_err-d : goal.returns-in_err-d
 unfolding within64
 returns-in_err-d c =
     let l = c.loop-b in
-    rw (l.invariant.1, read_fails c.args.base l.value c.args.s.now l.b-index (search rules) (omega (arith, c.in_err-d.ensures))) (search rules)
+    let digit = c.in_err-d.ensures in
+    rw (l.invariant.1, read_fails c.args.base l.value c.args.s.now l.b-index (search rules) (omega arith)) (search rules)
 
 pub returns-then-base-d : goal.returns-then-base-d
 unfolding within64
@@ -30,7 +31,7 @@ more : (c : Else-base-d) → read_on c.args.base 0 c.args.s.now ≡
 more c =
     let l = c.loop-b in
     let d = c.in_ok-d.ensures.0 in
-    l.invariant.1 ∙ rw d (read_more c.args.base l.value c.args.s.now l.b-index (search rules) (omega (arith, c.in_ok-d.ensures, c.if-base-d.false)))
+    l.invariant.1 ∙ rw d (read_more c.args.base l.value c.args.s.now l.b-index (search rules) (omega (arith, c.if-base-d.false)))
 
 pub returns-in_err-checked_mul : goal.returns-in_err-checked_mul
 returns-in_err-checked_mul c =

@@ -24,7 +24,7 @@ unfolding parsed_word word_in word_of
 returns-in_err-value c =
     let s = c.args.s.now in
     let few : (n : ℕ) → read_on 16 0 s ≡ some n → n < 2 ^ 64 =
-        λ n e. omega (arith, read_most 16 4 n s (omega arith) (omega arith) (omega arith) e) in
+    λ n e. omega (arith, read_most 16 4 n s (omega arith) (omega arith) (omega arith) e) in
     c.from_residual.ensures ∙ simp (eq-eqb (length s) 4 c.if-s-ne4.false, untold (read_on 16 0 s) few (sym c.in_err-value.ensures))
 
 pub overflow_cast-result : goal.overflow_cast-result

@@ -1,5 +1,5 @@
 -- `text::after_words` meets its contract. What is left to pass, from here, leads where the whole does from the start.
-use mathlib.Core.Path.{◌≡◌, refl, sym, ◌∙◌}
+use mathlib.Core.Path.{◌≡◌, sym, ◌∙◌}
 use Prim.Native.Nat.{◌+◌, ◌-◌}
 use native.Mathlib.Omega.{arith}
 use Rattle.text.specs.Words.{after_words, words_more}

@@ -1,19 +1,16 @@
--- `numerals::writing::places` meets its contract. What was counted and what is left to count make one more than the
--- whole.
+-- `numerals::writing::places` meets its contract.
+use mathlib.Core.Path.{sym}
 use native.Mathlib.Omega.{arith}
-use Rattle.numerals.specs.DigitLaws.{places_last, places_more, places_least}
+use Rattle.numerals.specs.DigitLaws.{places_last, places_between}
 use Rattle.numerals.proofs.writing.places.Goals as goal
 
-pub loop-rest-init : goal.loop-rest-init
-loop-rest-init c =
-    (omega arith, places_least 10 (omega arith) c.args.n 20 (omega (arith, c.ranges.n)) (omega arith))
+pub returns-in-Some : goal.returns-in-Some
+returns-in-Some c =
+    let power = c.in-Some.ensures in
+    let whole = places_between 10 (omega arith) c.args.n c.in-Some.power power.power_le power.next_power_gt in
+    (omega arith, omega (arith, power.bound))
 
-pub loop-rest-preserved : goal.loop-rest-preserved
-loop-rest-preserved c =
-    let l = c.loop-rest in
-    (omega (arith, places_more 10 (omega arith) l.rest c.loop-rest-test.true), l.invariant.1)
-
-pub returns : goal.returns
-returns c =
-    let l = c.loop-rest in
-    omega (arith, places_last 10 (omega arith) l.rest c.loop-rest-test.false)
+pub returns-in-None : goal.returns-in-None
+returns-in-None c =
+    let zero = c.in-None.ensures in
+    (sym (places_last 10 (omega arith) c.args.n (omega (arith, zero.none))), omega arith)

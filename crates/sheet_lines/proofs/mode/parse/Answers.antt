@@ -19,6 +19,7 @@ found word = simp same_pointwise
 pub returns : goal.returns
 returns c =
     c.copied.ensures ∙
-    find_from_yields_List (λ m. pointwise nat_eq c.args.word.now (mode_word m)) _ _ c.find.result c.find.ensures.ran (YieldsList-from_slice MODES cc)
+    find_from_yields_List (λ m. pointwise nat_eq c.args.word.now (mode_word m)) _ _ c.find.result c.find.ensures.ran
+    (YieldsList-from_slice MODES cc)
     (λ x b q k. search (rules, tests)) ∙
     found c.args.word.now

@@ -28,10 +28,10 @@ malformed c =
     let word = c.args.word.now in
     let other : is_dash word ≡ false = sym c.if-is_dash.ensures in
     elim c.then-is_empty.branch [
-      then-is_empty-via-then-is_empty w ↦ empty_read word other (search rules)
-    | then-is_empty-via-else-is_empty+then-word-eq1 w ↦ odd_read word other w.if-word-eq1.true
-    | then-is_empty-via-else-is_empty+else-word-eq1+then-not-all_digits w ↦
-        others_read word other (search rules) w.if-word-eq1.false (search rules)
+      | then-is_empty-via-then-is_empty w ↦ empty_read word other (search rules)
+      | then-is_empty-via-else-is_empty+then-word-eq1 w ↦ odd_read word other w.if-word-eq1.true
+      | then-is_empty-via-else-is_empty+else-word-eq1+then-not-all_digits w ↦
+          others_read word other (search rules) w.if-word-eq1.false (search rules)
     ]
 
 pub returns-then-is_empty : goal.returns-then-is_empty
