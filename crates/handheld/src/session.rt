@@ -1,6 +1,5 @@
 // What a run holds from line to line, and what comes of a line that is typed.
 ghost use Rattle.std.specs.Prelude.{◌≡◌, ◌≤◌, length};
-ghost use Rattle.controller.specs.Valid.{Valid};
 ghost use Rattle.handheld.specs.Sessions.{first_session, session_outcome_of, typed_outcome};
 
 use controller::Controller;
@@ -22,8 +21,9 @@ pub struct SessionResult {
 }
 
 // Before the first line: a controller that is fresh with SW 0, and the operator. The contract rules out others.
+#[tactic(auto, unfolding(crate::specs::Sessions::first_session))]
 pub fn first() -> Session
-    ensures { (result ≡ first_session) × Valid result.controller }
+    ensures { result ≡ first_session }
 {
     Session {
         controller: Controller::fresh(0),
@@ -36,7 +36,7 @@ pub fn first() -> Session
 // changes the controller, and a line of the terminal's that carries another writer than the one who is there.
 #[tactic(auto, unfolding(crate::specs::Sessions::typed_outcome))]
 pub fn answer(session: Session, line: &[u8], reply: &mut [u8]) -> SessionResult
-    requires { Valid session.controller × (2 ≤ length reply.old) }
+    requires { 2 ≤ length reply.old }
     ensures { session_outcome_of result reply.new ≡ typed_outcome session line.now reply.old }
 {
     let controller = session.controller;

@@ -7,21 +7,21 @@ use Rattle.replies.specs.ReplyLaws.{reply_fits}
 use Rattle.console.specs.declared.session.SessionStep.{SessionStep}
 use Rattle.console.proofs.SessionLineSession.answer.Goals as goal
 
-pub returns-clause-performed : goal.returns-clause-performed
-returns-clause-performed g c =
+pub returns : goal.returns
+returns g c =
     let line = c.args.line.now in
     let session = c.args.self.now in
     let before = c.args.out.now in
     let step = line_step session line in
     let parsed = rw c.buffer-buffer.ensures.0 at c.parse-command.ensures in
     let result = rw (parsed.command, parsed.bytes_after) at c.perform-step.ensures in
-    let reply = ap (λ (s : SessionStep). s.reply) result.0 in
-    let sheet = ap (λ (s : SessionStep). s.session.sheet.sheet) result.0 in
+    let reply = ap (λ (s : SessionStep). s.reply) result.step in
+    let sheet = ap (λ (s : SessionStep). s.session.sheet.sheet) result.step in
     let short : length (line_saved session line) ≤ 346 =
-    rw (← result.1) (omega (arith, c.perform-step.auto.buffer, c.parse-command.auto.bytes, c.buffer-buffer.ensures.1)) in
-    let o = rw (c.room.ensures, reply, sheet, result.1) at c.append_reply.ensures.0 in
+    rw (← result.buffer) (omega (arith, c.perform-step.auto.buffer, c.parse-command.auto.bytes, c.buffer-buffer.ensures.1)) in
+    let o = rw (c.room.ensures, reply, sheet, result.buffer) at c.append_reply.ensures.0 in
     record {
-      session = ap (λ (s : SessionStep). s.session) result.0;
+      session = ap (λ (s : SessionStep). s.session) result.step;
       output = o;
       whole = λ size.
           o ∙

@@ -8,8 +8,8 @@ use Rattle.handheld.specs.AnswerLaws.{answer_fits}
 use Rattle.handheld.specs.Sessions.{SessionOutcome}
 use Rattle.handheld.proofs.SessionLineSession.answer.Goals as goal
 
-pub returns-clause-answered : goal.returns-clause-answered
-returns-clause-answered g c =
+pub returns : goal.returns
+returns g c =
     let before = c.args.out.now in
     let o = rw c.as_slice.ensures at c.answer-result.ensures in
     let text = ap (λ (x : SessionOutcome). answer_line x.answer x.buffer) o in
