@@ -67,13 +67,18 @@ pub in_unused : (vs : List ℕ) → value (parameters_in vs) 0 ≡ pos 0
 unfolding parameters_in parameter_in listed value
 in_unused vs = refl
 
+-- the parameters of values that are not illegal, under the right sumcheck
+pub right_parameters : (vs : List ℕ) → is_illegal vs ≡ false → is_sum_right vs ≡ true → Legal (parameters_in vs)
+unfolding is_legal
+right_parameters vs e right =
+    tested_legal (parameters_in vs) (in_size vs) (in_unused vs)
+    (both (are_legal (parameters_in vs)) (are_others_legal vs) (right_legal vs e right)).0
+
 pub taken_legal : (vs : List ℕ) → is_illegal vs ≡ false → Legal (restored_settings vs).parameters
-unfolding restored_settings settings_in repaired_settings is_legal
+unfolding restored_settings settings_in repaired_settings
 taken_legal vs e =
     by_cases (λ (s : Settings). Legal s.parameters) (is_sum_right vs) (settings_in vs) (repaired_settings vs)
-    (λ right. tested_legal (parameters_in vs) (in_size vs) (in_unused vs)
-    (both (are_legal (parameters_in vs)) (are_others_legal vs) (right_legal vs e right)).0)
-    (λ wrong. repaired_legal (parameters_in vs) (in_size vs) (in_unused vs))
+    (right_parameters vs e) (λ wrong. repaired_legal (parameters_in vs) (in_unused vs))
 
 -- a fault that an image brings comes with the request Manual: "1 only with request 0"
 request_manual : (request fault : ℕ) → (eqb fault 0 || eqb request 0) ≡ true → eqb fault 1 ≡ true → request_in request ≡ Manual

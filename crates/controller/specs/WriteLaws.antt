@@ -70,14 +70,21 @@ word_is c n v accepted e =
     let k = inside (pos 0) (pos 65535) v w in
     omega (arith, integers, k.not_below, k.not_above, number v, apart v)
 
+-- an accepted write is of MD, of DS or of one of the parameters 1 to 23
+pub in_parameters : (c : Core) (n : ℕ) (v : ℤ) → refused_by (common_tests c n v) ≡ none → (n ≡ 24 → ⊥) → (n ≡ 25 → ⊥) →
+    (1 ≤ n) × (n ≤ 23)
+in_parameters c n v accepted a b =
+    let t = accepted_write c n v accepted in
+    let k = known n t.is_known in
+    let s = settable n t.is_known t.is_settable in (k.0, omega arith)
+
 module _ (c : Core) (n : ℕ) (v : ℤ) (legal : Legal c.parameters) (accepted : refused_by (common_tests c n v) ≡ none) where
   -- a value in range and in order leaves the parameters legal, whichever of them it is
   pub values_legal : (n ≡ 24 → ⊥) → (n ≡ 25 → ⊥) → Legal (written c.parameters n v)
   values_legal a b =
       let t = accepted_write c n v accepted in
-      let k = known n t.is_known in
-      let s = settable n t.is_known t.is_settable in
-      written_legal c.parameters legal n v k.0 (omega arith) t.range t.order
+      let k = in_parameters c n v accepted a b in
+      written_legal c.parameters legal n v k.0 k.1 t.range t.order
 
   pub core_legal : Legal (core_written c n v).parameters
   unfolding core_written md_written ds_written parameter_written core_with

@@ -2,7 +2,6 @@
 #![tactic(auto)]
 
 ghost use Rattle.std.specs.Prelude.{◌≡◌, ◌≤◌};
-ghost use Rattle.parameters.specs.Legal.{Legal};
 ghost use Rattle.outputs.specs.OutputLaws.{OutputRange};
 ghost use Rattle.controller.specs.Answers.{op_of, electrical_of};
 ghost use Rattle.controller.specs.Scan.{mode_now, md_now, ds_now};
@@ -12,7 +11,7 @@ ghost use Rattle.controller.specs.Valid.{Valid};
 use answers::ScanValues;
 use modes::{Conditions, Mode, Request};
 use outputs::History;
-use parameters::Parameters;
+use parameters::{Parameters, Values};
 use setpoints::Readings;
 use signals::Refusal;
 use std::marker::Model;
@@ -94,7 +93,6 @@ fn start_conditions(request: Request, fault: bool) -> Conditions
 }
 
 fn start_readings(p: Parameters) -> Readings
-    requires { Legal p }
     ensures { result ≡ start_readings p }
 {
     let pv = p.get(parameters::L1);
@@ -112,7 +110,6 @@ fn start_core(
     fault: bool,
     userbits: UserBits,
 ) -> Core
-    requires { Legal parameters }
     ensures { result ≡ start_core sw parameters request fault userbits }
 {
     let conditions = start_conditions(request, fault);
@@ -155,16 +152,16 @@ fn electrical_of(sw: u16, output: i64) -> u16
 }
 
 impl Core {
-    fn mode(self) -> Mode
-        ensures { result ≡ mode_now self }
+    fn mode(&self) -> Mode
+        ensures { result ≡ mode_now self.now }
     {
         let s = signals::switches_of(self.sw);
         let conditions = self.conditions;
         conditions.mode(s.ratio)
     }
 
-    fn md(self) -> u16
-        ensures { result ≡ md_now self }
+    fn md(&self) -> u16
+        ensures { result ≡ md_now self.now }
     {
         let conditions = self.conditions;
         let userbits = self.userbits;
@@ -173,8 +170,8 @@ impl Core {
         words::md(mode, conditions, userbits, indications)
     }
 
-    fn ds(self) -> u16
-        ensures { result ≡ ds_now self }
+    fn ds(&self) -> u16
+        ensures { result ≡ ds_now self.now }
     {
         let conditions = self.conditions;
         let userbits = self.userbits;
@@ -190,7 +187,7 @@ impl Controller {
     pub fn fresh(sw: u16) -> Controller
         ensures { (result ≡ fresh_controller sw) × Valid result }
     {
-        let values = Self::DEFAULTS;
+        let values = Values::of(Self::DEFAULTS);
         let parameters = Parameters::of(values);
         let userbits = UserBits {
             user1: false,

@@ -1,6 +1,5 @@
 // Reads: the value of any of the 32 parameters.
 ghost use Rattle.std.specs.Prelude.{◌≡◌, ◌≤◌};
-ghost use Rattle.parameters.specs.Legal.{Legal};
 ghost use Rattle.parameters.specs.Table.{value};
 ghost use Rattle.controller.specs.Answers.{op_of, reply_of_read};
 ghost use Rattle.controller.specs.Read.{value_in, read};
@@ -10,9 +9,9 @@ use crate::{Controller, Core};
 use signals::Refusal;
 
 impl Core {
-    fn parameter(self, number: u64) -> i32
-        requires { Legal self.parameters × 1 ≤ number × number ≤ 23 }
-        ensures { result ≡ value self.parameters number }
+    fn parameter(&self, number: u64) -> i32
+        requires { 1 ≤ number × number ≤ 23 }
+        ensures { result ≡ value self.now.parameters number }
     {
         let p = self.parameters;
         p.get(number) as i32

@@ -56,6 +56,7 @@ fn repaired_settings(values: FieldValues) -> Settings
 }
 
 fn restored_settings(values: FieldValues) -> Settings
+    requires { is_illegal values ≡ false }
     ensures { result ≡ restored_settings values }
 {
     let right = settings::decoding::is_sum_right(values);
@@ -75,9 +76,9 @@ fn restarted_request(powerfail: bool, request: Request) -> Request
 impl Core {
     // The controller after an accepted restart, whatever the output was. The contract rules out that it keeps anything
     // of the earlier state but SW.
-    fn restarted(self, values: FieldValues) -> Controller
+    fn restarted(&self, values: FieldValues) -> Controller
         requires { is_illegal values ≡ false }
-        ensures { (output : ℤ) → result ≡ controller_restarted (record { core = self; output = output }) values }
+        ensures { (output : ℤ) → result ≡ controller_restarted (record { core = self.now; output = output }) values }
     {
         let s = signals::switches_of(self.sw);
         let restored = restored_settings(values);

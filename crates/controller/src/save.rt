@@ -1,7 +1,6 @@
 // Saving: an image of the settings in the caller's buffer.
 ghost use Rattle.std.specs.Prelude.{◌≡◌};
 ghost use Rattle.signals.specs.Refusals.{refused_by};
-ghost use Rattle.parameters.specs.Legal.{Legal};
 ghost use Rattle.fields.specs.Fields.{save_tests, saved_in};
 ghost use Rattle.controller.specs.Answers.{reply_of_verdict, reply_by};
 ghost use Rattle.controller.specs.Valid.{Valid};
@@ -12,9 +11,9 @@ use settings::Settings;
 use signals::Refusal;
 
 impl Controller {
-    // What an image of this controller holds; the parameters are legal, as an image asks.
+    // What an image of this controller holds.
     fn settings(self) -> Settings
-        ensures { (result ≡ settings_now self) × Legal result.parameters }
+        ensures { result ≡ settings_now self }
     {
         let core = self.core;
         Settings {

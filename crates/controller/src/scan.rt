@@ -1,7 +1,6 @@
 // One scan: document 01's steps, each a function, and what it answers. What a gap forgets is forgotten before them all.
 // Steps 2 and 3 come first, as the mode decides the others; step 6 comes last, as it needs what step 5 gives.
 ghost use Rattle.std.specs.Prelude.{◌≡◌, Ok};
-ghost use Rattle.parameters.specs.Legal.{Legal};
 ghost use Rattle.setpoints.specs.ComputationLaws.{SampleRange};
 ghost use Rattle.controller.specs.Answers.{reply_of, response_of};
 ghost use Rattle.controller.specs.Scan.{context_of, computed_in, indications_after, core_after};
@@ -18,8 +17,8 @@ use words::Indications;
 
 impl Core {
     // Step 3, and of step 6 whether the scan goes to minimum.
-    fn context(self, after: Conditions, input: Input) -> Context
-        ensures { result ≡ context_of self after input }
+    fn context(&self, after: Conditions, input: Input) -> Context
+        ensures { result ≡ context_of self.now after input }
     {
         let switches = signals::switches_of(self.sw);
         let before = self.conditions;
@@ -34,9 +33,9 @@ impl Core {
     }
 
     // Steps 1, 4 and 5.
-    fn compute(self, x: Context) -> Computed
-        requires { Legal self.parameters × SampleRange x.input }
-        ensures { result ≡ computed_in self x }
+    fn compute(&self, x: Context) -> Computed
+        requires { SampleRange x.input }
+        ensures { result ≡ computed_in self.now x }
     {
         let p = self.parameters;
         let userbits = self.userbits;
@@ -46,9 +45,8 @@ impl Core {
         setpoints::compute(p, s, userbits.measuredpower, mode, input)
     }
 
-    fn indications_after(self, x: Context, r: Readings) -> Indications
-        requires { Legal self.parameters }
-        ensures { result ≡ indications_after self x r }
+    fn indications_after(&self, x: Context, r: Readings) -> Indications
+        ensures { result ≡ indications_after self.now x r }
     {
         let p = self.parameters;
         let input = x.input;
@@ -64,9 +62,8 @@ impl Core {
     }
 
     // The state that the scan leaves, but for the output. The contract rules out that the reading of before is kept.
-    fn after(self, earlier: History, conditions: Conditions, x: Context, r: Computed) -> Core
-        requires { Legal self.parameters }
-        ensures { result ≡ core_after self earlier conditions x r }
+    fn after(&self, earlier: History, conditions: Conditions, x: Context, r: Computed) -> Core
+        ensures { result ≡ core_after self.now earlier conditions x r }
     {
         let userbits = self.userbits;
         let readings = r.readings;

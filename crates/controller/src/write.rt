@@ -1,5 +1,5 @@
 // Writes: who may make one, whether it is accepted, and what it leaves.
-ghost use Rattle.std.specs.Prelude.{◌≡◌};
+ghost use Rattle.std.specs.Prelude.{◌≡◌, ◌≤◌};
 ghost use Rattle.std.proofs.Math.Option.{none};
 ghost use Rattle.signals.specs.Refusals.{number_in, refused_by};
 ghost use Rattle.controller.specs.Answers.{response_of_verdict};
@@ -25,8 +25,8 @@ fn word_of(v: i64) -> u16
 
 impl Core {
     // Refusal 8.
-    fn setpoint_verdict(self) -> Result<(), Refusal>
-        ensures { number_in result ≡ refused_by (setpoint_tests self) }
+    fn setpoint_verdict(&self) -> Result<(), Refusal>
+        ensures { number_in result ≡ refused_by (setpoint_tests self.now) }
     {
         let s = signals::switches_of(self.sw);
         let mode = self.mode();
@@ -38,8 +38,8 @@ impl Core {
     }
 
     // Refusals 8 to 11, of a value that the table accepts.
-    fn state_verdict(self, number: u64, v: i64) -> Result<(), Refusal>
-        ensures { number_in result ≡ refused_by (state_tests self number v) }
+    fn state_verdict(&self, number: u64, v: i64) -> Result<(), Refusal>
+        ensures { number_in result ≡ refused_by (state_tests self.now number v) }
     {
         let conditions = self.conditions;
         let word = word_of(v);
@@ -52,23 +52,23 @@ impl Core {
 
     // Refusals 6 to 11. The contract rules out a refusal for another cause, one that is forgotten, and a higher number
     // where a lower one applies.
-    fn value_verdict(self, number: u64, v: i64) -> Result<(), Refusal>
-        ensures { number_in result ≡ refused_by (value_tests self number v) }
+    fn value_verdict(&self, number: u64, v: i64) -> Result<(), Refusal>
+        ensures { number_in result ≡ refused_by (value_tests self.now number v) }
     {
-        let p = self.parameters;
+        let values = self.parameters.values();
         let rule = Controller::rule(number);
-        if !rule.in_range(p, v) {
+        if !rule.in_range(values, v) {
             return Err(Refusal::Range);
         }
-        if !rule.pair_in_order(p, number, v) {
+        if !rule.pair_in_order(values, number, v) {
             return Err(Refusal::Pair);
         }
         self.state_verdict(number, v)
     }
 
     // Refusals 4, 19, 20 and 5, by the stored pin byte. The contract rules out another byte.
-    fn access(self, writer: Writer, number: u64) -> Result<(), Refusal>
-        ensures { number_in result ≡ refused_by (access_now self writer number) }
+    fn access(&self, writer: Writer, number: u64) -> Result<(), Refusal>
+        ensures { number_in result ≡ refused_by (access_now self.now writer number) }
     {
         let conditions = self.conditions;
         let rule = Controller::rule(number);
@@ -76,16 +76,16 @@ impl Core {
     }
 
     // Whether a write is accepted. The contract rules out a refusal of the value where the writer may not write.
-    fn write_verdict(self, writer: Writer, number: u64, v: i64) -> Result<(), Refusal>
-        ensures { number_in result ≡ refused_by (write_tests self writer number v) }
+    fn write_verdict(&self, writer: Writer, number: u64, v: i64) -> Result<(), Refusal>
+        ensures { number_in result ≡ refused_by (write_tests self.now writer number v) }
     {
         self.access(writer, number)?;
         self.value_verdict(number, v)
     }
 
     // The same but for these three: no write touches anything else.
-    fn with(self, parameters: Parameters, conditions: Conditions, userbits: UserBits) -> Core
-        ensures { result ≡ core_with self parameters conditions userbits }
+    fn with(&self, parameters: Parameters, conditions: Conditions, userbits: UserBits) -> Core
+        ensures { result ≡ core_with self.now parameters conditions userbits }
     {
         let readings = self.readings;
         let indications = self.indications;
@@ -103,8 +103,8 @@ impl Core {
         }
     }
 
-    fn md_written(self, word: u16) -> Core
-        ensures { result ≡ md_written self word }
+    fn md_written(&self, word: u16) -> Core
+        ensures { result ≡ md_written self.now word }
     {
         let p = self.parameters;
         let before = self.conditions;
@@ -114,8 +114,8 @@ impl Core {
         self.with(p, conditions, userbits)
     }
 
-    fn ds_written(self, word: u16) -> Core
-        ensures { result ≡ ds_written self word }
+    fn ds_written(&self, word: u16) -> Core
+        ensures { result ≡ ds_written self.now word }
     {
         let p = self.parameters;
         let conditions = self.conditions;
@@ -124,8 +124,9 @@ impl Core {
         self.with(p, conditions, userbits)
     }
 
-    fn parameter_written(self, number: u64, v: i64) -> Core
-        ensures { result ≡ parameter_written self number v }
+    fn parameter_written(&self, number: u64, v: i64) -> Core
+        requires { 1 ≤ number × number ≤ 23 × refused_by (common_tests self.now number v) ≡ none }
+        ensures { result ≡ parameter_written self.now number v }
     {
         let p = self.parameters;
         let conditions = self.conditions;
@@ -135,8 +136,9 @@ impl Core {
     }
 
     // What an accepted write leaves, but for the output.
-    fn written(self, number: u64, v: i64) -> Core
-        ensures { result ≡ core_written self number v }
+    fn written(&self, number: u64, v: i64) -> Core
+        requires { refused_by (common_tests self.now number v) ≡ none }
+        ensures { result ≡ core_written self.now number v }
     {
         let word = word_of(v);
         match number {

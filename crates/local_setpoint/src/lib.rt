@@ -2,10 +2,9 @@
 // follows SP.
 #![tactic(auto)]
 
-ghost use Rattle.std.specs.Prelude.{◌≡◌};
+ghost use Rattle.std.specs.Prelude.{◌≡◌, ◌≤◌};
 ghost use Rattle.integers.specs.Limit.{limited};
 ghost use Rattle.integers.specs.Machine.{Small};
-ghost use Rattle.parameters.specs.Legal.{Legal};
 ghost use Rattle.parameters.specs.Table.{value, HS, LS};
 ghost use Rattle.local_setpoint.specs.LocalSetpoint.{moved, moved_by_hand, ratio_after, setpoint_moved, setpoint_after};
 ghost use Rattle.local_setpoint.specs.LocalSetpoint.{following_setpoint};
@@ -40,7 +39,7 @@ fn moved(adjustment: Adjustment, by: i64, low: i64, high: i64, v: i64) -> i64
 }
 
 // The parameter of this number, moved between the two of the numbers low and high.
-#[tactic(auto, using(integers::specs::Machine::read_back), unfolding(crate::specs::LocalSetpoint::moved_by_hand))]
+#[tactic(auto, using(crate::specs::LocalSetpointLaws::moves), unfolding(crate::specs::LocalSetpoint::moved_by_hand))]
 fn moved_by_hand(
     p: Parameters,
     input: Input,
@@ -50,7 +49,7 @@ fn moved_by_hand(
     high: u64,
     number: u64,
 ) -> i64
-    requires { Small by × Small (value p number) }
+    requires { Small by × 1 ≤ number × number ≤ 23 }
     ensures { result ≡ moved_by_hand input here by (value p low) (value p high) (value p number) }
 {
     let b = signals::buttons_of(input.buttons);
@@ -66,9 +65,8 @@ fn moved_by_hand(
 }
 
 // RS after step 4. The contract rules out that hands move it in another mode than Ratio, or past its limits.
-#[tactic(auto, using(crate::specs::LocalSetpointLaws::moves), unfolding(crate::specs::LocalSetpoint::ratio_after))]
+#[tactic(auto, using(integers::specs::Machine::read_back), unfolding(crate::specs::LocalSetpoint::ratio_after))]
 pub fn ratio_after(p: Parameters, mode: Mode, input: Input) -> i64
-    requires { Legal p }
     ensures { result ≡ ratio_after p mode input }
 {
     moved_by_hand(
@@ -82,9 +80,8 @@ pub fn ratio_after(p: Parameters, mode: Mode, input: Input) -> i64
     )
 }
 
-#[tactic(auto, using(crate::specs::LocalSetpointLaws::moves), unfolding(crate::specs::LocalSetpoint::setpoint_moved))]
+#[tactic(auto, using(integers::specs::Machine::read_back), unfolding(crate::specs::LocalSetpoint::setpoint_moved))]
 fn setpoint_moved(p: Parameters, mode: Mode, input: Input) -> i64
-    requires { Legal p }
     ensures { result ≡ setpoint_moved p mode input }
 {
     moved_by_hand(
@@ -101,7 +98,6 @@ fn setpoint_moved(p: Parameters, mode: Mode, input: Input) -> i64
 // SL after step 4. The contract rules out a setpoint that tracks PV in an automatic mode or while channel 1 is open.
 #[tactic(auto, using(integers::specs::Machine::read_back), unfolding(crate::specs::LocalSetpoint::setpoint_after))]
 pub fn setpoint_after(p: Parameters, setpointtracks: bool, mode: Mode, input: Input, pv: i64) -> i64
-    requires { Legal p }
     ensures { result ≡ setpoint_after p setpointtracks mode input pv }
 {
     if setpointtracks & !modes::is_automatic(mode) {

@@ -5,7 +5,7 @@
 ghost use Rattle.std.specs.Prelude.{◌≡◌, ◌≤◌, min, nat_abs, pos};
 ghost use Rattle.integers.specs.Machine.{Small};
 ghost use Rattle.terms.specs.Fraction.{stored_units, limited_stored};
-ghost use Rattle.parameters.specs.Legal.{Legal};
+ghost use Rattle.terms.specs.Terms.{TuningRange};
 ghost use Rattle.parameters.specs.Table.{HO, LO};
 ghost use Rattle.outputs.specs.ControlDifference.{control_difference, earlier_setpoint, change_of_difference, second_difference, tuning_of};
 ghost use Rattle.outputs.specs.Instruction.{stored_arithmetic, changed, limited_to, executed};
@@ -89,8 +89,7 @@ fn second_difference(r: Readings, past: Past) -> i64
 }
 
 fn tuning_of(p: Parameters, s: Switches) -> Tuning
-    requires { Legal p }
-    ensures { result ≡ tuning_of p s }
+    ensures { (result ≡ tuning_of p s) × TuningRange result }
 {
     Tuning {
         xp: p.get(parameters::XP).unsigned_abs(),
@@ -105,7 +104,7 @@ fn tuning_of(p: Parameters, s: Switches) -> Tuning
 // The output with the three terms added, each limited and rounded by itself. The contract rules out an
 // output that never moves.
 fn with_terms(p: Parameters, x: Context, r: Readings, h: History, output: i64) -> i64
-    requires { Legal p × ReadingsRange r × HistoryRange h × OutputRange output }
+    requires { ReadingsRange r × HistoryRange h × OutputRange output }
     ensures { result ≡ changed stored_arithmetic (terms_of p x r h) output }
 {
     let s = x.switches;
@@ -128,7 +127,7 @@ fn units(u: i64) -> i64
 
 #[tactic(auto, using(crate::specs::Steps::steps), unfolding(crate::specs::Outputs::minimum_of))]
 fn minimum_of(p: Parameters, s: Switches) -> i64
-    ensures { result ≡ minimum_of p s }
+    ensures { (result ≡ minimum_of p s) × (nat_abs result ≤ 65535) }
 {
     if s.displayinversion {
         p.get(parameters::HO)
@@ -152,7 +151,7 @@ fn adjusted(adjustment: Adjustment, output: i64) -> i64
 // Manual and Forced Manual. The contract rules out a move while SP is held, and Raise or Lower beside the minimum.
 #[tactic(auto, using(crate::specs::Steps::steps), unfolding(crate::specs::Outputs::by_hand))]
 fn by_hand(p: Parameters, x: Context, output: i64) -> i64
-    requires { Legal p × OutputRange output }
+    requires { OutputRange output }
     ensures { result ≡ changed stored_arithmetic (by_hand p x) output }
 {
     let b = signals::buttons_of(x.input.buttons);
@@ -168,7 +167,7 @@ fn by_hand(p: Parameters, x: Context, output: i64) -> i64
 // The automatic modes.
 #[tactic(auto, using(crate::specs::Steps::steps), unfolding(crate::specs::Outputs::by_terms))]
 fn by_terms(p: Parameters, x: Context, r: Readings, h: History, output: i64) -> i64
-    requires { Legal p × ReadingsRange r × HistoryRange h × OutputRange output }
+    requires { ReadingsRange r × HistoryRange h × OutputRange output }
     ensures { result ≡ changed stored_arithmetic (by_terms p x r h) output }
 {
     if signals::is_open(x.input) {
@@ -188,7 +187,7 @@ fn tracked(sample: u16) -> i64
 
 #[tactic(auto, using(crate::specs::Steps::steps))]
 fn changed_in(p: Parameters, x: Context, r: Readings, h: History, output: i64) -> i64
-    requires { Legal p × ReadingsRange r × HistoryRange h × OutputRange output }
+    requires { ReadingsRange r × HistoryRange h × OutputRange output }
     ensures { result ≡ changed stored_arithmetic (change_in x.mode p x r h) output }
 {
     match x.mode {
@@ -202,7 +201,6 @@ fn changed_in(p: Parameters, x: Context, r: Readings, h: History, output: i64) -
 // Limited to LO..HO.
 #[tactic(auto, using(crate::specs::Steps::steps), unfolding(terms::specs::Fraction::limited_stored))]
 fn limited(p: Parameters, output: i64) -> i64
-    requires { Legal p }
     ensures { result ≡ limited_stored (LO p) (HO p) output }
 {
     let low = units(p.get(parameters::LO));
@@ -212,7 +210,6 @@ fn limited(p: Parameters, output: i64) -> i64
 
 #[tactic(auto, using(crate::specs::Steps::steps), unfolding(crate::specs::Outputs::limits_in))]
 fn limited_in(mode: Mode, p: Parameters, output: i64) -> i64
-    requires { Legal p }
     ensures { result ≡ limited_to stored_arithmetic (limits_in mode p) output }
 {
     if modes::is_limiting(mode) {
@@ -226,7 +223,7 @@ fn limited_in(mode: Mode, p: Parameters, output: i64) -> i64
 // is not limited elsewhere, one that never moves, and one that repeats an earlier one.
 #[tactic(auto, using(crate::specs::Steps::steps), unfolding(crate::specs::Instruction::executed, crate::specs::Outputs::instruction_of))]
 pub fn output_after(p: Parameters, x: Context, r: Readings, h: History, output: i64) -> i64
-    requires { Legal p × ReadingsRange r × HistoryRange h × OutputRange output }
+    requires { ReadingsRange r × HistoryRange h × OutputRange output }
     ensures { result ≡ executed stored_arithmetic (instruction_of p x r h) output }
 {
     let mode = x.mode;
@@ -238,7 +235,6 @@ pub fn output_after(p: Parameters, x: Context, r: Readings, h: History, output: 
 // that HO or LO limits in Hold or Track, one that they leave outside elsewhere, and one that another write moves.
 #[tactic(auto, using(crate::specs::Steps::steps), unfolding(crate::specs::Outputs::limits_written))]
 pub fn output_written(number: u64, mode: Mode, p: Parameters, output: i64) -> i64
-    requires { Legal p }
     ensures { result ≡ limited_to stored_arithmetic (limits_written number mode p) output }
 {
     match number {

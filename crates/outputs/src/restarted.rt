@@ -1,6 +1,5 @@
 // The output after an accepted restart.
 ghost use Rattle.std.specs.Prelude.{◌≡◌};
-ghost use Rattle.parameters.specs.Legal.{Legal};
 ghost use Rattle.parameters.specs.Table.{HO, LO};
 ghost use Rattle.terms.specs.Fraction.{stored_units, limited_stored};
 ghost use Rattle.outputs.specs.Outputs.{restarted_to};
@@ -11,7 +10,6 @@ use signals::Switches;
 // The contract rules out an OP that is left outside its limits, and a minimum that ignores S2.2.
 #[tactic(auto, using(crate::specs::Steps::steps), unfolding(crate::specs::Outputs::restarted_to))]
 pub fn output_restarted(p: Parameters, s: Switches, tominimum: bool, op: u16) -> i64
-    requires { Legal p }
     ensures { result ≡ limited_stored (LO p) (HO p) (stored_units (restarted_to p s tominimum op)) }
 {
     let to = if tominimum {

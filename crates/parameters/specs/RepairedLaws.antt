@@ -1,7 +1,7 @@
 -- Parameters that passed every row's test are legal, and repaired parameters are legal whatever the image holds.
-use Rattle.std.specs.Prelude.{◌≡◌, Bool, true, false, ◌&&◌, ℕ, ◌≤◌, ◌<◌, ℤ, pos, neg_ℤ, length, if◌then◌else◌}
+use Rattle.std.specs.Prelude.{◌≡◌, Bool, true, false, ◌&&◌, ℕ, ◌≤◌, ◌<◌, ℤ, pos, neg_ℤ, length, set, if◌then◌else◌}
 use Rattle.std.proofs.Math.Path.{refl}
-use Rattle.std.proofs.Common.{ap, subst, ◌∙◌, zero-add, arith, length-set}
+use Rattle.std.proofs.Common.{ap, subst, ◌∙◌, zero-add, arith, get_or-set_other}
 use borrow.Author.Tests.{ne_eqb}
 use Rattle.integers.specs.Choice.{by_cases, never, both}
 use Rattle.integers.specs.Listed.{listed, listed_length, listed_at}
@@ -85,11 +85,11 @@ module _ (w d g h : ℕ → ℤ) where
 
 -- ---- all rows
 
-widest_unused : (p : Parameters) → length p.values ≡ 24 → value p 0 ≡ pos 0 → value (widest_output p) 0 ≡ pos 0
-unfolding widest_output with_value
-widest_unused p size unused =
-    value_with (with_value p 15 (pos 9999)) 16 (pos 0) (length-set p.values 15 (pos 9999) ∙ size) (omega arith) 0
-    ∙ value_with p 15 (pos 9999) size (omega arith) 0 ∙ unused
+widest_unused : (p : Parameters) → value p 0 ≡ pos 0 → value (widest_output p) 0 ≡ pos 0
+unfolding widest_output with_value value
+widest_unused p unused =
+    get_or-set_other (set p.values 15 (pos 9999)) 16 0 (pos 0) (pos 0) (λ q. omega arith)
+    ∙ get_or-set_other p.values 15 0 (pos 9999) (pos 0) (λ q. omega arith) ∙ unused
 
 -- the values of parameters that are listed by their numbers
 value_listed : (f : ℕ → ℤ) (n : ℕ) → n < 24 → value (record { values = listed f 0 24 }) n ≡ f n
@@ -175,8 +175,8 @@ module _ (p : Parameters) where
       limited_row f 21 8 7 (value setpoint 21) refl order
       (anew_value setpoint setpoint_size 21 8 7 (omega arith) (λ q. omega arith) (λ q. omega arith))
 
-pub repaired_legal : (p : Parameters) → length p.values ≡ 24 → value p 0 ≡ pos 0 → Legal (repaired p)
+pub repaired_legal : (p : Parameters) → value p 0 ≡ pos 0 → Legal (repaired p)
 unfolding repaired setpoint_and_ratio_limited setpoint f w g h
-repaired_legal p size unused =
-    legal_by (repaired p) (anew_size (setpoint p) (setpoint_size p) 21 8 7 (omega arith)) (unused_is p ∙ widest_unused p size unused)
+repaired_legal p unused =
+    legal_by (repaired p) (anew_size (setpoint p) (setpoint_size p) 21 8 7 (omega arith)) (unused_is p ∙ widest_unused p unused)
     (kept p) (setpoint_row p) (ratio_row p)

@@ -2,17 +2,40 @@
 #![tactic(auto)]
 
 ghost use Rattle.std.specs.Prelude.{◌≡◌};
+ghost use Rattle.parameters.specs.Legal.{Legal};
 ghost use Rattle.parameters.specs.Table.{parameters_of, value, with_value};
 
 use signals::Refusal;
+use std::marker::Model;
 
 mod rows;
 mod written;
 
-// The values by their numbers, IC the last; entry 0 is not used.
+// The values by their numbers, IC the last, legal or not; entry 0 is not used.
+#[derive(Clone, Copy)]
+pub struct Values {
+    values: [i64; VALUE_COUNT],
+}
+
+// Legal values: the parameters of every controller.
 #[derive(Clone, Copy)]
 pub struct Parameters {
-    values: [i64; VALUE_COUNT],
+    values: Values,
+}
+
+// A contract sees the values. Each of them always keeps its row of the table.
+impl Model for Parameters {
+    ghost use Rattle.parameters.specs.declared.Values.{Values};
+
+    ghost Value = { Values };
+
+    ghost use Rattle.parameters.specs.Legal.{Legal};
+
+    ghost view = { λ p. p.values };
+
+    ghost invariant = { λ p. Legal p.values };
+
+    ghost inverse = { λ v. record { values = v } };
 }
 
 pub const VALUE_COUNT: usize = IC as usize + 1;
@@ -109,12 +132,12 @@ pub const OP_MOST: u16 = OUTPUT_MOST as u16;
 // IC: channel 1's sample is rooted.
 pub const ROOT: i64 = 1;
 
-impl Parameters {
-    // Parameters with these values, legal or not. The contract rules out that a value is changed.
-    pub fn of(values: [i64; VALUE_COUNT]) -> Parameters
+impl Values {
+    // These values by their numbers. The contract rules out that a value is changed.
+    pub fn of(values: [i64; VALUE_COUNT]) -> Values
         ensures { result ≡ parameters_of values }
     {
-        Parameters { values }
+        Values { values }
     }
 
     // The value of a parameter, 0 for a number above 23. The contract rules out a neighbour's value.
@@ -128,12 +151,36 @@ impl Parameters {
 
     // The same but for one value. The contract rules out that another one changes.
     #[tactic(auto, unfolding(crate::specs::Table::with_value))]
-    pub fn with(mut self, number: u64, to: i64) -> Parameters
+    pub fn with(mut self, number: u64, to: i64) -> Values
         ensures { result ≡ with_value self number to }
     {
         if number <= IC {
             self.values[number as usize] = to;
         }
         self
+    }
+}
+
+impl Parameters {
+    // Parameters with these values, which are legal. The contract rules out that a value is changed.
+    pub fn of(values: Values) -> Parameters
+        requires { Legal values }
+        ensures { result ≡ values }
+    {
+        Parameters { values }
+    }
+
+    // All values. The contract rules out that one of them is illegal.
+    pub fn values(self) -> Values
+        ensures { (result ≡ self) × Legal self }
+    {
+        self.values
+    }
+
+    // The value of a parameter, 0 for a number above 23. The contract rules out a neighbour's value and an illegal one.
+    pub fn get(self, number: u64) -> i64
+        ensures { (result ≡ value self number) × Legal self }
+    {
+        self.values.get(number)
     }
 }

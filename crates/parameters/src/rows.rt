@@ -4,7 +4,7 @@ ghost use Rattle.signals.specs.Refusals.{number_in};
 ghost use Rattle.parameters.specs.Table.{value};
 ghost use Rattle.parameters.specs.Legal.{unknown_refusal, read_only_refusal, is_within, in_order, ordered, in_range, pair_in_order};
 
-use crate::{Parameters, Rule};
+use crate::{Rule, Values};
 use signals::Refusal;
 
 #[tactic(auto, using(integers::specs::Machine::read_back))]
@@ -23,7 +23,7 @@ fn in_order(strict: bool, low: i64, high: i64) -> bool
 
 // A value for the upper one of a pair is tested against the stored value of the lower one, and any other against that
 // of the upper one. The contract rules out the wrong sense.
-fn ordered(p: Parameters, high: u64, low: u64, strict: bool, number: u64, v: i64) -> bool
+fn ordered(p: Values, high: u64, low: u64, strict: bool, number: u64, v: i64) -> bool
     ensures { result ≡ ordered (value p) high low strict number v }
 {
     if number == high {
@@ -55,7 +55,7 @@ impl Rule {
     }
 
     // The contract rules out a range that is off by one at an end, and SL or RS held against fixed ends.
-    pub fn in_range(self, p: Parameters, v: i64) -> bool
+    pub fn in_range(self, p: Values, v: i64) -> bool
         ensures { result ≡ in_range self (value p) v }
     {
         match self {
@@ -69,7 +69,7 @@ impl Rule {
 
     // Whether v and the stored value of the other one that the row names are in order. The contract rules
     // out the wrong sense, another one than that, and equal ends of a channel.
-    pub fn pair_in_order(self, p: Parameters, number: u64, v: i64) -> bool
+    pub fn pair_in_order(self, p: Values, number: u64, v: i64) -> bool
         ensures { result ≡ pair_in_order self (value p) number v }
     {
         match self {

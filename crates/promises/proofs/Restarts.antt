@@ -252,8 +252,7 @@ module _ (d : Controller) (image : List ℕ) (wrong : is_sum_right (values_in im
   repairs : Repaired image d next
   unfolding vs next p controller_after restart_accepted switches_of repaired_settings legal_user_bits user_bits_in
   repairs =
-      let size = in_size vs in
-      let legal = repaired_legal (parameters_in vs) size (in_unused vs) in
+      let legal = repaired_legal (parameters_in vs) (in_unused vs) in
       let user_bits_are : (restored_settings vs).userbits
       ≡ (if leb (get_or image 131 0) 7 then user_bits_in (get_or image 131 0) else user_bits_in 0) =
       ap (λ (s : Settings). s.userbits) taken_is ∙

@@ -5,7 +5,6 @@ ghost use Rattle.std.specs.Prelude.{◌≡◌, ◌≤◌};
 ghost use Rattle.integers.specs.Machine.{Small};
 ghost use Rattle.scaling.specs.Ratio.{RatioRange};
 ghost use Rattle.scaling.specs.Scale.{scaled, ChannelRange};
-ghost use Rattle.parameters.specs.Legal.{Legal};
 ghost use Rattle.parameters.specs.Table.{value};
 ghost use Rattle.setpoints.specs.Computation.{computed, low_alarm, high_alarm};
 ghost use Rattle.setpoints.specs.ComputationLaws.{SampleRange};
@@ -13,7 +12,7 @@ ghost use Rattle.setpoints.specs.Setpoints.{first_sample, process_variable, thir
 ghost use Rattle.setpoints.specs.Setpoints.{remote_setpoint, quotient_of, ratio_setpoint, setpoint_in, measured_power};
 
 use modes::Mode;
-use parameters::Parameters;
+use parameters::{Parameters, Values};
 use signals::{Input, Switches};
 
 // PV, SP, ER and MP of a scan.
@@ -35,13 +34,13 @@ pub struct Computed {
 // The magnitude of IC where channel 1's sample is rooted.
 const ROOT: u64 = parameters::ROOT as u64;
 
-// A sample scaled by the two parameters of these numbers.
-fn channel(p: Parameters, low: u64, high: u64, sample: u16) -> i64
-    requires { ChannelRange (value p low) (value p high) sample }
-    ensures { result ≡ scaled (value p low) (value p high) sample }
+// A sample scaled by the two values of these numbers.
+fn channel(values: Values, low: u64, high: u64, sample: u16) -> i64
+    requires { ChannelRange (value values low) (value values high) sample }
+    ensures { result ≡ scaled (value values low) (value values high) sample }
 {
-    let l = p.get(low);
-    let h = p.get(high);
+    let l = values.get(low);
+    let h = values.get(high);
     scaling::scale(l, h, sample)
 }
 
@@ -59,28 +58,28 @@ fn first_sample(p: Parameters, sample: u16) -> u16
 
 #[tactic(auto, using(crate::specs::ComputationLaws::readings), unfolding(crate::specs::Setpoints::process_variable))]
 fn process_variable(p: Parameters, input: Input) -> i64
-    requires { Legal p × SampleRange input }
+    requires { SampleRange input }
     ensures { result ≡ process_variable p input }
 {
     if signals::is_open(input) {
         p.get(parameters::L1)
     } else {
         let sample = first_sample(p, input.sample1);
-        channel(p, parameters::L1, parameters::H1, sample)
+        channel(p.values(), parameters::L1, parameters::H1, sample)
     }
 }
 
 #[tactic(auto, using(crate::specs::ComputationLaws::readings), unfolding(crate::specs::Setpoints::third_channel))]
 fn third_channel(p: Parameters, input: Input) -> i64
-    requires { Legal p × SampleRange input }
+    requires { SampleRange input }
     ensures { result ≡ third_channel p input }
 {
-    channel(p, parameters::L3, parameters::H3, input.sample3)
+    channel(p.values(), parameters::L3, parameters::H3, input.sample3)
 }
 
 #[tactic(auto, using(crate::specs::ComputationLaws::readings), unfolding(crate::specs::Setpoints::trim_of))]
 fn trim_of(p: Parameters, measuredpower: bool, mode: Mode, input: Input) -> i64
-    requires { Legal p × SampleRange input }
+    requires { SampleRange input }
     ensures { result ≡ trim_of p measuredpower mode input }
 {
     if (mode == Mode::Track) | measuredpower {
@@ -99,10 +98,10 @@ fn local_setpoint(sl: i64, ratioswitch: bool, trim: i64) -> i64
 }
 
 fn remote_setpoint(p: Parameters, trim: i64, input: Input) -> i64
-    requires { Legal p × SampleRange input × Small trim }
+    requires { SampleRange input × Small trim }
     ensures { result ≡ remote_setpoint p trim input }
 {
-    channel(p, parameters::L1, parameters::H1, input.sample2) + trim
+    channel(p.values(), parameters::L1, parameters::H1, input.sample2) + trim
 }
 
 fn ratio_quotient(inverse: bool, q: i64, s: u64) -> i64
@@ -118,10 +117,10 @@ fn ratio_quotient(inverse: bool, q: i64, s: u64) -> i64
 
 #[tactic(auto, using(crate::specs::ComputationLaws::readings), unfolding(crate::specs::Setpoints::ratio_setpoint))]
 fn ratio_setpoint(p: Parameters, inverse: bool, rs: i64, trim: i64, input: Input) -> i64
-    requires { Legal p × SampleRange input × Small rs × Small trim }
+    requires { SampleRange input × Small rs × Small trim }
     ensures { result ≡ ratio_setpoint p inverse rs trim input }
 {
-    let q = channel(p, parameters::L2, parameters::H2, input.sample2);
+    let q = channel(p.values(), parameters::L2, parameters::H2, input.sample2);
     let low = p.get(parameters::LR);
     let high = p.get(parameters::HR);
     let s = integers::limit(low, high, rs + trim).unsigned_abs();
@@ -138,7 +137,7 @@ fn setpoint_in(
     trim: i64,
     input: Input,
 ) -> i64
-    requires { Legal p × SampleRange input × Small sl × Small rs × Small trim }
+    requires { SampleRange input × Small sl × Small rs × Small trim }
     ensures { result ≡ setpoint_in p s mode sl rs trim input }
 {
     match mode {
@@ -150,7 +149,7 @@ fn setpoint_in(
 
 #[tactic(auto, using(crate::specs::ComputationLaws::readings), unfolding(crate::specs::Setpoints::measured_power))]
 fn measured_power(p: Parameters, measuredpower: bool, input: Input) -> i64
-    requires { Legal p × SampleRange input }
+    requires { SampleRange input }
     ensures { result ≡ measured_power p measuredpower input }
 {
     if measuredpower {
@@ -169,9 +168,10 @@ pub fn compute(
     mode: Mode,
     input: Input,
 ) -> Computed
-    requires { Legal p × SampleRange input }
+    requires { SampleRange input }
     ensures { result ≡ computed p s measuredpower mode input }
 {
+    let values = p.values();
     let pv = process_variable(p, input);
     let sl = local_setpoint::setpoint_after(p, s.setpointtracks, mode, input, pv);
     let rs = local_setpoint::ratio_after(p, mode, input);
@@ -181,17 +181,16 @@ pub fn compute(
     let er = pv - sp;
     let mp = measured_power(p, measuredpower, input);
     let to = local_setpoint::following_setpoint(p, mode, sl, sp, trim);
-    let moved = p.with(parameters::SL, to);
-    let parameters = moved.with(parameters::RS, rs);
+    let moved = values.with(parameters::SL, to);
+    let both = moved.with(parameters::RS, rs);
     Computed {
-        parameters,
+        parameters: Parameters::of(both),
         readings: Readings { pv, sp, er, mp },
     }
 }
 
 // The contract rules out ≤ for <, and one test of the two.
 pub fn low_alarm(p: Parameters, r: Readings) -> bool
-    requires { Legal p }
     ensures { result ≡ low_alarm p r }
 {
     (r.pv < p.get(parameters::LA)) | (r.er < -p.get(parameters::LD))

@@ -1,12 +1,13 @@
 // The settings that the values of an image hold, and whether these are legal but for the parameters.
 ghost use Rattle.std.specs.Prelude.{◌≡◌, ◌≤◌};
+ghost use Rattle.parameters.specs.Legal.{Legal};
 ghost use Rattle.settings.specs.Settings.{request_in, user_bits_in, parameter_in, parameters_in};
 ghost use Rattle.settings.specs.Settings.{settings_in, is_sum_right, are_others_legal, legal_user_bits};
 
 use crate::Settings;
 use fields::FieldValues;
 use modes::Request;
-use parameters::Parameters;
+use parameters::{Parameters, Values};
 use words::UserBits;
 
 fn request_in(value: u16) -> Request
@@ -54,20 +55,21 @@ fn parameter_in(values: FieldValues, number: usize) -> i64
     }
 }
 
-// The contract rules out a parameter that is taken from another one's field.
-pub fn parameters_in(values: FieldValues) -> Parameters
+// Legal or not. The contract rules out a parameter that is taken from another one's field.
+pub fn parameters_in(values: FieldValues) -> Values
     ensures { result ≡ parameters_in values }
 {
-    Parameters::of(std::array::from_fn(|number| parameter_in(values, number)))
+    Values::of(std::array::from_fn(|number| parameter_in(values, number)))
 }
 
 // The contract rules out a setting that is taken from another one's field.
 #[tactic(auto, unfolding(crate::specs::Settings::settings_in))]
 pub fn settings_in(values: FieldValues) -> Settings
+    requires { Legal (parameters_in values) }
     ensures { result ≡ settings_in values }
 {
     Settings {
-        parameters: parameters_in(values),
+        parameters: Parameters::of(parameters_in(values)),
         op: values[fields::OP],
         request: request_in(values[fields::REQUEST]),
         fault: values[fields::FAULT] == crate::FAULT_SET,

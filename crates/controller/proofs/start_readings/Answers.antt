@@ -10,13 +10,13 @@ pub overflow_sub-er : goal.overflow_sub-er
 overflow_sub-er c =
     simp (back w64 c.get-pv.result c.get-pv.type_inv, back w64 c.get-sp.result c.get-sp.type_inv)
     (difference_fits c.get-pv.result c.get-sp.result
-    (rw c.get-pv.ensures (reading_small _ (low_reading c.args.p c.requires)))
-    (rw c.get-sp.ensures (reading_small _ (setpoint_reading c.args.p c.requires))))
+    (rw c.get-pv.ensures.0 (reading_small _ (low_reading c.args.p c.get-pv.ensures.1)))
+    (rw c.get-sp.ensures.0 (reading_small _ (setpoint_reading c.args.p c.get-sp.ensures.1))))
 
 pub returns : goal.returns
 unfolding start_readings
 returns c =
     simp (to_z-of_z (overflow_sub-er c))
     (simp (back w64 c.get-sp.result c.get-sp.type_inv, back w64 c.get-pv.result c.get-pv.type_inv)
-    (simp c.get-sp.ensures
-    (simp c.get-pv.ensures)))
+    (simp c.get-sp.ensures.0
+    (simp c.get-pv.ensures.0)))

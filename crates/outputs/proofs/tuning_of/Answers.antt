@@ -1,9 +1,11 @@
 -- `outputs::tuning_of` meets its contract.
+use mathlib.Core.Path.{refl}
 use mir.Facts.{to_z-of_z}
 use mir.Syntax.{w64}
 use Rattle.integers.specs.Machine.{back, difference_fits}
 use Rattle.setpoints.specs.ComputationLaws.{reading_small, low_reading, high_reading}
 use Rattle.outputs.specs.ControlDifference.{tuning_of}
+use Rattle.outputs.specs.OutputLaws.{tuning_range}
 use Rattle.outputs.proofs.tuning_of.Goals.{After-get-3}
 use Rattle.outputs.proofs.tuning_of.Goals as goal
 
@@ -11,8 +13,8 @@ pub overflow_sub-get : goal.overflow_sub-get
 overflow_sub-get c =
     simp (back w64 c.get-2.result c.get-2.type_inv, back w64 c.get-3.result c.get-3.type_inv)
     (difference_fits c.get-2.result c.get-3.result
-    (rw c.get-2.ensures (reading_small _ (high_reading c.args.p c.requires)))
-    (rw c.get-3.ensures (reading_small _ (low_reading c.args.p c.requires))))
+    (rw c.get-2.ensures.0 (reading_small _ (high_reading c.args.p c.get-2.ensures.1)))
+    (rw c.get-3.ensures.0 (reading_small _ (low_reading c.args.p c.get-3.ensures.1))))
 
 pub returns : goal.returns
 unfolding tuning_of
@@ -25,4 +27,5 @@ returns c =
       back w64 c.get-5.result c.get-5.type_inv,
     )
     (simp (back w64 c.get-2.result c.get-2.type_inv, back w64 c.get-3.result c.get-3.type_inv)
-    (simp (c.get.ensures, c.get-2.ensures, c.get-3.ensures, c.get-4.ensures, c.get-5.ensures))))
+    (simp (c.get.ensures.0, c.get-2.ensures.0, c.get-3.ensures.0, c.get-4.ensures.0, c.get-5.ensures.0)
+    (refl, tuning_range c.args.p c.args.s c.get.ensures.1))))

@@ -17,7 +17,7 @@ use Rattle.outputs.specs.History.{recalled}
 use Rattle.outputs.specs.Instruction.{changed, stored_arithmetic}
 use Rattle.outputs.specs.Outputs.{terms_of}
 use Rattle.outputs.specs.OutputLaws.{PastRange, recalled_read, control_difference_most, change_most, second_most}
-use Rattle.outputs.specs.OutputLaws.{tuning_range, stored_size, stored_small, term_sized, small_of, sum_most}
+use Rattle.outputs.specs.OutputLaws.{stored_size, stored_small, term_sized, small_of, sum_most}
 use Rattle.outputs.proofs.with_terms.Goals.{After-derivative, After-integral, After-proportional}
 use Rattle.outputs.proofs.with_terms.Goals.{After-recalled-past, After-second_difference-d}
 use Rattle.outputs.proofs.with_terms.Goals as goal
@@ -27,7 +27,7 @@ past_is c = c.recalled-past.ensures
 
 past_read : (c : After-recalled-past) → PastRange c.recalled-past.result
 past_read c =
-    rw (past_is c) (recalled_read c.args.h c.args.r c.requires.2 c.requires.1)
+    rw (past_is c) (recalled_read c.args.h c.args.r c.requires.1 c.requires.0)
 
 -- the terms' arguments, in the definition's words
 module _ (c : After-second_difference-d) where
@@ -42,15 +42,15 @@ module _ (c : After-second_difference-d) where
 
   tuning_is : c.tuning_of-t.result ≡ tuning
   unfolding tuning
-  tuning_is = c.tuning_of-t.ensures
+  tuning_is = c.tuning_of-t.ensures.0
 
   tuned : TuningRange tuning
   unfolding tuning
-  tuned = tuning_range c.args.p c.args.x.switches c.requires.0
+  tuned = rw c.tuning_of-t.ensures.0 at c.tuning_of-t.ensures.1
 
   past_known : PastRange past
   unfolding past
-  past_known = recalled_read c.args.h c.args.r c.requires.2 c.requires.1
+  past_known = recalled_read c.args.h c.args.r c.requires.1 c.requires.0
 
   change : ℤ
   change = change_of_difference c.args.x.switches c.args.x.mode c.args.r past
@@ -68,7 +68,7 @@ module _ (c : After-second_difference-d) where
   unfolding now inverse
   now_is =
       let call = c.control_difference-c in
-      let read = c.requires.1 in
+      let read = c.requires.0 in
       back w64 call.result call.type_inv ∙ call.ensures ∙ simp (reading_back read.sp_read, reading_back read.pv_read)
 
   second : ℤ
@@ -84,7 +84,7 @@ pub proportional-requires : goal.proportional-requires
 unfolding tuning past inverse change
 proportional-requires c =
     simp (tuning_is c, change_is c)
-    (tuned c, change_most _ _ _ _ c.requires.1 (past_known c))
+    (tuned c, change_most _ _ _ _ c.requires.0 (past_known c))
 
 proportional_is : (c : After-proportional) →
     to_z w64 (of_z w64 c.proportional.result) ≡ stored_term (proportional_term (tuning c.before) (change c.before))
@@ -95,7 +95,7 @@ proportional_is c =
 pub overflow_add-result : goal.overflow_add-result
 overflow_add-result c =
     simp (to_z-of_z c.ranges.output, proportional_is c)
-    (sum_fits _ _ (stored_small c.args.output c.requires.3)
+    (sum_fits _ _ (stored_small c.args.output c.requires.2)
     (small_of (term_sized _ (proportional_positive _ (tuned c.before) _)) (omega arith)))
 
 one_is : (c : After-proportional) →
@@ -106,7 +106,7 @@ one_is c = to_z-of_z (overflow_add-result c) ∙ simp (to_z-of_z c.ranges.output
 pub integral-requires : goal.integral-requires
 unfolding now
 integral-requires c =
-    let read = c.requires.1 in
+    let read = c.requires.0 in
     simp (tuning_is (goal.at.integral-requires c).After-second_difference-d, now_is (goal.at.integral-requires c).After-second_difference-d)
     (tuned (goal.at.integral-requires c).After-second_difference-d, control_difference_most _ _ _ read.sp_read read.pv_read)
 
@@ -121,7 +121,7 @@ overflow_add-result-2 c =
     let tuned = tuned c.before.before in
     simp (one_is c.before, integral_is c)
     (sum_fits _ _
-    (small_of (sum_most (stored_size c.requires.3) (term_sized _ (proportional_positive _ tuned _))) (omega arith))
+    (small_of (sum_most (stored_size c.requires.2) (term_sized _ (proportional_positive _ tuned _))) (omega arith))
     (small_of (term_sized _ (integral_positive _ tuned _)) (omega arith)))
 
 two_is : (c : After-integral) →
@@ -139,7 +139,7 @@ derivative-requires c =
       second_is (goal.at.derivative-requires c).After-second_difference-d,
     ) (
       tuned (goal.at.derivative-requires c).After-second_difference-d,
-      second_most _ _ c.requires.1 (past_known (goal.at.derivative-requires c).After-second_difference-d),
+      second_most _ _ c.requires.0 (past_known (goal.at.derivative-requires c).After-second_difference-d),
     )
 
 derivative_is : (c : After-derivative) →
@@ -154,8 +154,8 @@ overflow_add-result-3 c =
     let tuned = tuned c.before.before.before in
     simp (two_is c.before, derivative_is c)
     (sum_fits _ _
-    (small_of (sum_most (sum_most (stored_size c.requires.3) (term_sized _ (proportional_positive _ tuned _)))
-    (term_sized _ (integral_positive _ tuned _))) (omega arith))
+    (small_of (sum_most (sum_most (stored_size c.requires.2) (term_sized _ (proportional_positive _ tuned _)))
+        (term_sized _ (integral_positive _ tuned _))) (omega arith))
     (small_of (term_sized _ (derivative_positive _ tuned _)) (omega arith)))
 
 pub returns : goal.returns

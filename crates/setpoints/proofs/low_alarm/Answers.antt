@@ -13,7 +13,7 @@ use Rattle.setpoints.proofs.low_alarm.Goals as goal
 pub overflow_sub-result : goal.overflow_sub-result
 overflow_sub-result c =
     simp (back w64 c.get-2.result c.get-2.type_inv)
-    (difference_fits (pos 0) c.get-2.result (record { small = omega arith }) (rw c.get-2.ensures (deviation_small c.args.p c.requires)))
+    (difference_fits (pos 0) c.get-2.result (record { small = omega arith }) (rw c.get-2.ensures.0 (deviation_small c.args.p c.get-2.ensures.1)))
 
 pub returns : goal.returns
 unfolding low_alarm
@@ -22,4 +22,4 @@ returns c =
     let er = to_z-of_z {w = w64} {z = c.args.r.er} (search rules) in
     simp (pv, er, to_z-of_z (overflow_sub-result (goal.at.returns c).After-get-2))
     (simp (back w64 c.get.result c.get.type_inv, back w64 c.get-2.result c.get-2.type_inv)
-    (simp (zero_minus, c.get.ensures, c.get-2.ensures)))
+    (simp (zero_minus, c.get.ensures.0, c.get-2.ensures.0)))

@@ -15,7 +15,8 @@ use Rattle.setpoints.proofs.ratio_setpoint.Goals.{After-channel-q, After-unsigne
 use Rattle.setpoints.proofs.ratio_setpoint.Goals as goal
 
 pub channel-q-requires : goal.channel-q-requires
-channel-q-requires c = range2 c.args.p c.requires.0 c.args.input.sample2 c.requires.1.second
+channel-q-requires c =
+    rw c.values.ensures.0 (range2 c.args.p c.values.ensures.1 c.args.input.sample2 c.requires.0.second)
 
 -- s and q, in the definition's words
 s_is : (c : After-unsigned_abs-s) →
@@ -24,22 +25,22 @@ s_is c = grind (arith, to_z-of_z, back, sum_fits)
 
 q_is : (c : After-channel-q) →
     to_z w64 (of_z w64 c.channel-q.result) ≡ scaled (L2 c.args.p) (H2 c.args.p) c.args.input.sample2
-q_is c = back w64 c.channel-q.result c.channel-q.type_inv ∙ c.channel-q.ensures
+q_is c = back w64 c.channel-q.result c.channel-q.type_inv ∙ rw c.values.ensures.0 at c.channel-q.ensures
 
 pub ratio_quotient-requires : goal.ratio_quotient-requires
 ratio_quotient-requires c =
-    rw (q_is c.before.before.before.before, s_is c) (ratio_range c.args.p c.requires.0 c.args.input c.requires.1 _)
+    rw (q_is c.before.before.before.before, s_is c) (ratio_range c.args.p c.values.ensures.1 c.args.input c.requires.0 _)
 
 pub overflow_add-result : goal.overflow_add-result
 overflow_add-result c =
     simp (back w64 c.ratio_quotient.result c.ratio_quotient.type_inv, back w64 c.get.result c.get.type_inv)
     (sum_fits c.ratio_quotient.result c.get.result
     (rw c.ratio_quotient.ensures (quotient_small c.args.inverse _ _ (ratio_quotient-requires c.before.before)))
-    (rw c.get.ensures (bias_small c.args.p c.requires.0)))
+    (rw c.get.ensures.0 (bias_small c.args.p c.get.ensures.1)))
 
 pub returns : goal.returns
 unfolding ratio_setpoint
 returns c =
     to_z-of_z (overflow_add-result c) ∙
     simp (back w64 c.ratio_quotient.result c.ratio_quotient.type_inv, back w64 c.get.result c.get.type_inv)
-    (simp (c.get.ensures, c.ratio_quotient.ensures, q_is c.before.before.before.before.before.before, s_is c.before.before))
+    (simp (c.get.ensures.0, c.ratio_quotient.ensures, q_is c.before.before.before.before.before.before, s_is c.before.before))

@@ -8,16 +8,17 @@ use Rattle.setpoints.specs.Setpoints.{remote_setpoint}
 use Rattle.setpoints.proofs.remote_setpoint.Goals as goal
 
 pub channel-requires : goal.channel-requires
-channel-requires c = range1 c.args.p c.requires.0 c.args.input.sample2 c.requires.1.second
+channel-requires c =
+    rw c.values.ensures.0 (range1 c.args.p c.values.ensures.1 c.args.input.sample2 c.requires.0.second)
 
 pub overflow_add-result : goal.overflow_add-result
 overflow_add-result c =
-    let range = range1 c.args.p c.requires.0 c.args.input.sample2 c.requires.1.second in
+    let range = range1 c.args.p c.values.ensures.1 c.args.input.sample2 c.requires.0.second in
     simp (back w64 c.channel.result c.channel.type_inv, to_z-of_z c.ranges.trim)
-    (sum_fits c.channel.result c.args.trim (rw c.channel.ensures (reading_small _ (scaled_reading range))) c.requires.2)
+    (sum_fits c.channel.result c.args.trim (rw (c.channel.ensures, c.values.ensures.0) (reading_small _ (scaled_reading range))) c.requires.1)
 
 pub returns : goal.returns
 unfolding remote_setpoint
 returns c =
     to_z-of_z (overflow_add-result c) ∙
-    simp (back w64 c.channel.result c.channel.type_inv, to_z-of_z c.ranges.trim) (simp c.channel.ensures)
+    simp (back w64 c.channel.result c.channel.type_inv, to_z-of_z c.ranges.trim) (simp (c.channel.ensures, c.values.ensures.0))

@@ -17,13 +17,12 @@ context_is c = simp c.context-x.ensures (simp c.after-conditions.ensures)
 pub compute-r-requires : goal.compute-r-requires
 unfolding context_of
 compute-r-requires c =
-    (c.self.invariant.legal, rw (context_is c) c.requires)
+    rw (context_is (goal.at.compute-r-requires c).After-context-x) c.requires
 
 pub output_after-output-requires : goal.output_after-output-requires
 unfolding context_of
 output_after-output-requires c =
     simp (stored_back c.self.invariant.stored) (
-      c.self.invariant.legal,
       rw (c.compute-r.ensures, context_is (goal.at.output_after-output-requires c).After-context-x)
           (read c.self.inside.core _ c.self.invariant.legal c.requires),
       rw c.history_before-history.ensures

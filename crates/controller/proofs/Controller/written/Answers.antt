@@ -6,15 +6,11 @@ use mir.Val.{to_z, of_z}
 use Rattle.integers.specs.Machine.{back}
 use Rattle.outputs.specs.OutputLaws.{stored_back}
 use Rattle.outputs.specs.Instruction.{changed, executed}
-use Rattle.controller.specs.WriteLaws.{core_legal, written_valid}
+use Rattle.controller.specs.WriteLaws.{written_valid}
 use Rattle.controller.specs.Write.{write_accepted, controller_written}
 use Rattle.controller.specs.Scan.{controller_after}
 use Rattle.controller.proofs.Controller.written.Goals.{After-output_written-output}
 use Rattle.controller.proofs.Controller.written.Goals as goal
-
-pub output_written-output-requires : goal.output_written-output-requires
-output_written-output-requires c = rw (c.written-core.ensures, to_z-of_z c.ranges.v)
-    (core_legal c.self.inside.core c.args.number c.args.v c.self.invariant.legal (rw (← c.self.view_is) at c.requires))
 
 -- the fields of the controller that is returned
 fields_are : (c : After-output_written-output) →

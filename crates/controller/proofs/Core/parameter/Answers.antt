@@ -9,11 +9,11 @@ use Rattle.controller.specs.ValidLaws.{reading_narrowed}
 use Rattle.controller.proofs.Core.parameter.Goals as goal
 
 pub overflow_cast-result : goal.overflow_cast-result
-overflow_cast-result c = let most = value_most c.args.self.parameters c.requires.0 c.args.number c.requires.1 c.requires.2 in
+overflow_cast-result c = let most = value_most c.args.self.now.parameters c.get.ensures.1 c.args.number c.requires.0 c.requires.1 in
     simp (back w64 c.get.result c.get.type_inv)
-    (rw c.get.ensures (record { sfits = omega (arith, most, number (value c.args.self.parameters c.args.number)) }))
+    (rw c.get.ensures.0 (record { sfits = omega (arith, most, number (value c.args.self.now.parameters c.args.number)) }))
 
 pub returns : goal.returns
 returns c =
-    let most = value_most c.args.self.parameters c.requires.0 c.args.number c.requires.1 c.requires.2 in
-    rw c.get.ensures (reading_narrowed (value c.args.self.parameters c.args.number) (omega (arith, most)))
+    let most = value_most c.args.self.now.parameters c.get.ensures.1 c.args.number c.requires.0 c.requires.1 in
+    rw c.get.ensures.0 (reading_narrowed (value c.args.self.now.parameters c.args.number) (omega (arith, most)))

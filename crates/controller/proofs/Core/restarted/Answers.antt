@@ -7,21 +7,15 @@ use Rattle.integers.specs.Machine.{back}
 use Rattle.outputs.specs.Instruction.{stored_arithmetic, changed, limited_to, executed}
 use Rattle.outputs.specs.Outputs.{restart_instruction}
 use Rattle.controller.specs.Restart.{restart_accepted, controller_restarted}
-use Rattle.controller.specs.RestartLaws.{taken_legal, restarted_valid}
+use Rattle.controller.specs.RestartLaws.{restarted_valid}
 use Rattle.controller.specs.Scan.{controller_after}
 use Rattle.controller.proofs.Core.restarted.Goals.{After-output_restarted-output}
 use Rattle.controller.proofs.Core.restarted.Goals as goal
 
-pub start_core-core-requires : goal.start_core-core-requires
-start_core-core-requires c = rw c.restored_settings-restored.ensures (taken_legal c.args.values c.requires)
-
-pub output_restarted-output-requires : goal.output_restarted-output-requires
-output_restarted-output-requires c = rw c.restored_settings-restored.ensures (taken_legal c.args.values c.requires)
-
 -- the fields of the controller that is returned
 fields_are : (c : After-output_restarted-output) (output : ℤ) →
     record { core = c.start_core-core.result; output = to_z w64 (of_z w64 c.output_restarted-output.result) } ≡
-    controller_restarted (record { core = c.args.self; output = output }) c.args.values
+    controller_restarted (record { core = c.args.self.now; output = output }) c.args.values
 unfolding controller_restarted controller_after restart_accepted executed changed limited_to restart_instruction stored_arithmetic
 fields_are c output =
     simp (back w64 c.output_restarted-output.result c.output_restarted-output.type_inv)

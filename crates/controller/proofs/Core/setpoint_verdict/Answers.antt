@@ -7,7 +7,7 @@ use Rattle.controller.proofs.Core.setpoint_verdict.Goals.{After-sets_setpoint-ta
 use Rattle.controller.proofs.Core.setpoint_verdict.Goals as goal
 
 -- the test, by what the code found
-test_is : (c : After-sets_setpoint-taken) → setpoint_tests c.args.self ≡ (c.sets_setpoint-taken.result, 8) ∷ []
+test_is : (c : After-sets_setpoint-taken) → setpoint_tests c.args.self.now ≡ (c.sets_setpoint-taken.result, 8) ∷ []
 unfolding setpoint_tests
 test_is c = simp c.sets_setpoint-taken.ensures (simp (c.mode-mode.ensures, c.switches_of-s.ensures))
 

@@ -10,15 +10,15 @@ use Rattle.controller.proofs.Core.value_verdict.Goals.{After-in_range, After-pai
 use Rattle.controller.proofs.Core.value_verdict.Goals as goal
 
 -- the tests of the table, by what the code found
-in_range_is : (c : After-in_range) → in_range (rule_of c.args.number) (value c.args.self.parameters) c.args.v ≡ c.in_range.result
+in_range_is : (c : After-in_range) → in_range (rule_of c.args.number) (value c.args.self.now.parameters) c.args.v ≡ c.in_range.result
 in_range_is c =
-    simp (c.in_range.ensures, to_z-of_z c.ranges.v) (simp c.rule-rule.ensures)
+    simp (c.in_range.ensures, to_z-of_z c.ranges.v) (simp (c.rule-rule.ensures, c.values-values.ensures.0))
 
-pair_is : (c : After-pair_in_order) → pair_in_order (rule_of c.args.number) (value c.args.self.parameters) c.args.number c.args.v
+pair_is : (c : After-pair_in_order) → pair_in_order (rule_of c.args.number) (value c.args.self.now.parameters) c.args.number c.args.v
     ≡ c.pair_in_order.result
 pair_is c =
     simp (c.pair_in_order.ensures, to_z-of_z c.ranges.v)
-    (simp c.rule-rule.ensures)
+    (simp (c.rule-rule.ensures, c.values-values.ensures.0))
 
 pub returns-then-not-in_range : goal.returns-then-not-in_range
 unfolding refused_by value_tests

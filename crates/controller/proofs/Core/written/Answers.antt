@@ -3,7 +3,13 @@ use native.Mathlib.Omega.{arith}
 use mir.Facts.{to_z-of_z}
 use borrow.Author.Tests.{ne_eqb}
 use Rattle.controller.specs.Write.{core_written}
+use Rattle.controller.specs.WriteLaws.{in_parameters}
 use Rattle.controller.proofs.Core.written.Goals as goal
+
+pub parameter_written-requires : goal.parameter_written-requires
+parameter_written-requires c =
+    let h = in_parameters c.args.self.now c.args.number c.args.v c.requires (λ q. omega arith) (λ q. omega arith) in
+    rw (to_z-of_z c.ranges.v) (h.0, h.1, c.requires)
 
 pub returns-in-24 : goal.returns-in-24
 unfolding core_written
