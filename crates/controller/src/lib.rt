@@ -188,7 +188,7 @@ impl Controller {
         ensures { (result ≡ fresh_controller sw) × Valid result }
     {
         let values = Values::of(Self::DEFAULTS);
-        let parameters = Parameters::of(values);
+        let parameters = Parameters::legal(values);
         let userbits = UserBits {
             user1: false,
             user2: false,

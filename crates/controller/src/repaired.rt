@@ -1,11 +1,11 @@
 // The parameters that an image holds: whether they are legal, and what becomes of them under a wrong sumcheck.
-ghost use Rattle.std.specs.Prelude.{◌≡◌, pos};
+ghost use Rattle.std.specs.Prelude.{◌≡◌};
 ghost use Rattle.parameters.specs.Legal.{are_legal, keeps};
 ghost use Rattle.parameters.specs.Table.{rule_of, value};
 ghost use Rattle.parameters.specs.Repaired.{default, ranged_value, by_range, paired_value, by_pairs, repaired};
 
 use crate::Controller;
-use parameters::{Parameters, Values};
+use parameters::Values;
 
 fn default(number: u64) -> i64
     ensures { result ≡ default number }
@@ -71,20 +71,13 @@ fn by_pairs(p: Values) -> Values
 
 // The contract rules out HO and LO as the image holds them, pairs that are looked at before the ranges,
 // and SL or RS that take defaults.
-#[tactic(auto, unfolding(
-    parameters::specs::Repaired::repaired,
-    parameters::specs::Repaired::setpoint_and_ratio_limited,
-    parameters::specs::Repaired::widest_output
-))]
-pub fn repaired(p: Values) -> Parameters
-    requires { value p 0 ≡ pos 0 }
+pub fn repaired(p: Values) -> Values
     ensures { result ≡ repaired p }
 {
     let widest = p
         .with(parameters::HO, Controller::OUTPUT_MOST)
         .with(parameters::LO, Controller::OUTPUT_LEAST);
-    let limited = by_pairs(by_range(widest))
+    by_pairs(by_range(widest))
         .limited_anew(parameters::SL, parameters::LS, parameters::HS)
-        .limited_anew(parameters::RS, parameters::LR, parameters::HR);
-    Parameters::of(limited)
+        .limited_anew(parameters::RS, parameters::LR, parameters::HR)
 }

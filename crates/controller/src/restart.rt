@@ -9,6 +9,7 @@ ghost use Rattle.controller.specs.Valid.{Valid};
 use crate::{CallResult, Controller, Core};
 use fields::FieldValues;
 use modes::Request;
+use parameters::Parameters;
 use settings::Settings;
 use signals::Refusal;
 
@@ -56,7 +57,6 @@ fn repaired_settings(values: FieldValues) -> Settings
 }
 
 fn restored_settings(values: FieldValues) -> Settings
-    requires { is_illegal values ≡ false }
     ensures { result ≡ restored_settings values }
 {
     let right = settings::decoding::is_sum_right(values);
@@ -84,7 +84,7 @@ impl Core {
         let restored = restored_settings(values);
         let right = settings::decoding::is_sum_right(values);
         let request = restarted_request(s.powerfail, restored.request);
-        let parameters = restored.parameters;
+        let parameters = Parameters::legal(restored.parameters);
         let core = crate::start_core(
             self.sw,
             parameters,

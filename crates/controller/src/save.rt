@@ -1,6 +1,7 @@
 // Saving: an image of the settings in the caller's buffer.
 ghost use Rattle.std.specs.Prelude.{◌≡◌};
 ghost use Rattle.signals.specs.Refusals.{refused_by};
+ghost use Rattle.parameters.specs.Legal.{Legal};
 ghost use Rattle.fields.specs.Fields.{save_tests, saved_in};
 ghost use Rattle.controller.specs.Answers.{reply_of_verdict, reply_by};
 ghost use Rattle.controller.specs.Valid.{Valid};
@@ -11,13 +12,13 @@ use settings::Settings;
 use signals::Refusal;
 
 impl Controller {
-    // What an image of this controller holds.
+    // What an image of this controller holds; the parameters are legal, as an image asks.
     fn settings(self) -> Settings
-        ensures { result ≡ settings_now self }
+        ensures { (result ≡ settings_now self) × Legal result.parameters }
     {
         let core = self.core;
         Settings {
-            parameters: core.parameters,
+            parameters: core.parameters.values(),
             op: crate::op_of(self.output),
             request: core.conditions.request,
             fault: core.conditions.fault,

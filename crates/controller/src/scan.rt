@@ -52,7 +52,7 @@ impl Core {
         let input = x.input;
         let batterylow = signals::battery_low(input);
         let lowalarm = setpoints::low_alarm(p, r);
-        let highalarm = setpoints::high_alarm(p, r);
+        let highalarm = setpoints::high_alarm(p.values(), r);
         Indications {
             buttons: input.buttons,
             batterylow,

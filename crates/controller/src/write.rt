@@ -131,7 +131,7 @@ impl Core {
         let p = self.parameters;
         let conditions = self.conditions;
         let userbits = self.userbits;
-        let parameters = p.written(number, v);
+        let parameters = p.after_write(number, v);
         self.with(parameters, conditions, userbits)
     }
 

@@ -10,7 +10,7 @@ ghost use Rattle.local_setpoint.specs.LocalSetpoint.{moved, moved_by_hand, ratio
 ghost use Rattle.local_setpoint.specs.LocalSetpoint.{following_setpoint};
 
 use modes::Mode;
-use parameters::Parameters;
+use parameters::{Parameters, Values};
 use signals::{Adjustment, Input};
 
 // What Raise or Lower moves RS and SL by while SP is held.
@@ -19,7 +19,7 @@ const RATIO_STEP: i64 = 12;
 const SETPOINT_STEP: i64 = 1;
 
 // A setpoint limited to LS..HS.
-pub fn limited_setpoint(p: Parameters, v: i64) -> i64
+pub fn limited_setpoint(p: Values, v: i64) -> i64
     ensures { result ≡ limited (LS p) (HS p) v }
 {
     let low = p.get(parameters::LS);
@@ -104,7 +104,7 @@ pub fn setpoint_after(p: Parameters, setpointtracks: bool, mode: Mode, input: In
         if signals::is_open(input) {
             p.get(parameters::SL)
         } else {
-            limited_setpoint(p, pv)
+            limited_setpoint(p.values(), pv)
         }
     } else {
         setpoint_moved(p, mode, input)
@@ -120,7 +120,7 @@ pub fn following_setpoint(p: Parameters, mode: Mode, sl: i64, sp: i64, trim: i64
     ensures { result ≡ following_setpoint p mode sl sp trim }
 {
     match mode {
-        Mode::Remote => limited_setpoint(p, sp - trim),
+        Mode::Remote => limited_setpoint(p.values(), sp - trim),
         Mode::Ratio => sp,
         _ => sl,
     }

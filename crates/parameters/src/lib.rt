@@ -163,7 +163,7 @@ impl Values {
 
 impl Parameters {
     // Parameters with these values, which are legal. The contract rules out that a value is changed.
-    pub fn of(values: Values) -> Parameters
+    pub fn legal(values: Values) -> Parameters
         requires { Legal values }
         ensures { result ≡ values }
     {

@@ -20,7 +20,7 @@ impl Values {
 
     // The contract rules out a limit that leaves SL or RS outside, and a write that moves any other parameter.
     #[tactic(auto, using(integers::specs::Machine::read_back), unfolding(crate::specs::Written::written))]
-    fn written(self, number: u64, v: i64) -> Values
+    pub fn written(self, number: u64, v: i64) -> Values
         ensures { result ≡ written self number v }
     {
         let next = self.with(number, v);
@@ -33,9 +33,9 @@ impl Values {
 }
 
 impl Parameters {
-    // A write that has passed the tests of its row leaves legal parameters.
+    // The same of a write that has passed the tests of its row: it leaves legal parameters.
     #[tactic(auto, using(integers::specs::Machine::read_back, crate::specs::WrittenLaws::written_legal))]
-    pub fn written(self, number: u64, v: i64) -> Parameters
+    pub fn after_write(self, number: u64, v: i64) -> Parameters
         requires { 1 ≤ number × number ≤ 23 × (in_range (rule_of number) (value self) v ≡ true)
             × (pair_in_order (rule_of number) (value self) number v ≡ true) }
         ensures { result ≡ written self number v }

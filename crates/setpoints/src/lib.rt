@@ -177,14 +177,14 @@ pub fn compute(
     let rs = local_setpoint::ratio_after(p, mode, input);
     let trim = trim_of(p, measuredpower, mode, input);
     let unlimited = setpoint_in(p, s, mode, sl, rs, trim, input);
-    let sp = local_setpoint::limited_setpoint(p, unlimited);
+    let sp = local_setpoint::limited_setpoint(values, unlimited);
     let er = pv - sp;
     let mp = measured_power(p, measuredpower, input);
     let to = local_setpoint::following_setpoint(p, mode, sl, sp, trim);
     let moved = values.with(parameters::SL, to);
     let both = moved.with(parameters::RS, rs);
     Computed {
-        parameters: Parameters::of(both),
+        parameters: Parameters::legal(both),
         readings: Readings { pv, sp, er, mp },
     }
 }
@@ -198,7 +198,7 @@ pub fn low_alarm(p: Parameters, r: Readings) -> bool
 
 // The same for the high alarm.
 #[tactic(auto, using(crate::specs::ComputationLaws::readings), unfolding(crate::specs::Computation::high_alarm))]
-pub fn high_alarm(p: Parameters, r: Readings) -> bool
+pub fn high_alarm(p: Values, r: Readings) -> bool
     ensures { result ≡ high_alarm p r }
 {
     (p.get(parameters::HA) < r.pv) | (p.get(parameters::HD) < r.er)

@@ -1,13 +1,12 @@
 // The settings that the values of an image hold, and whether these are legal but for the parameters.
 ghost use Rattle.std.specs.Prelude.{◌≡◌, ◌≤◌};
-ghost use Rattle.parameters.specs.Legal.{Legal};
 ghost use Rattle.settings.specs.Settings.{request_in, user_bits_in, parameter_in, parameters_in};
 ghost use Rattle.settings.specs.Settings.{settings_in, is_sum_right, are_others_legal, legal_user_bits};
 
 use crate::Settings;
 use fields::FieldValues;
 use modes::Request;
-use parameters::{Parameters, Values};
+use parameters::Values;
 use words::UserBits;
 
 fn request_in(value: u16) -> Request
@@ -55,7 +54,7 @@ fn parameter_in(values: FieldValues, number: usize) -> i64
     }
 }
 
-// Legal or not. The contract rules out a parameter that is taken from another one's field.
+// The contract rules out a parameter that is taken from another one's field.
 pub fn parameters_in(values: FieldValues) -> Values
     ensures { result ≡ parameters_in values }
 {
@@ -65,11 +64,10 @@ pub fn parameters_in(values: FieldValues) -> Values
 // The contract rules out a setting that is taken from another one's field.
 #[tactic(auto, unfolding(crate::specs::Settings::settings_in))]
 pub fn settings_in(values: FieldValues) -> Settings
-    requires { Legal (parameters_in values) }
     ensures { result ≡ settings_in values }
 {
     Settings {
-        parameters: Parameters::of(parameters_in(values)),
+        parameters: parameters_in(values),
         op: values[fields::OP],
         request: request_in(values[fields::REQUEST]),
         fault: values[fields::FAULT] == crate::FAULT_SET,

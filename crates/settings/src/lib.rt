@@ -4,11 +4,12 @@
 ghost use Rattle.std.specs.Prelude.{◌≡◌};
 ghost use Rattle.signals.specs.Refusals.{number_in, refused_by};
 ghost use Rattle.fields.specs.Fields.{with_sumcheck, save_tests, saved_in};
+ghost use Rattle.parameters.specs.Legal.{Legal};
 ghost use Rattle.settings.specs.Settings.{request_number, fault_number, user_bits_number, value_at, values_of, image_of};
 
 use fields::FieldValues;
 use modes::Request;
-use parameters::Parameters;
+use parameters::Values;
 use signals::Refusal;
 use words::UserBits;
 
@@ -37,10 +38,10 @@ const USER_BITS_MOST: u16 = 7;
 // The place of the last parameter's field.
 const LAST_PARAMETER: usize = fields::OP - 1;
 
-// Parameters 1 to 23, OP, request, memory fault, and user bits with MD bit 4: in the order of their fields.
+// Parameters 1 to 23, legal or not, OP, request, memory fault, and user bits with MD bit 4: in the order of their fields.
 #[derive(Clone, Copy)]
 pub struct Settings {
-    pub parameters: Parameters,
+    pub parameters: Values,
     pub op: u16,
     pub request: Request,
     pub fault: bool,
@@ -76,6 +77,7 @@ impl Settings {
     // The value of the field with this place, the sumcheck's not among them.
     #[tactic(auto, using(crate::specs::SettingsLaws::words), unfolding(crate::specs::Settings::value_at))]
     fn value_at(self, place: usize) -> u16
+        requires { Legal self.parameters }
         ensures { result ≡ value_at self place }
     {
         match place {
@@ -92,6 +94,7 @@ impl Settings {
 
     // The values of all fields. What `value_at` gives at the sumcheck's place gives way to the sumcheck.
     fn values(self) -> FieldValues
+        requires { Legal self.parameters }
         ensures { result ≡ with_sumcheck (values_of self) }
     {
         fields::with_sumcheck(std::array::from_fn(|place| self.value_at(place)))
@@ -99,6 +102,7 @@ impl Settings {
 
     // Encodes the image in the caller's buffer. The contract gives the verdict and every byte of the buffer.
     pub fn save(self, buffer: &mut [u8]) -> Result<(), Refusal>
+        requires { Legal self.parameters }
         ensures { (number_in result ≡ refused_by (save_tests buffer.old))
             × (buffer.new ≡ saved_in (image_of self) buffer.old) }
     {

@@ -36,14 +36,14 @@ overflow_sub-er c =
     )
     (difference_fits c.process_variable-pv.result c.limited_setpoint-sp.result
     (rw c.process_variable-pv.ensures (reading_small _ (pv_reading p legal _ c.requires)))
-    (rw c.limited_setpoint-sp.ensures (reading_small _ (setpoint_read p legal (setpoint_limited p legal _)))))
+    (rw (rw c.values-values.ensures.0 at c.limited_setpoint-sp.ensures) (reading_small _ (setpoint_read p legal (setpoint_limited p legal _)))))
 
 pub following_setpoint-to-requires : goal.following_setpoint-to-requires
 following_setpoint-to-requires c =
     let p = c.args.p in
     let legal = c.values-values.ensures.1 in
     simp (back w64 c.limited_setpoint-sp.result c.limited_setpoint-sp.type_inv, back w64 c.trim_of-trim.result c.trim_of-trim.type_inv) (
-      rw c.limited_setpoint-sp.ensures (reading_small _ (setpoint_read p legal (setpoint_limited p legal _))),
+      rw (rw c.values-values.ensures.0 at c.limited_setpoint-sp.ensures) (reading_small _ (setpoint_read p legal (setpoint_limited p legal _))),
       rw c.trim_of-trim.ensures (reading_small _ (trim_reading p legal _ c.requires _ _)),
     )
 
@@ -64,7 +64,7 @@ parameters_are c =
       back w64 c.setpoint_after-sl.result c.setpoint_after-sl.type_inv,
       back w64 c.trim_of-trim.result c.trim_of-trim.type_inv,
     )
-    (simp (c.limited_setpoint-sp.ensures, back w64 c.setpoint_in-unlimited.result c.setpoint_in-unlimited.type_inv)
+    (simp (c.limited_setpoint-sp.ensures, c.values-values.ensures.0, back w64 c.setpoint_in-unlimited.result c.setpoint_in-unlimited.type_inv)
     (simp (
       c.setpoint_in-unlimited.ensures,
       back w64 c.trim_of-trim.result c.trim_of-trim.type_inv,
@@ -76,8 +76,8 @@ parameters_are c =
     (simp (c.setpoint_after-sl.ensures, back w64 c.process_variable-pv.result c.process_variable-pv.type_inv)
     (simp c.process_variable-pv.ensures))))))))
 
-pub of-requires : goal.of-requires
-of-requires c = rw (parameters_are c) (computed_legal c.args.p _ _ _ _ c.values-values.ensures.1)
+pub legal-requires : goal.legal-requires
+legal-requires c = rw (parameters_are c) (computed_legal c.args.p _ _ _ _ c.values-values.ensures.1)
 
 pub returns : goal.returns
 unfolding computed setpoint_of
@@ -88,9 +88,9 @@ returns c =
       back w64 c.limited_setpoint-sp.result c.limited_setpoint-sp.type_inv,
       back w64 c.process_variable-pv.result c.process_variable-pv.type_inv,
     )
-    (simp (c.of.ensures, parameters_are c.before)
+    (simp (c.legal.ensures, parameters_are c.before)
     (simp c.measured_power-mp.ensures
-    (simp (c.limited_setpoint-sp.ensures, back w64 c.setpoint_in-unlimited.result c.setpoint_in-unlimited.type_inv)
+    (simp (c.limited_setpoint-sp.ensures, c.values-values.ensures.0, back w64 c.setpoint_in-unlimited.result c.setpoint_in-unlimited.type_inv)
     (simp (
       c.setpoint_in-unlimited.ensures,
       back w64 c.trim_of-trim.result c.trim_of-trim.type_inv,

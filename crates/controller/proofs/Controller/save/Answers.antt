@@ -12,6 +12,6 @@ pub returns : goal.returns
 unfolding saved_image
 returns c = let e = c.save.ensures in (
   reply_by_lem c.save.result ∙ ap reply_by e.0,
-  e.1 ∙ ap (λ (s : Settings). saved_in (image_of s) c.args.buffer.now) c.settings.ensures,
+  e.1 ∙ ap (λ (s : Settings). saved_in (image_of s) c.args.buffer.now) c.settings.ensures.0,
   subst Valid c.self.view_is c.self.invariant,
 )

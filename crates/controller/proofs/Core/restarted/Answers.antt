@@ -7,7 +7,7 @@ use Rattle.integers.specs.Machine.{back}
 use Rattle.outputs.specs.Instruction.{stored_arithmetic, changed, limited_to, executed}
 use Rattle.outputs.specs.Outputs.{restart_instruction}
 use Rattle.controller.specs.Restart.{restart_accepted, controller_restarted}
-use Rattle.controller.specs.RestartLaws.{restarted_valid}
+use Rattle.controller.specs.RestartLaws.{taken_legal, restarted_valid}
 use Rattle.controller.specs.Scan.{controller_after}
 use Rattle.controller.proofs.Core.restarted.Goals.{After-output_restarted-output}
 use Rattle.controller.proofs.Core.restarted.Goals as goal
@@ -22,9 +22,13 @@ fields_are c output =
     (simp (c.start_core-core.ensures, c.output_restarted-output.ensures)
     (simp (c.restarted_request-request.ensures, c.is_sum_right-right.ensures)
     (simp (
+      c.legal-parameters.ensures,
       c.restored_settings-restored.ensures,
       c.switches_of-s.ensures,
     ))))
+
+pub legal-parameters-requires : goal.legal-parameters-requires
+legal-parameters-requires c = rw c.restored_settings-restored.ensures (taken_legal c.args.values c.requires)
 
 pub invariant_of-result : goal.invariant_of-result
 invariant_of-result c =

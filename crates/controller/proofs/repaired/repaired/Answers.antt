@@ -1,10 +1,7 @@
 -- `controller::repaired::repaired` meets its contract.
-use Rattle.parameters.specs.Repaired.{repaired, setpoint_and_ratio_limited, widest_output}
-use Rattle.parameters.specs.RepairedLaws.{repaired_legal}
+use Rattle.parameters.specs.Repaired.{widest_output, setpoint_and_ratio_limited, repaired}
 use Rattle.controller.proofs.repaired.repaired.Goals as goal
 
-pub of-requires : goal.of-requires
+pub returns : goal.returns
 unfolding repaired setpoint_and_ratio_limited widest_output
-of-requires c =
-    simp (c.limited_anew-limited.ensures, c.limited_anew.ensures, c.by_pairs.ensures, c.by_range.ensures)
-    (simp (c.with-widest.ensures, c.with.ensures) (repaired_legal c.args.p c.requires))
+returns c = cc

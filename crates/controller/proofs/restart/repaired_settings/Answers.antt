@@ -1,10 +1,6 @@
 -- `controller::restart::repaired_settings` meets its contract.
 use Rattle.controller.specs.Restart.{repaired_settings}
-use Rattle.controller.specs.RestartLaws.{in_unused}
 use Rattle.controller.proofs.restart.repaired_settings.Goals as goal
-
-pub repaired-parameters-requires : goal.repaired-parameters-requires
-repaired-parameters-requires c = rw c.parameters_in-decoded.ensures (in_unused c.args.values)
 
 pub returns : goal.returns
 unfolding repaired_settings

@@ -19,10 +19,10 @@ overflow_cast-value c =
     let p = c.args.self.parameters in
     let n = c.args.place + 1 in
     simp (back w64 c.get-value.result c.get-value.type_inv)
-    (rw c.get-value.ensures.0 (record { sfits = omega (arith, number (value p n), value_most p c.get-value.ensures.1 n (omega arith) (omega arith)) }))
+    (rw c.get-value.ensures (record { sfits = omega (arith, number (value p n), value_most p c.requires n (omega arith) (omega arith)) }))
 
 pub returns-in-0-to-22 : goal.returns-in-0-to-22
 unfolding value_at
 returns-in-0-to-22 c =
     c.cast_unsigned.ensures ∙ ap (of_z w16) (to_z-of_z (overflow_cast-value c.before)) ∙
-    simp (back w64 c.get-value.result c.get-value.type_inv) (simp (c.get-value.ensures.0, as_word_is, lt-ltb c.args.place 23 (omega arith)))
+    simp (back w64 c.get-value.result c.get-value.type_inv) (simp (c.get-value.ensures, as_word_is, lt-ltb c.args.place 23 (omega arith)))
