@@ -41,7 +41,7 @@ impl<const L: usize, const N: usize> LineSession<L, N> for Session {
         ensures { Performed self.old self.new line.now out.old out.new }
     {
         lines::room(writer, out);
-        let mut buffer = controller_calls::buffer();
+        let mut buffer = [0u8; controller_calls::BUFFER_LENGTH];
         let command = commands::parse(line, &mut buffer);
         let step = session::perform(*self, command, &mut buffer);
         *self = step.session;

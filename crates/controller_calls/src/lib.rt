@@ -1,7 +1,7 @@
 // What comes of a call of the controller that a line of the console makes: its next state, and the reply.
 #![tactic(auto)]
 
-ghost use Rattle.std.specs.Prelude.{◌≡◌, length, replicate};
+ghost use Rattle.std.specs.Prelude.{◌≡◌};
 ghost use Rattle.controller.specs.Answers.{reply_of, reply_of_verdict, reply_of_read};
 ghost use Rattle.controller.specs.Read.{read};
 ghost use Rattle.controller.specs.Scan.{scan};
@@ -19,12 +19,9 @@ mod filled;
 mod image;
 mod terminal_line;
 
-// A buffer for the bytes of a restart, as many as a line has room for, or of a terminal's line, and to write into.
-pub fn buffer() -> [u8; 346]
-    ensures { (result ≡ replicate 346 0) × (346 ≡ length result) }
-{
-    [0; 346]
-}
+// How long a buffer is for the bytes of a restart, as many as a line has room for, or of a terminal's line, and to write
+// into.
+pub const BUFFER_LENGTH: usize = 346;
 
 // The controller after a call, and the reply to it.
 #[derive(Clone, Copy)]

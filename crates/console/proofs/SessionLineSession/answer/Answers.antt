@@ -13,12 +13,12 @@ returns g c =
     let session = c.args.self.now in
     let before = c.args.out.now in
     let step = line_step session line in
-    let parsed = rw c.buffer-buffer.ensures.0 at c.parse-command.ensures in
+    let parsed = c.parse-command.ensures in
     let result = rw (parsed.command, parsed.bytes_after) at c.perform-step.ensures in
     let reply = ap (λ (s : SessionStep). s.reply) result.step in
     let sheet = ap (λ (s : SessionStep). s.session.sheet.sheet) result.step in
     let short : length (line_saved session line) ≤ 346 =
-    rw (← result.buffer) (omega (arith, c.perform-step.auto.buffer, c.parse-command.auto.bytes, c.buffer-buffer.ensures.1)) in
+    rw (← result.buffer) (omega (arith, c.perform-step.auto.buffer, c.parse-command.auto.bytes)) in
     let o = rw (c.room.ensures, reply, sheet, result.buffer) at c.append_reply.ensures.0 in
     record {
       session = ap (λ (s : SessionStep). s.session) result.step;
