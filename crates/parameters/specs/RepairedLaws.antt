@@ -6,7 +6,7 @@ use borrow.Author.Tests.{ne_eqb}
 use Rattle.integers.specs.Choice.{by_cases, never, both}
 use Rattle.integers.specs.Listed.{listed, listed_length, listed_at}
 use Rattle.parameters.specs.Legal.{is_within, in_order, in_range, pair_in_order, keeps, are_legal, Legal}
-use Rattle.parameters.specs.LegalLaws.{defaults_legal, value_with, and_true, legal_by, anew_size, anew_other, anew_value, limited_row}
+use Rattle.parameters.specs.LegalLaws.{defaults_legal, and_true, legal_by, anew_size, anew_other, anew_value, limited_row}
 use Rattle.parameters.specs.PairLaws.{upper, lower, stands_in, row_of, same_row, tested_alike}
 use Rattle.parameters.specs.Range.{tested_in, every_of}
 use Rattle.parameters.specs.Repaired.{default, widest_output, ranged_value, by_range}

@@ -38,7 +38,8 @@ const USER_BITS_MOST: u16 = 7;
 // The place of the last parameter's field.
 const LAST_PARAMETER: usize = fields::OP - 1;
 
-// Parameters 1 to 23, legal or not, OP, request, memory fault, and user bits with MD bit 4: in the order of their fields.
+// Parameters 1 to 23, legal or not, OP, request, memory fault, and user bits with MD bit 4: in the order of their
+// fields.
 #[derive(Clone, Copy)]
 pub struct Settings {
     pub parameters: Values,

@@ -36,14 +36,16 @@ overflow_sub-er c =
     )
     (difference_fits c.process_variable-pv.result c.limited_setpoint-sp.result
     (rw c.process_variable-pv.ensures (reading_small _ (pv_reading p legal _ c.requires)))
-    (rw (rw c.values-values.ensures.0 at c.limited_setpoint-sp.ensures) (reading_small _ (setpoint_read p legal (setpoint_limited p legal _)))))
+    (rw (rw c.values-values.ensures.0 at c.limited_setpoint-sp.ensures)
+    (reading_small _ (setpoint_read p legal (setpoint_limited p legal _)))))
 
 pub following_setpoint-to-requires : goal.following_setpoint-to-requires
 following_setpoint-to-requires c =
     let p = c.args.p in
     let legal = c.values-values.ensures.1 in
     simp (back w64 c.limited_setpoint-sp.result c.limited_setpoint-sp.type_inv, back w64 c.trim_of-trim.result c.trim_of-trim.type_inv) (
-      rw (rw c.values-values.ensures.0 at c.limited_setpoint-sp.ensures) (reading_small _ (setpoint_read p legal (setpoint_limited p legal _))),
+      rw (rw c.values-values.ensures.0 at c.limited_setpoint-sp.ensures)
+          (reading_small _ (setpoint_read p legal (setpoint_limited p legal _))),
       rw c.trim_of-trim.ensures (reading_small _ (trim_reading p legal _ c.requires _ _)),
     )
 
@@ -64,7 +66,8 @@ parameters_are c =
       back w64 c.setpoint_after-sl.result c.setpoint_after-sl.type_inv,
       back w64 c.trim_of-trim.result c.trim_of-trim.type_inv,
     )
-    (simp (c.limited_setpoint-sp.ensures, c.values-values.ensures.0, back w64 c.setpoint_in-unlimited.result c.setpoint_in-unlimited.type_inv)
+    (simp (c.limited_setpoint-sp.ensures, c.values-values.ensures.0,
+      back w64 c.setpoint_in-unlimited.result c.setpoint_in-unlimited.type_inv)
     (simp (
       c.setpoint_in-unlimited.ensures,
       back w64 c.trim_of-trim.result c.trim_of-trim.type_inv,
@@ -90,7 +93,8 @@ returns c =
     )
     (simp (c.legal.ensures, parameters_are c.before)
     (simp c.measured_power-mp.ensures
-    (simp (c.limited_setpoint-sp.ensures, c.values-values.ensures.0, back w64 c.setpoint_in-unlimited.result c.setpoint_in-unlimited.type_inv)
+    (simp (c.limited_setpoint-sp.ensures, c.values-values.ensures.0,
+      back w64 c.setpoint_in-unlimited.result c.setpoint_in-unlimited.type_inv)
     (simp (
       c.setpoint_in-unlimited.ensures,
       back w64 c.trim_of-trim.result c.trim_of-trim.type_inv,

@@ -13,7 +13,8 @@ use Rattle.setpoints.proofs.low_alarm.Goals as goal
 pub overflow_sub-result : goal.overflow_sub-result
 overflow_sub-result c =
     simp (back w64 c.get-2.result c.get-2.type_inv)
-    (difference_fits (pos 0) c.get-2.result (record { small = omega arith }) (rw c.get-2.ensures.0 (deviation_small c.args.p c.get-2.ensures.1)))
+    (difference_fits (pos 0) c.get-2.result (record { small = omega arith })
+    (rw c.get-2.ensures.0 (deviation_small c.args.p c.get-2.ensures.1)))
 
 pub returns : goal.returns
 unfolding low_alarm

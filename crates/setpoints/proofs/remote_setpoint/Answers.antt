@@ -15,7 +15,8 @@ pub overflow_add-result : goal.overflow_add-result
 overflow_add-result c =
     let range = range1 c.args.p c.values.ensures.1 c.args.input.sample2 c.requires.0.second in
     simp (back w64 c.channel.result c.channel.type_inv, to_z-of_z c.ranges.trim)
-    (sum_fits c.channel.result c.args.trim (rw (c.channel.ensures, c.values.ensures.0) (reading_small _ (scaled_reading range))) c.requires.1)
+    (sum_fits c.channel.result c.args.trim
+    (rw (c.channel.ensures, c.values.ensures.0) (reading_small _ (scaled_reading range))) c.requires.1)
 
 pub returns : goal.returns
 unfolding remote_setpoint
