@@ -153,8 +153,8 @@ fn derivative(numbers: &[i64]) -> Option<i64>
     Some(terms::derivative(tuning, d))
 }
 
-// What answers a line of the arithmetic, by its first word and its arguments; `None` where it is no call, or an
-// argument lies outside its range.
+// What answers a line of the arithmetic, by its first word and its arguments, by tests one after another, as in
+// `commands::numbers::of_numbers`; `None` where it is no call, or an argument lies outside its range.
 #[tactic(auto, unfolding(crate::specs::Calculations::calculation_of), using(text::specs::Words::same_pointwise))]
 pub fn of_call(word: &[u8], numbers: &[i64]) -> Option<i64>
     ensures { result ≡ calculation_of word.now numbers.now }

@@ -14,7 +14,8 @@ pub extern "C" fn table_root(sample: u16) -> u16
     scaling::root(sample)
 }
 
-// Computed by halving. The contract is that of `table_root`, so both that are counted give the same.
+// Computed by halving, so the loop counts nothing. The contract is that of `table_root`, so both that are counted give
+// the same.
 #[unsafe(no_mangle)]
 pub extern "C" fn computed_root(sample: u16) -> u16
     requires { sample ≤ 10000 }

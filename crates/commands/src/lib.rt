@@ -60,7 +60,7 @@ pub enum Command {
 }
 
 // A command that brings no bytes, by its name and what stands behind the name. The contract rules out the command of
-// another name.
+// another name. Tests one after another, as in `numbers::of_numbers`.
 #[tactic(auto, unfolding(crate::specs::Commands::named_command), using(text::specs::Words::same_pointwise))]
 fn of_name(word: &[u8], call: &[u8], start: usize) -> Option<Command>
     requires { start ≤ length call.now }

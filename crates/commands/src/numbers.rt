@@ -17,7 +17,8 @@ pub fn alone(command: Command, numbers: &[i64]) -> Option<Command>
     }
 }
 
-// The number of a parameter, as a line has it: one below zero is no parameter's, and 0 stands for it.
+// The number of a parameter, as a line has it: one below zero is no parameter's, and 0 stands for it
+// (`parameter_number`), which the controller refuses with 4.
 pub fn number_in(value: i64) -> u64
     ensures { result ≡ parameter_number value }
 {
@@ -48,7 +49,7 @@ fn fresh(numbers: &[i64]) -> Option<Command>
     Some(Command::Call(Call::Fresh(sw as u16)))
 }
 
-// save LENGTH
+// save LENGTH. A function for this and `fresh` would take the range and a closure for the command, and be no shorter.
 #[tactic(auto, unfolding(crate::specs::Commands::save_command))]
 fn save(numbers: &[i64]) -> Option<Command>
     ensures { result ≡ save_command numbers.now }
@@ -60,7 +61,8 @@ fn save(numbers: &[i64]) -> Option<Command>
     Some(Command::Call(Call::Save(size as usize)))
 }
 
-// A command whose arguments are numbers. The contract rules out the command of another name.
+// A command whose arguments are numbers. The contract rules out the command of another name. Not a `match` on the word:
+// it was tried, and its arms give no facts of the bytes; a table of function pointers isn't taken by the gate.
 #[tactic(auto, unfolding(crate::specs::Commands::numbers_command), using(text::specs::Words::same_pointwise))]
 pub fn of_numbers(word: &[u8], numbers: &[i64]) -> Option<Command>
     ensures { result ≡ numbers_command word.now numbers.now }

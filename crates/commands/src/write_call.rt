@@ -43,8 +43,8 @@ pub fn write(line: &[u8], start: usize) -> Option<Command>
     write_of(writer, numbers.as_slice())
 }
 
-// access WRITER NUMBER. The contract rules out a question about nobody, about another writer than the line has, and
-// another number.
+// access WRITER NUMBER. What it shares with `write` are its first two lines; they give two values. The contract rules
+// out a question about nobody, about another writer than the line has, and another number.
 #[tactic(auto, unfolding(crate::specs::Commands::access_command))]
 pub fn access(line: &[u8], start: usize) -> Option<Command>
     requires { start ≤ length line.now }

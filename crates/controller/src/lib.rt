@@ -155,29 +155,30 @@ impl Core {
     fn mode(&self) -> Mode
         ensures { result ≡ mode_now self.now }
     {
-        let s = signals::switches_of(self.sw);
-        let conditions = self.conditions;
-        conditions.mode(s.ratio)
+        self.conditions.mode(signals::switches_of(self.sw).ratio)
     }
 
     fn md(&self) -> u16
         ensures { result ≡ md_now self.now }
     {
-        let conditions = self.conditions;
-        let userbits = self.userbits;
-        let indications = self.indications;
-        let mode = self.mode();
-        words::md(mode, conditions, userbits, indications)
+        words::md(
+            self.mode(),
+            self.conditions,
+            self.userbits,
+            self.indications,
+        )
     }
 
+    // `md` but for the function of `words`: one function of both would take that as a closure, and be no shorter.
     fn ds(&self) -> u16
         ensures { result ≡ ds_now self.now }
     {
-        let conditions = self.conditions;
-        let userbits = self.userbits;
-        let indications = self.indications;
-        let mode = self.mode();
-        words::ds(mode, conditions, userbits, indications)
+        words::ds(
+            self.mode(),
+            self.conditions,
+            self.userbits,
+            self.indications,
+        )
     }
 }
 
@@ -204,7 +205,6 @@ impl Controller {
     pub fn last_reading(self) -> Option<u64>
         ensures { result ≡ self.core.clock }
     {
-        let core = self.core;
-        core.clock
+        self.core.clock
     }
 }

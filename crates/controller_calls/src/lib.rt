@@ -1,7 +1,9 @@
 // What comes of a call of the controller that a line of the console makes: its next state, and the reply.
 #![tactic(auto)]
 
-ghost use Rattle.std.specs.Prelude.{◌≡◌};
+ghost use Rattle.std.specs.Prelude.{◌≡◌, MatchResult};
+ghost use Rattle.signals.specs.Refusals.{number_of};
+ghost use Rattle.replies.specs.declared.Reply.TheVariants.{Refused};
 ghost use Rattle.controller.specs.Answers.{reply_of, reply_of_verdict, reply_of_read};
 ghost use Rattle.controller.specs.Read.{read};
 ghost use Rattle.controller.specs.Scan.{scan};
@@ -30,34 +32,36 @@ pub struct Step {
     pub reply: Reply,
 }
 
+// The reply to what a call answers, a value or its refusal. The contract rules out another number of a refusal.
+fn reply<T: Copy, F: FnOnce(T) -> Reply>(answer: Result<T, Refusal>, accepted: F) -> Reply
+    requires { F.IsAlwaysCallable accepted }
+    ensures { MatchResult answer (λ value. F.post accepted value result) (λ refusal. result ≡ Refused (number_of refusal)) }
+{
+    match answer {
+        Ok(value) => accepted(value),
+        Err(refusal) => Reply::Refused(u8::from(refusal)),
+    }
+}
+
 // The contract rules out values that are exchanged, and another number of a refusal.
 fn reply_of(answer: Result<ScanValues, Refusal>) -> Reply
     ensures { result ≡ reply_to (reply_of answer) }
 {
-    match answer {
-        Ok(values) => Reply::Answer(values),
-        Err(refusal) => Reply::Refused(u8::from(refusal)),
-    }
+    reply(answer, |values| Reply::Answer(values))
 }
 
 // The contract rules out an acceptance that is answered as a refusal, and another number.
 fn reply_to_verdict(verdict: Result<(), Refusal>) -> Reply
     ensures { result ≡ reply_to (reply_of_verdict verdict) }
 {
-    match verdict {
-        Ok(()) => Reply::Accepted,
-        Err(refusal) => Reply::Refused(u8::from(refusal)),
-    }
+    reply(verdict, |_| Reply::Accepted)
 }
 
 // The contract rules out another value, and another number of a refusal.
 fn reply_to_read(answer: Result<i32, Refusal>) -> Reply
     ensures { result ≡ reply_to (reply_of_read answer) }
 {
-    match answer {
-        Ok(v) => Reply::Value(v),
-        Err(refusal) => Reply::Refused(u8::from(refusal)),
-    }
+    reply(answer, |value| Reply::Value(value))
 }
 
 // The contract rules out the reply of another call, and a controller that isn't the one which the scan returned.

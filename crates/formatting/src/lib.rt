@@ -8,7 +8,7 @@ ghost use Rattle.formatting.specs.Buffer.{buffer, append_all, filled, capacity, 
 
 use std::marker::Model;
 
-// Bytes, and how many of them are used.
+// Bytes, and how many of them are used: an array, since the library has no heap.
 #[derive(Drop)]
 pub struct Text<const N: usize> {
     bytes: [u8; N],
@@ -134,7 +134,8 @@ impl<const N: usize> Text<N> {
     }
 }
 
-// The first bytes of a slice, so many, or all where there are fewer. The contract rules out one byte more.
+// The first bytes of a slice, so many, or all where there are fewer: those of a reply in a buffer that a host lent. The
+// contract rules out one byte more.
 pub fn front(bytes: &[u8], count: usize) -> &[u8]
     ensures { result.now ≡ take count bytes.now }
 {

@@ -27,7 +27,8 @@ fn feed(bytes: &[u8]) -> Option<usize>
     bytes.iter().position(|byte| ends_line(*byte))
 }
 
-// Where reading stands: bytes `at` to `end` of the last read are unread, and `more` says whether the input goes on.
+// Where reading stands, in an array of its own, since the programs have no heap: bytes `at` to `end` of the last read
+// are unread, and `more` says whether the input goes on.
 #[derive(Drop)]
 pub struct Input<const N: usize> {
     bytes: [u8; N],

@@ -44,7 +44,8 @@ impl Rule {
         }
     }
 
-    // The refusal of a parameter that can't be written. The contract rules out one for any other row.
+    // The refusal of a parameter that can't be written: another case, and a case can't be an argument. The contract
+    // rules out one for any other row.
     pub fn read_only_verdict(self) -> Result<(), Refusal>
         ensures { number_in result ≡ read_only_refusal self }
     {
@@ -58,6 +59,7 @@ impl Rule {
     pub fn in_range(self, p: Values, v: i64) -> bool
         ensures { result ≡ in_range self (value p) v }
     {
+        // tried: one arm for these three binds numbers of several cases, which the kit's check doesn't take
         match self {
             Rule::Unknown(_) | Rule::ReadOnly(_) => true,
             Rule::Word(least, most) => is_within(least, most, v),

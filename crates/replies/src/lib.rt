@@ -31,6 +31,7 @@ pub enum Reply {
     InvalidSheet,
     // what the arithmetic gives
     Number(i64),
+    // by its number: what a line shows, and what `reply_to` gives (controller_calls/specs/Calls.antt)
     Refused(u8),
     // the line was no command
     Error,

@@ -49,6 +49,7 @@ pub struct Settings {
     pub userbits: UserBits,
 }
 
+// A `match` and not `as`: the image has these numbers, whatever the order of the cases.
 fn request_number(request: Request) -> u16
     ensures { result ≡ request_number request }
 {

@@ -69,7 +69,7 @@ impl Model for Sheet {
 #[derive(Clone, Copy)]
 pub struct Full;
 
-// What entering an answer returns.
+// What entering an answer returns: a full sheet comes back as it was, beside `Full` (`entered`).
 #[derive(Clone, Copy)]
 pub struct EnterResult {
     pub sheet: Sheet,

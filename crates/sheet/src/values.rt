@@ -1,4 +1,4 @@
-// What a sheet hands out. Each contract rules out that a value is another's.
+// What a sheet hands out, each by a function of its own. Each contract rules out that a value is another's.
 ghost use Rattle.std.specs.Prelude.{◌≡◌};
 ghost use Rattle.sheet.specs.Sheet.{scans_in};
 

@@ -13,7 +13,8 @@ mod command;
 mod mnemonic;
 mod reply;
 
-// The next controller; and how many bytes the reply has, at the front of the buffer, or why the line isn't taken.
+// Both in a struct, since a refused line returns the controller too (`outcome_of`). The next controller; and how many
+// bytes the reply has, at the front of the buffer, or why the line isn't taken.
 #[derive(Clone, Copy)]
 pub struct LineResult {
     pub controller: Controller,

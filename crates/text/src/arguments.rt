@@ -3,7 +3,7 @@ ghost use Rattle.std.specs.Prelude.{◌≡◌, ◌≤◌, IfSome, take};
 ghost use Rattle.std.specs.Prelude.{option_map};
 ghost use Rattle.text.specs.Arguments.{arguments_from, natural_in, integer_in};
 
-// At most six numbers.
+// At most six numbers, in an array: no heap.
 #[derive(Clone, Copy)]
 pub struct Arguments {
     pub values: [i64; 6],

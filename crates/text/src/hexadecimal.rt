@@ -2,7 +2,8 @@
 ghost use Rattle.std.specs.Prelude.{◌≡◌, true, ◌++◌, ◌*◌, ◌≤◌, ◌<◌, length, drop, ltb, MatchOption};
 ghost use Rattle.text.specs.Hexadecimal.{capital, hexadecimal_value, all_digits, is_dash, pair, pairs, bytes_of, count_in, bytes_in};
 
-// The capital of a small letter that is a digit; another byte as it is.
+// The capital of a small letter that is a digit; another byte as it is. Not `to_ascii_uppercase`: the definition
+// `capital` turns these six letters alone.
 #[tactic(auto, unfolding(crate::specs::Hexadecimal::capital))]
 fn capital(b: u8) -> u8
     ensures { result ≡ capital b }

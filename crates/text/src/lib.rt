@@ -7,7 +7,8 @@ ghost use Rattle.text.specs.Words.{fits_blank, leading, word_at, only_word, afte
 pub mod arguments;
 pub mod hexadecimal;
 
-// The bytes of a line from `from` up to `to`.
+// The bytes of a line from `from` up to `to`. No `Option`: an empty one stands where there is no word (`word_at`), and
+// a caller goes on behind it either way.
 #[derive(Clone, Copy)]
 pub struct Span {
     pub from: usize,

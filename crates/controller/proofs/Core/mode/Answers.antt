@@ -4,4 +4,4 @@ use Rattle.controller.proofs.Core.mode.Goals as goal
 
 pub returns : goal.returns
 unfolding mode_now
-returns c = simp (c.mode.ensures, c.switches_of-s.ensures)
+returns c = simp (c.mode.ensures, c.switches_of.ensures)
