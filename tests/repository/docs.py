@@ -18,7 +18,7 @@ import sys
 from tests import ROOT
 from tests.gate import tally
 
-OF_THEN = re.compile(r"PORT(-NAMES)?\.md")  # what the port changed: names as they were, beside those of today
+OF_THEN = re.compile(r"(PORT(-NAMES)?|DESIGN-PASS)\.md")  # what was changed: names as they were, beside those of today
 DOCUMENTS = ("README.md", *(f"docs/{path.name}" for path in sorted((ROOT / "docs").glob("*.md")) if not OF_THEN.fullmatch(path.name)))
 TEXTS = ("crates/**/*.rt", "crates/**/*.antt", "crates/*/std*", "crates/*/must-fail/*", "tests/**/*.py", "demo/*", "crates.txt",
          "Makefile")
