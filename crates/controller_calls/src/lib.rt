@@ -19,8 +19,8 @@ mod filled;
 mod image;
 mod terminal_line;
 
-// How long a buffer is for the bytes of a restart, as many as a line has room for, or of a terminal's line, and to write
-// into.
+// How long a buffer is for the bytes of a restart, as many as a line has room for, or of a terminal's line, and to
+// write into.
 pub const BUFFER_LENGTH: usize = 346;
 
 // The controller after a call, and the reply to it.

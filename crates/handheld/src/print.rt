@@ -63,7 +63,11 @@ fn append_text<const N: usize>(out: &mut Text<N>, answer: Result<usize, Refusal>
 // answer, and one with no end.
 #[tactic(auto, using(formatting::specs::Laws::append_append),
     unfolding(formatting::specs::Buffer::append_all, crate::specs::Answers::answer_line))]
-pub fn append_answer<const N: usize>(out: &mut Text<N>, answer: Result<usize, Refusal>, reply: &[u8])
+pub fn append_answer<const N: usize>(
+    out: &mut Text<N>,
+    answer: Result<usize, Refusal>,
+    reply: &[u8],
+)
     ensures { out.new ≡ append_all out.old (answer_line (reply_of_line answer) reply.now) }
 {
     append_text(out, answer, reply);
