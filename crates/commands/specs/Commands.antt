@@ -196,7 +196,7 @@ command_of call size =
     named_command word call w.to
 
 -- and the buffer afterwards
-unfoldable pub command_bytes : List ℕ → List ℕ → List ℕ
+abbrev pub command_bytes : List ℕ → List ℕ → List ℕ
 command_bytes call bytes =
     let w = word_at call 0 in
     let word = part call w.from w.to in
@@ -204,9 +204,9 @@ command_bytes call bytes =
     if same_bytes word (ascii "line") then bytes_in (terminal_bytes call w.to) bytes else bytes
 
 -- a line that fills its whole buffer is too long
-unfoldable pub command_in : Buffer → ℕ → answer.Option Command
+abbrev pub command_in : Buffer → ℕ → answer.Option Command
 command_in line size = if leb (capacity line) (filled line) then None else command_of (written line) size
 
 -- and the buffer of its bytes afterwards
-unfoldable pub bytes_after : Buffer → List ℕ → List ℕ
+abbrev pub bytes_after : Buffer → List ℕ → List ℕ
 bytes_after line bytes = if leb (capacity line) (filled line) then bytes else command_bytes (written line) bytes

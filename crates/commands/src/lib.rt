@@ -98,8 +98,7 @@ fn restart(line: &[u8], start: usize, bytes: &mut [u8]) -> Option<Command>
 // What a line asks, with a buffer for the bytes of a restart or of a terminal's line; `None` where it is no command. A
 // line that fills its text is too long. The contract gives the command and every byte of the buffer, so it
 // rules out a command that is taken for another or for none.
-#[tactic(auto, unfolding(crate::specs::Commands::command_in, crate::specs::Commands::bytes_after,
-    crate::specs::Commands::command_of, crate::specs::Commands::command_bytes), using(text::specs::Words::same_pointwise))]
+#[tactic(auto, unfolding(crate::specs::Commands::command_of), using(text::specs::Words::same_pointwise))]
 pub fn parse<const N: usize>(line: &Text<N>, bytes: &mut [u8]) -> Option<Command>
     ensures command { result ≡ command_in line.now (length bytes.old) }
     ensures bytes_after { bytes.new ≡ bytes_after line.now bytes.old }

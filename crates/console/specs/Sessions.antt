@@ -22,7 +22,7 @@ abbrev pub staying : Session → Reply → SessionStep
 staying s reply = record { session = s; reply = reply }
 
 -- after a call of the controller: the sheet stays
-unfoldable pub after_call : Session → Step → SessionStep
+abbrev pub after_call : Session → Step → SessionStep
 after_call s step =
     record {
       session = record { controller = step.controller; sheet = after_reply s.sheet step.reply };
@@ -43,7 +43,7 @@ session_step s (Some (command.Calculated number)) bytes = staying s (Number numb
 session_step s None bytes = staying s Error
 
 -- the buffer afterwards
-unfoldable pub session_buffer : Session → Option Command → List ℕ → List ℕ
+abbrev pub session_buffer : Session → Option Command → List ℕ → List ℕ
 session_buffer s (Some (command.Call call)) bytes = buffer_after s.controller call bytes
 session_buffer s (Some (command.Sheet call)) bytes = bytes
 session_buffer s (Some (command.Calculated number)) bytes = bytes

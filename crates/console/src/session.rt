@@ -37,7 +37,6 @@ pub fn first() -> Session
 
 // After a call of the controller. The contract rules out a controller other than the call's, and that the sheet
 // changes.
-#[tactic(auto, unfolding(crate::specs::Sessions::after_call))]
 fn after_call(session: Session, step: Step) -> SessionStep
     ensures { result ≡ after_call session step }
 {
@@ -67,8 +66,7 @@ fn perform_sheet_call(session: Session, call: SheetCall) -> SessionStep
 // Performs a command, with the buffer that holds a restart's bytes and takes a saved image. The contract gives the next
 // session, the reply and every byte of the buffer, so it rules out a command that is taken for another, and a session
 // that isn't handed on; that the next command can take it is in the types of its controller and its sheet.
-#[tactic(auto, unfolding(crate::specs::Sessions::session_step, crate::specs::Sessions::session_buffer,
-    crate::specs::Sessions::after_call, sheet_session::specs::SheetSessions::after_reply))]
+#[tactic(auto, unfolding(crate::specs::Sessions::session_step, sheet_session::specs::SheetSessions::after_reply))]
 pub fn perform(session: Session, command: Option<Command>, buffer: &mut [u8]) -> SessionStep
     ensures step { result ≡ session_step session command buffer.old }
     ensures buffer { buffer.new ≡ session_buffer session command buffer.old }

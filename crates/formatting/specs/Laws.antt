@@ -11,6 +11,10 @@ unfolding append_all
 append_append o [] ys = refl
 append_append o (x ∷ xs) ys = append_append (append o x) xs ys
 
+-- the same by a name so short that an attribute with it fits a line
+pub seam : (o : Buffer) (xs ys : List ℕ) → append_all o (xs ++ ys) ≡ append_all (append_all o xs) ys
+seam = append_append
+
 -- a call behind others
 pub then : (o : Buffer) {p q : Buffer} (xs ys : List ℕ) → p ≡ append_all o xs → q ≡ append_all p ys → q ≡ append_all o (xs ++ ys)
 then o xs ys e f = f ∙ ap (λ (b : Buffer). append_all b ys) e ∙ sym (append_append o xs ys)

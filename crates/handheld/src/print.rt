@@ -37,8 +37,7 @@ fn name(refusal: Refusal) -> &'static [u8]
 }
 
 // ? and the refusal's number and name. The contract rules out the number of another refusal.
-#[tactic(auto, using(formatting::specs::Laws::append_append),
-    unfolding(formatting::specs::Buffer::append_all, crate::specs::Answers::refusal_text))]
+#[tactic(auto, using(formatting::specs::Laws::seam), unfolding(formatting::specs::Buffer::append_all, crate::specs::Answers::refusal_text))]
 fn append_refusal<const N: usize>(out: &mut Text<N>, refusal: Refusal)
     ensures { out.new ≡ append_all out.old (refusal_text (number_of refusal)) }
 {
@@ -48,8 +47,7 @@ fn append_refusal<const N: usize>(out: &mut Text<N>, refusal: Refusal)
     out.push_all(name(refusal));
 }
 
-#[tactic(auto, using(formatting::specs::Laws::append_append),
-    unfolding(formatting::specs::Buffer::append_all, crate::specs::Answers::answer_text))]
+#[tactic(auto, using(formatting::specs::Laws::seam), unfolding(formatting::specs::Buffer::append_all, crate::specs::Answers::answer_text))]
 fn append_text<const N: usize>(out: &mut Text<N>, answer: Result<usize, Refusal>, reply: &[u8])
     ensures { out.new ≡ append_all out.old (answer_text (reply_of_line answer) reply.now) }
 {
@@ -61,9 +59,12 @@ fn append_text<const N: usize>(out: &mut Text<N>, answer: Result<usize, Refusal>
 
 // The line of an answer; `reply` is the buffer that the terminal wrote into. The contract rules out the line of another
 // answer, and one with no end.
-#[tactic(auto, using(formatting::specs::Laws::append_append),
-    unfolding(formatting::specs::Buffer::append_all, crate::specs::Answers::answer_line))]
-pub fn append_answer<const N: usize>(out: &mut Text<N>, answer: Result<usize, Refusal>, reply: &[u8])
+#[tactic(auto, using(formatting::specs::Laws::seam), unfolding(formatting::specs::Buffer::append_all, crate::specs::Answers::answer_line))]
+pub fn append_answer<const N: usize>(
+    out: &mut Text<N>,
+    answer: Result<usize, Refusal>,
+    reply: &[u8],
+)
     ensures { out.new ≡ append_all out.old (answer_line (reply_of_line answer) reply.now) }
 {
     append_text(out, answer, reply);

@@ -101,4 +101,3 @@ rest_whole [] e = refl
 rest_whole (x ∷ xs) e =
     let n = no_feed x xs (eqb x 10) refl e in
     simp n.0 (rest_whole xs n.1)
-

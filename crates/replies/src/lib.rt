@@ -38,8 +38,7 @@ pub enum Reply {
 }
 
 // A blank and a number.
-#[tactic(auto, using(formatting::specs::Laws::append_append),
-    unfolding(formatting::specs::Buffer::append_all, crate::specs::Replies::spaced))]
+#[tactic(auto, using(formatting::specs::Laws::seam), unfolding(formatting::specs::Buffer::append_all, crate::specs::Replies::spaced))]
 fn append_spaced<const N: usize>(out: &mut Text<N>, number: u64)
     ensures { out.new ≡ append_all out.old (spaced number) }
 {
@@ -48,8 +47,7 @@ fn append_spaced<const N: usize>(out: &mut Text<N>, number: u64)
 }
 
 // The words of an answer. The contract rules out two that are exchanged.
-#[tactic(auto, using(formatting::specs::Laws::append_append),
-    unfolding(formatting::specs::Buffer::append_all, crate::specs::Replies::words_text))]
+#[tactic(auto, using(formatting::specs::Laws::seam), unfolding(formatting::specs::Buffer::append_all, crate::specs::Replies::words_text))]
 fn append_words<const N: usize>(out: &mut Text<N>, values: ScanValues)
     ensures { (out.new ≡ append_all out.old (words_text values)) × WordsRange values }
 {
@@ -61,8 +59,7 @@ fn append_words<const N: usize>(out: &mut Text<N>, values: ScanValues)
 }
 
 // What an accepted scan answers. The contract rules out another mode's word, and a sign of PV that is lost.
-#[tactic(auto, using(formatting::specs::Laws::append_append),
-    unfolding(formatting::specs::Buffer::append_all, crate::specs::Replies::answer_text))]
+#[tactic(auto, using(formatting::specs::Laws::seam), unfolding(formatting::specs::Buffer::append_all, crate::specs::Replies::answer_text))]
 fn append_answer<const N: usize>(out: &mut Text<N>, values: ScanValues)
     ensures { (out.new ≡ append_all out.old (answer_text values)) × AnswerRange values }
 {
@@ -74,8 +71,7 @@ fn append_answer<const N: usize>(out: &mut Text<N>, values: ScanValues)
 }
 
 // A refusal and its number.
-#[tactic(auto, using(formatting::specs::Laws::append_append),
-    unfolding(formatting::specs::Buffer::append_all, crate::specs::Replies::refused_text))]
+#[tactic(auto, using(formatting::specs::Laws::seam), unfolding(formatting::specs::Buffer::append_all, crate::specs::Replies::refused_text))]
 fn append_refused<const N: usize>(out: &mut Text<N>, number: u8)
     ensures { out.new ≡ append_all out.old (refused_text number) }
 {
@@ -84,8 +80,7 @@ fn append_refused<const N: usize>(out: &mut Text<N>, number: u8)
 }
 
 // A parameter's value. The contract rules out a sign that is lost.
-#[tactic(auto, using(formatting::specs::Laws::append_append),
-    unfolding(formatting::specs::Buffer::append_all, crate::specs::Replies::value_text))]
+#[tactic(auto, using(formatting::specs::Laws::seam), unfolding(formatting::specs::Buffer::append_all, crate::specs::Replies::value_text))]
 fn append_value<const N: usize>(out: &mut Text<N>, v: i32)
     ensures { out.new ≡ append_all out.old (value_text v) }
 {
@@ -94,8 +89,7 @@ fn append_value<const N: usize>(out: &mut Text<N>, v: i32)
 }
 
 // A reading of the clock. The contract rules out a number where there is no reading.
-#[tactic(auto, using(formatting::specs::Laws::append_append),
-    unfolding(formatting::specs::Buffer::append_all, crate::specs::Replies::clock_text))]
+#[tactic(auto, using(formatting::specs::Laws::seam), unfolding(formatting::specs::Buffer::append_all, crate::specs::Replies::clock_text))]
 fn append_clock<const N: usize>(out: &mut Text<N>, reading: Option<u64>)
     ensures { (out.new ≡ append_all out.old (clock_text reading)) × ReadingRange reading }
 {
@@ -109,8 +103,7 @@ fn append_clock<const N: usize>(out: &mut Text<N>, reading: Option<u64>)
 }
 
 // The image that was saved: the first 137 bytes.
-#[tactic(auto, using(formatting::specs::Laws::append_append),
-    unfolding(formatting::specs::Buffer::append_all, crate::specs::Replies::image_text))]
+#[tactic(auto, using(formatting::specs::Laws::seam), unfolding(formatting::specs::Buffer::append_all, crate::specs::Replies::image_text))]
 fn append_image<const N: usize>(out: &mut Text<N>, saved: &[u8])
     ensures { out.new ≡ append_all out.old (image_text saved.now) }
 {
@@ -119,8 +112,7 @@ fn append_image<const N: usize>(out: &mut Text<N>, saved: &[u8])
 }
 
 // The terminal's reply: its length and its bytes. The contract rules out a length that isn't that of the bytes.
-#[tactic(auto, using(formatting::specs::Laws::append_append),
-    unfolding(formatting::specs::Buffer::append_all, crate::specs::Replies::line_text))]
+#[tactic(auto, using(formatting::specs::Laws::seam), unfolding(formatting::specs::Buffer::append_all, crate::specs::Replies::line_text))]
 fn append_line<const N: usize>(out: &mut Text<N>, count: usize, saved: &[u8])
     ensures { out.new ≡ append_all out.old (line_text count saved.now) }
 {
@@ -132,8 +124,7 @@ fn append_line<const N: usize>(out: &mut Text<N>, count: usize, saved: &[u8])
 
 // What a reply's line has before its end. The contract also says that the reply's numbers are such as its types hold,
 // so that a caller knows how long the line is.
-#[tactic(auto, using(formatting::specs::Laws::append_append),
-    unfolding(formatting::specs::Buffer::append_all, crate::specs::Replies::reply_text))]
+#[tactic(auto, using(formatting::specs::Laws::seam), unfolding(formatting::specs::Buffer::append_all, crate::specs::Replies::reply_text))]
 fn append_text<const N: usize>(out: &mut Text<N>, reply: Reply, saved: &[u8], sheet: Sheet)
     ensures { (out.new ≡ append_all out.old (reply_text reply saved.now sheet)) × InRange reply sheet }
 {
@@ -155,8 +146,7 @@ fn append_text<const N: usize>(out: &mut Text<N>, reply: Reply, saved: &[u8], sh
 
 // The line of a reply; `saved` is the buffer that a save or the terminal wrote into. The contract rules out the line of
 // another reply, and one with no end.
-#[tactic(auto, using(formatting::specs::Laws::append_append),
-    unfolding(formatting::specs::Buffer::append_all, crate::specs::Replies::reply_line))]
+#[tactic(auto, using(formatting::specs::Laws::seam), unfolding(formatting::specs::Buffer::append_all, crate::specs::Replies::reply_line))]
 pub fn append_reply<const N: usize>(out: &mut Text<N>, reply: Reply, saved: &[u8], sheet: Sheet)
     ensures { (out.new ≡ append_all out.old (reply_line reply saved.now sheet)) × InRange reply sheet }
 {
