@@ -60,10 +60,11 @@ const MINUTES_NUMERATOR: u64 = 3;
 const MINUTES_DENOMINATOR: u64 = 500;
 
 // The stored term of the fraction numerator / denominator, or of its negative. The fraction is limited
-// by its whole part first, since 65,536 times an unlimited numerator need not fit 64 bits.
+// by its whole part first, since 65,536 times an unlimited numerator need not fit 64 bits. Stored, it is at most 10,000
+// units, so that three of them may be added to an output in 64 bits.
 fn stored_term(minus: bool, numerator: u64, denominator: u64) -> i64
     requires { Storable numerator denominator }
-    ensures { result ≡ stored_term (over (from_sign minus numerator) denominator) }
+    ensures { (result ≡ stored_term (over (from_sign minus numerator) denominator)) × (nat_abs result ≤ 655360000) }
 {
     if TERM_MOST <= numerator / denominator {
         return integers::signed(minus, STORED_MOST);
@@ -101,7 +102,7 @@ fn turn(keep: bool, minus: bool) -> bool
 // -39996..39996. The contract rules out a term of the wrong sign, one that is cut, and one whose limit is off.
 pub fn proportional(t: Tuning, change: i64) -> i64
     requires { nat_abs change ≤ 39996 }
-    ensures { result ≡ stored_term (proportional_term t change) }
+    ensures { (result ≡ stored_term (proportional_term t change)) × (nat_abs result ≤ 655360000) }
 {
     let numerator = GAIN * change.unsigned_abs();
     stored_term(change < 0, numerator, band(t))
@@ -111,7 +112,7 @@ pub fn proportional(t: Tuning, change: i64) -> i64
 // The contract rules out seconds for minutes, a division by TI 0, and what that of `proportional` does.
 pub fn integral(t: Tuning, c: i64) -> i64
     requires { nat_abs c ≤ 19998 }
-    ensures { result ≡ stored_term (integral_term t c) }
+    ensures { (result ≡ stored_term (integral_term t c)) × (nat_abs result ≤ 655360000) }
 {
     if t.ti == 0 {
         return 0;
@@ -127,7 +128,7 @@ pub fn integral(t: Tuning, c: i64) -> i64
 // for minutes, and what that of `proportional` does.
 pub fn derivative(t: Tuning, d: i64) -> i64
     requires { nat_abs d ≤ 39996 }
-    ensures { result ≡ stored_term (derivative_term t d) }
+    ensures { (result ≡ stored_term (derivative_term t d)) × (nat_abs result ≤ 655360000) }
 {
     let (part, whole) = scan_fraction(t);
     let numerator = GAIN * d.unsigned_abs() * whole * t.td;

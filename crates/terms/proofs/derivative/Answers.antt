@@ -10,7 +10,8 @@ use Rattle.terms.proofs.derivative.Goals as goal
 
 pub returns : goal.returns
 returns c =
-    back w64 _ c.stored_term.type_inv ∙ c.stored_term.ensures ∙
+    let read = back w64 _ c.stored_term.type_inv in
+    (read ∙ c.stored_term.ensures.0 ∙
     simp (
       c.turn-minus.ensures,
       c.band.ensures,
@@ -20,4 +21,4 @@ returns c =
       ap (λ (t : Tuning). t.td) c.t.view_is,
       ap (λ (t : Tuning). t.inverted) c.t-2.view_is,
     )
-    (ap stored_term (derivative_parts c.args.t c.args.d))
+    (ap stored_term (derivative_parts c.args.t c.args.d)), rw read c.stored_term.ensures.1)
