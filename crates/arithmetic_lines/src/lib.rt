@@ -3,7 +3,6 @@
 #![tactic(auto)]
 
 ghost use Rattle.std.specs.Prelude.{◌≡◌, ◌≤◌, nat_abs, IfSome};
-ghost use Rattle.terms.specs.Terms.{TuningRange};
 ghost use Rattle.arithmetic_lines.specs.Calculations.{signed_in, scale_calculation, root_calculation, limit_calculation};
 ghost use Rattle.arithmetic_lines.specs.Calculations.{ratio_calculation, tuning_in, proportional_calculation};
 ghost use Rattle.arithmetic_lines.specs.Calculations.{integral_calculation, derivative_calculation, calculation_of};
@@ -94,8 +93,7 @@ fn ratio(numbers: &[i64], inverse: bool) -> Option<i64>
 #[tactic(auto, unfolding(crate::specs::Calculations::tuning_in))]
 fn tuning_in(xp: i64, span: i64, ti: u64, td: u64, minutes: bool, inverted: bool) -> Option<Tuning>
     requires { (ti ≤ 9999) × (td ≤ 9999) }
-    ensures value { result ≡ tuning_in xp span ti td minutes inverted }
-    ensures range { IfSome result (λ t. TuningRange t) }
+    ensures { result ≡ tuning_in xp span ti td minutes inverted }
 {
     let xp = natural_in(xp, 1, 9999)?;
     let span = natural_in(span, 1, 19998)?;

@@ -4,6 +4,7 @@ use Rattle.std.specs.Prelude.{◌≡◌, Bool, not, ◌&&◌, ℕ, ◌+◌, ◌�
 use Rattle.std.proofs.Math.Path.{refl}
 use Rattle.std.proofs.Math.Bool.{true, false}
 use Rattle.std.proofs.Common.{arith, to_z, of_z}
+use Rattle.std.proofs.Props.{props}
 use Rattle.std.specs.Int.{w64}
 use Rattle.integers.specs.Choice.{by_cases}
 use Rattle.integers.specs.Limit.{limited_low, limited_high}
@@ -42,6 +43,12 @@ abbrev pub HistoryRange : History → Type 0
 HistoryRange Nothing = Unit
 HistoryRange (One pv sp) = InReadingRange pv × InReadingRange sp
 HistoryRange (Two pv sp before) = InReadingRange pv × InReadingRange sp × InReadingRange before
+
+-- two proofs of that are one, so a struct may hold it
+pub HistoryRange-prop : (h : History) → IsProp (HistoryRange h)
+HistoryRange-prop Nothing = Prim.hlevel props
+HistoryRange-prop (One pv sp) = Prim.hlevel props
+HistoryRange-prop (Two pv sp before) = Prim.hlevel props
 
 pub record PastRange (past : Past) : Type 0 where
   pub pv_read : InReadingRange past.pv
@@ -173,7 +180,7 @@ restarted_most p s tominimum op legal h =
 
 -- ---- sums and differences of bounded numbers
 
-sized : (z : ℤ) {m : ℕ} → nat_abs z ≤ m → Size z m
+pub sized : (z : ℤ) {m : ℕ} → nat_abs z ≤ m → Size z m
 sized z h = omega (arith, number z, h)
 
 pub small_of : {z : ℤ} {m : ℕ} → Size z m → m ≤ 1000000000000 → Small z

@@ -1,3 +1,4 @@
+pub mod Contents
 pub mod Fraction
 pub mod Near
 pub mod NearLaws

@@ -5,8 +5,10 @@
 ghost use Rattle.std.specs.Prelude.{◌≡◌, ◌≤◌, ◌*◌, nat_abs};
 ghost use Rattle.integers.specs.Sign.{from_sign};
 ghost use Rattle.terms.specs.Terms.{stored_term, proportional_term, integral_term, derivative_term};
-ghost use Rattle.terms.specs.Terms.{scan_numerator, scan_denominator, TuningRange};
+ghost use Rattle.terms.specs.Terms.{scan_numerator, scan_denominator};
 ghost use Rattle.terms.specs.TermLaws.{over, turned, Storable};
+
+use std::marker::Model;
 
 // What the terms are computed with: XP; W = 1H - 1L, which is above zero; TI; TD; S2.8 ON, minutes;
 // S2.4 ON, inverse output.
@@ -18,6 +20,23 @@ pub struct Tuning {
     pub td: u64,
     pub minutes: bool,
     pub inverted: bool,
+}
+
+// A contract sees the fields. XP, W, TI and TD always lie in their ranges.
+impl Model for Tuning {
+    ghost use Rattle.terms.specs.Contents.{Contents};
+
+    ghost Value = { Contents };
+
+    ghost use Rattle.terms.specs.Terms.{TuningRange};
+
+    ghost view = { λ t. record { xp = t.xp; span = t.span; ti = t.ti; td = t.td; minutes = t.minutes; inverted = t.inverted } };
+
+    ghost invariant = {
+        λ t. TuningRange (record { xp = t.xp; span = t.span; ti = t.ti; td = t.td; minutes = t.minutes; inverted = t.inverted })
+    };
+
+    ghost inverse = { λ t. record { xp = t.xp; span = t.span; ti = t.ti; td = t.td; minutes = t.minutes; inverted = t.inverted } };
 }
 
 // One unit of output, 0.01 percent, stored: a whole number of 1/65,536 units.
@@ -41,10 +60,11 @@ const MINUTES_NUMERATOR: u64 = 3;
 const MINUTES_DENOMINATOR: u64 = 500;
 
 // The stored term of the fraction numerator / denominator, or of its negative. The fraction is limited
-// by its whole part first, since 65,536 times an unlimited numerator need not fit 64 bits.
+// by its whole part first, since 65,536 times an unlimited numerator need not fit 64 bits. Stored, it is at most 10,000
+// units, so that three of them may be added to an output in 64 bits.
 fn stored_term(minus: bool, numerator: u64, denominator: u64) -> i64
     requires { Storable numerator denominator }
-    ensures { result ≡ stored_term (over (from_sign minus numerator) denominator) }
+    ensures { (result ≡ stored_term (over (from_sign minus numerator) denominator)) × (nat_abs result ≤ 655360000) }
 {
     if TERM_MOST <= numerator / denominator {
         return integers::signed(minus, STORED_MOST);
@@ -55,31 +75,19 @@ fn stored_term(minus: bool, numerator: u64, denominator: u64) -> i64
 
 // XP × W
 fn band(t: Tuning) -> u64
-    requires { TuningRange t }
     ensures { result ≡ t.xp * t.span }
 {
     t.xp * t.span
 }
 
-// 9, or 3 with S2.8 ON: the numerator of one scan in the unit of TI and TD.
-fn scan_numerator(t: Tuning) -> u64
-    ensures { result ≡ scan_numerator t }
+// One scan in the unit of TI and TD, a numerator and a denominator: 9 and 25, or 3 and 500 with S2.8 ON.
+fn scan_fraction(t: Tuning) -> (u64, u64)
+    ensures { result ≡ (scan_numerator t, scan_denominator t) }
 {
     if t.minutes {
-        MINUTES_NUMERATOR
+        (MINUTES_NUMERATOR, MINUTES_DENOMINATOR)
     } else {
-        SECONDS_NUMERATOR
-    }
-}
-
-// 25, or 500 with S2.8 ON: its denominator.
-fn scan_denominator(t: Tuning) -> u64
-    ensures { result ≡ scan_denominator t }
-{
-    if t.minutes {
-        MINUTES_DENOMINATOR
-    } else {
-        SECONDS_DENOMINATOR
+        (SECONDS_NUMERATOR, SECONDS_DENOMINATOR)
     }
 }
 
@@ -93,8 +101,8 @@ fn turn(keep: bool, minus: bool) -> bool
 // The proportional term of a change c - c1. PV and SP lie in -9999..9999, so c in -19998..19998 and the change in
 // -39996..39996. The contract rules out a term of the wrong sign, one that is cut, and one whose limit is off.
 pub fn proportional(t: Tuning, change: i64) -> i64
-    requires { TuningRange t × (nat_abs change ≤ 39996) }
-    ensures { result ≡ stored_term (proportional_term t change) }
+    requires { nat_abs change ≤ 39996 }
+    ensures { (result ≡ stored_term (proportional_term t change)) × (nat_abs result ≤ 655360000) }
 {
     let numerator = GAIN * change.unsigned_abs();
     stored_term(change < 0, numerator, band(t))
@@ -103,14 +111,15 @@ pub fn proportional(t: Tuning, change: i64) -> i64
 // The integral term of c, which is SP - PV, or PV - SP with S2.4 ON. With S2.4 OFF that is the other way round than ER.
 // The contract rules out seconds for minutes, a division by TI 0, and what that of `proportional` does.
 pub fn integral(t: Tuning, c: i64) -> i64
-    requires { TuningRange t × (nat_abs c ≤ 19998) }
-    ensures { result ≡ stored_term (integral_term t c) }
+    requires { nat_abs c ≤ 19998 }
+    ensures { (result ≡ stored_term (integral_term t c)) × (nat_abs result ≤ 655360000) }
 {
     if t.ti == 0 {
         return 0;
     }
-    let numerator = GAIN * c.unsigned_abs() * scan_numerator(t);
-    let denominator = band(t) * scan_denominator(t) * t.ti;
+    let (part, whole) = scan_fraction(t);
+    let numerator = GAIN * c.unsigned_abs() * part;
+    let denominator = band(t) * whole * t.ti;
     stored_term(c < 0, numerator, denominator)
 }
 
@@ -118,11 +127,12 @@ pub fn integral(t: Tuning, c: i64) -> i64
 // -39996..39996. Its sign is turned unless S2.4 is ON. The contract rules out that sign kept, seconds
 // for minutes, and what that of `proportional` does.
 pub fn derivative(t: Tuning, d: i64) -> i64
-    requires { TuningRange t × (nat_abs d ≤ 39996) }
-    ensures { result ≡ stored_term (derivative_term t d) }
+    requires { nat_abs d ≤ 39996 }
+    ensures { (result ≡ stored_term (derivative_term t d)) × (nat_abs result ≤ 655360000) }
 {
-    let numerator = GAIN * d.unsigned_abs() * scan_denominator(t) * t.td;
-    let denominator = scan_numerator(t) * band(t);
+    let (part, whole) = scan_fraction(t);
+    let numerator = GAIN * d.unsigned_abs() * whole * t.td;
+    let denominator = part * band(t);
     let minus = turn(t.inverted, d < 0);
     stored_term(minus, numerator, denominator)
 }

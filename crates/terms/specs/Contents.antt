@@ -1,0 +1,10 @@
+-- What a contract sees of a tuning.
+use Rattle.std.specs.Prelude.{Bool, ℕ}
+
+pub record Contents : Type 0 where
+  pub xp : ℕ
+  pub span : ℕ
+  pub ti : ℕ
+  pub td : ℕ
+  pub minutes : Bool
+  pub inverted : Bool
