@@ -1,18 +1,18 @@
 // One scan: document 01's steps, each a function, and what it answers. What a gap forgets is forgotten before them all.
 // Steps 2 and 3 come first, as the mode decides the others; step 6 comes last, as it needs what step 5 gives.
 ghost use Rattle.std.specs.Prelude.{◌≡◌, Ok};
-ghost use Rattle.setpoints.specs.ComputationLaws.{SampleRange};
+ghost use Rattle.setpoints.specs.Computation.{computed};
 ghost use Rattle.controller.specs.Answers.{reply_of, response_of};
-ghost use Rattle.controller.specs.Scan.{context_of, computed_in, indications_after, core_after};
+ghost use Rattle.controller.specs.Scan.{context_of, indications_after, core_after};
 ghost use Rattle.controller.specs.Scan.{status_of, with_output, stepped, scan};
 ghost use Rattle.controller.specs.Valid.{Valid};
 
 use crate::{Controller, Core, ScanResult};
 use answers::ScanValues;
-use modes::Conditions;
+use modes::{Conditions, Mode};
 use outputs::{Context, History};
-use setpoints::{Computed, Readings};
-use signals::Input;
+use setpoints::{AcceptedInput, Computed, Readings};
+use signals::{Input, Switches};
 use words::Indications;
 
 impl Core {
@@ -33,16 +33,11 @@ impl Core {
     }
 
     // Steps 1, 4 and 5.
-    fn compute(&self, x: Context) -> Computed
-        requires { SampleRange x.input }
-        ensures { result ≡ computed_in self.now x }
+    fn compute(&self, s: Switches, mode: Mode, accepted: AcceptedInput) -> Computed
+        ensures { result ≡ computed self.now.parameters s self.now.userbits.measuredpower mode accepted }
     {
-        let p = self.parameters;
         let userbits = self.userbits;
-        let s = x.switches;
-        let mode = x.mode;
-        let input = x.input;
-        setpoints::compute(p, s, userbits.measuredpower, mode, input)
+        setpoints::compute(self.parameters, s, userbits.measuredpower, mode, accepted)
     }
 
     fn indications_after(&self, x: Context, r: Readings) -> Indications
@@ -87,10 +82,10 @@ impl Core {
 
 impl Controller {
     // The controller after an accepted scan.
-    fn stepped(self, input: Input) -> Controller
-        requires { SampleRange input }
-        ensures { result ≡ stepped self input }
+    fn stepped(self, accepted: AcceptedInput) -> Controller
+        ensures { result ≡ stepped self accepted }
     {
+        let input = accepted.input();
         let core = self.core;
         let earlier = self.output;
         let before = core.conditions;
@@ -101,7 +96,7 @@ impl Controller {
         let history = outputs::earlier::history_before(remembered, aftergap);
         let conditions = before.after(input);
         let x = core.context(conditions, input);
-        let r = core.compute(x);
+        let r = core.compute(x.switches, x.mode, accepted);
         let readings = r.readings;
         let next = core.after(history, conditions, x, r);
         let output = outputs::output_after(p, x, readings, history, earlier);
@@ -140,7 +135,8 @@ impl Controller {
     {
         match signals::scan_verdict(self.core.clock, input) {
             Ok(()) => {
-                let controller = self.stepped(input);
+                let accepted = AcceptedInput::in_range(input);
+                let controller = self.stepped(accepted);
                 let values = controller.answer();
                 ScanResult {
                     controller,

@@ -14,6 +14,28 @@ ghost use Rattle.setpoints.specs.Setpoints.{remote_setpoint, quotient_of, ratio_
 use modes::Mode;
 use parameters::{Parameters, Values};
 use signals::{Input, Switches};
+use std::marker::Model;
+
+// The input of an accepted scan.
+#[derive(Clone, Copy)]
+pub struct AcceptedInput {
+    input: Input,
+}
+
+// A contract sees the input. Its samples of channels 1 to 3 are always 10000 at most.
+impl Model for AcceptedInput {
+    ghost use Rattle.signals.specs.declared.Input.{Input};
+
+    ghost Value = { Input };
+
+    ghost use Rattle.setpoints.specs.ComputationLaws.{SampleRange};
+
+    ghost view = { λ a. a.input };
+
+    ghost invariant = { λ a. SampleRange a.input };
+
+    ghost inverse = { λ i. record { input = i } };
+}
 
 // PV, SP, ER and MP of a scan.
 #[derive(Clone, Copy)]
@@ -29,6 +51,23 @@ pub struct Readings {
 pub struct Computed {
     pub parameters: Parameters,
     pub readings: Readings,
+}
+
+impl AcceptedInput {
+    // An input whose samples are in range. The contract rules out that it is changed.
+    pub fn in_range(input: Input) -> AcceptedInput
+        requires { SampleRange input }
+        ensures { result ≡ input }
+    {
+        AcceptedInput { input }
+    }
+
+    // The contract rules out another input, and one with a sample above 10000.
+    pub fn input(self) -> Input
+        ensures { (result ≡ self) × SampleRange self }
+    {
+        self.input
+    }
 }
 
 // The magnitude of IC where channel 1's sample is rooted.
@@ -57,35 +96,32 @@ fn first_sample(p: Parameters, sample: u16) -> u16
 }
 
 #[tactic(auto, using(crate::specs::ComputationLaws::readings), unfolding(crate::specs::Setpoints::process_variable))]
-fn process_variable(p: Parameters, input: Input) -> i64
-    requires { SampleRange input }
-    ensures { result ≡ process_variable p input }
+fn process_variable(p: Parameters, accepted: AcceptedInput) -> i64
+    ensures { result ≡ process_variable p accepted }
 {
-    if signals::is_open(input) {
+    if signals::is_open(accepted.input) {
         p.get(parameters::L1)
     } else {
-        let sample = first_sample(p, input.sample1);
+        let sample = first_sample(p, accepted.input.sample1);
         channel(p.values(), parameters::L1, parameters::H1, sample)
     }
 }
 
 #[tactic(auto, using(crate::specs::ComputationLaws::readings), unfolding(crate::specs::Setpoints::third_channel))]
-fn third_channel(p: Parameters, input: Input) -> i64
-    requires { SampleRange input }
-    ensures { result ≡ third_channel p input }
+fn third_channel(p: Parameters, accepted: AcceptedInput) -> i64
+    ensures { result ≡ third_channel p accepted }
 {
-    channel(p.values(), parameters::L3, parameters::H3, input.sample3)
+    channel(p.values(), parameters::L3, parameters::H3, accepted.input.sample3)
 }
 
 #[tactic(auto, using(crate::specs::ComputationLaws::readings), unfolding(crate::specs::Setpoints::trim_of))]
-fn trim_of(p: Parameters, measuredpower: bool, mode: Mode, input: Input) -> i64
-    requires { SampleRange input }
-    ensures { result ≡ trim_of p measuredpower mode input }
+fn trim_of(p: Parameters, measuredpower: bool, mode: Mode, accepted: AcceptedInput) -> i64
+    ensures { result ≡ trim_of p measuredpower mode accepted }
 {
     if (mode == Mode::Track) | measuredpower {
         0
     } else {
-        third_channel(p, input)
+        third_channel(p, accepted)
     }
 }
 
@@ -97,11 +133,11 @@ fn local_setpoint(sl: i64, ratioswitch: bool, trim: i64) -> i64
     if ratioswitch { sl } else { sl + trim }
 }
 
-fn remote_setpoint(p: Parameters, trim: i64, input: Input) -> i64
-    requires { SampleRange input × Small trim }
-    ensures { result ≡ remote_setpoint p trim input }
+fn remote_setpoint(p: Parameters, trim: i64, accepted: AcceptedInput) -> i64
+    requires { Small trim }
+    ensures { result ≡ remote_setpoint p trim accepted }
 {
-    channel(p.values(), parameters::L1, parameters::H1, input.sample2) + trim
+    channel(p.values(), parameters::L1, parameters::H1, accepted.input.sample2) + trim
 }
 
 fn ratio_quotient(inverse: bool, q: i64, s: u64) -> i64
@@ -116,11 +152,11 @@ fn ratio_quotient(inverse: bool, q: i64, s: u64) -> i64
 }
 
 #[tactic(auto, using(crate::specs::ComputationLaws::readings), unfolding(crate::specs::Setpoints::ratio_setpoint))]
-fn ratio_setpoint(p: Parameters, inverse: bool, rs: i64, trim: i64, input: Input) -> i64
-    requires { SampleRange input × Small rs × Small trim }
-    ensures { result ≡ ratio_setpoint p inverse rs trim input }
+fn ratio_setpoint(p: Parameters, inverse: bool, rs: i64, trim: i64, accepted: AcceptedInput) -> i64
+    requires { Small rs × Small trim }
+    ensures { result ≡ ratio_setpoint p inverse rs trim accepted }
 {
-    let q = channel(p.values(), parameters::L2, parameters::H2, input.sample2);
+    let q = channel(p.values(), parameters::L2, parameters::H2, accepted.input.sample2);
     let low = p.get(parameters::LR);
     let high = p.get(parameters::HR);
     let s = integers::limit(low, high, rs + trim).unsigned_abs();
@@ -135,25 +171,24 @@ fn setpoint_in(
     sl: i64,
     rs: i64,
     trim: i64,
-    input: Input,
+    accepted: AcceptedInput,
 ) -> i64
-    requires { SampleRange input × Small sl × Small rs × Small trim }
-    ensures { result ≡ setpoint_in p s mode sl rs trim input }
+    requires { Small sl × Small rs × Small trim }
+    ensures { result ≡ setpoint_in p s mode sl rs trim accepted }
 {
     match mode {
-        Mode::Remote => remote_setpoint(p, trim, input),
-        Mode::Ratio => ratio_setpoint(p, s.inverseratio, rs, trim, input),
+        Mode::Remote => remote_setpoint(p, trim, accepted),
+        Mode::Ratio => ratio_setpoint(p, s.inverseratio, rs, trim, accepted),
         _ => local_setpoint(sl, s.ratio, trim),
     }
 }
 
 #[tactic(auto, using(crate::specs::ComputationLaws::readings), unfolding(crate::specs::Setpoints::measured_power))]
-fn measured_power(p: Parameters, measuredpower: bool, input: Input) -> i64
-    requires { SampleRange input }
-    ensures { result ≡ measured_power p measuredpower input }
+fn measured_power(p: Parameters, measuredpower: bool, accepted: AcceptedInput) -> i64
+    ensures { result ≡ measured_power p measuredpower accepted }
 {
     if measuredpower {
-        third_channel(p, input)
+        third_channel(p, accepted)
     } else {
         0
     }
@@ -166,20 +201,20 @@ pub fn compute(
     s: Switches,
     measuredpower: bool,
     mode: Mode,
-    input: Input,
+    accepted: AcceptedInput,
 ) -> Computed
-    requires { SampleRange input }
-    ensures { result ≡ computed p s measuredpower mode input }
+    ensures { result ≡ computed p s measuredpower mode accepted }
 {
     let values = p.values();
-    let pv = process_variable(p, input);
+    let input = accepted.input();
+    let pv = process_variable(p, accepted);
     let sl = local_setpoint::setpoint_after(p, s.setpointtracks, mode, input, pv);
     let rs = local_setpoint::ratio_after(p, mode, input);
-    let trim = trim_of(p, measuredpower, mode, input);
-    let unlimited = setpoint_in(p, s, mode, sl, rs, trim, input);
+    let trim = trim_of(p, measuredpower, mode, accepted);
+    let unlimited = setpoint_in(p, s, mode, sl, rs, trim, accepted);
     let sp = local_setpoint::limited_setpoint(values, unlimited);
     let er = pv - sp;
-    let mp = measured_power(p, measuredpower, input);
+    let mp = measured_power(p, measuredpower, accepted);
     let to = local_setpoint::following_setpoint(p, mode, sl, sp, trim);
     let moved = values.with(parameters::SL, to);
     let both = moved.with(parameters::RS, rs);

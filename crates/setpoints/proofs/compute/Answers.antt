@@ -20,10 +20,9 @@ setpoint_in-unlimited-requires c =
       back w64 c.ratio_after-rs.result c.ratio_after-rs.type_inv,
       back w64 c.setpoint_after-sl.result c.setpoint_after-sl.type_inv,
     ) (
-      c.requires,
       rw c.setpoint_after-sl.ensures (reading_small _ (setpoint_read p legal (setpoint_inside p legal _ _ _ _))),
       rw c.ratio_after-rs.ensures (reading_small _ (ratio_read p legal (ratio_inside p legal _ _))),
-      rw c.trim_of-trim.ensures (reading_small _ (trim_reading p legal _ c.requires _ _)),
+      rw c.trim_of-trim.ensures (reading_small _ (trim_reading p legal _ c.input-input.ensures.1 _ _)),
     )
 
 pub overflow_sub-er : goal.overflow_sub-er
@@ -35,7 +34,7 @@ overflow_sub-er c =
       back w64 c.process_variable-pv.result c.process_variable-pv.type_inv,
     )
     (difference_fits c.process_variable-pv.result c.limited_setpoint-sp.result
-    (rw c.process_variable-pv.ensures (reading_small _ (pv_reading p legal _ c.requires)))
+    (rw c.process_variable-pv.ensures (reading_small _ (pv_reading p legal _ c.input-input.ensures.1)))
     (rw (rw c.values-values.ensures.0 at c.limited_setpoint-sp.ensures)
     (reading_small _ (setpoint_read p legal (setpoint_limited p legal _)))))
 
@@ -46,12 +45,12 @@ following_setpoint-to-requires c =
     simp (back w64 c.limited_setpoint-sp.result c.limited_setpoint-sp.type_inv, back w64 c.trim_of-trim.result c.trim_of-trim.type_inv) (
       rw (rw c.values-values.ensures.0 at c.limited_setpoint-sp.ensures)
           (reading_small _ (setpoint_read p legal (setpoint_limited p legal _))),
-      rw c.trim_of-trim.ensures (reading_small _ (trim_reading p legal _ c.requires _ _)),
+      rw c.trim_of-trim.ensures (reading_small _ (trim_reading p legal _ c.input-input.ensures.1 _ _)),
     )
 
 -- the parameters with SL and RS moved, in the definition's words
 parameters_are : (c : After-with-both) →
-    c.with-both.result ≡ (computed c.args.p c.args.s c.args.measuredpower c.args.mode c.args.input).parameters
+    c.with-both.result ≡ (computed c.args.p c.args.s c.args.measuredpower c.args.mode c.args.accepted).parameters
 unfolding computed setpoint_of
 parameters_are c =
     simp (c.with-both.ensures, back w64 c.ratio_after-rs.result c.ratio_after-rs.type_inv)
@@ -75,8 +74,8 @@ parameters_are c =
       back w64 c.setpoint_after-sl.result c.setpoint_after-sl.type_inv,
     )
     (simp c.trim_of-trim.ensures
-    (simp c.ratio_after-rs.ensures
-    (simp (c.setpoint_after-sl.ensures, back w64 c.process_variable-pv.result c.process_variable-pv.type_inv)
+    (simp (c.ratio_after-rs.ensures, c.input-input.ensures.0)
+    (simp (c.setpoint_after-sl.ensures, c.input-input.ensures.0, back w64 c.process_variable-pv.result c.process_variable-pv.type_inv)
     (simp c.process_variable-pv.ensures))))))))
 
 pub legal-requires : goal.legal-requires
@@ -102,6 +101,6 @@ returns c =
       back w64 c.setpoint_after-sl.result c.setpoint_after-sl.type_inv,
     )
     (simp c.trim_of-trim.ensures
-    (simp c.ratio_after-rs.ensures
-    (simp (c.setpoint_after-sl.ensures, back w64 c.process_variable-pv.result c.process_variable-pv.type_inv)
+    (simp (c.ratio_after-rs.ensures, c.input-input.ensures.0)
+    (simp (c.setpoint_after-sl.ensures, c.input-input.ensures.0, back w64 c.process_variable-pv.result c.process_variable-pv.type_inv)
     (simp c.process_variable-pv.ensures)))))))))

@@ -16,7 +16,7 @@ use Rattle.setpoints.proofs.ratio_setpoint.Goals as goal
 
 pub channel-q-requires : goal.channel-q-requires
 channel-q-requires c =
-    rw c.values.ensures.0 (range2 c.args.p c.values.ensures.1 c.args.input.sample2 c.requires.0.second)
+    rw c.values.ensures.0 (range2 c.args.p c.values.ensures.1 c.accepted.inside.input.sample2 c.accepted.invariant.second)
 
 -- s and q, in the definition's words
 s_is : (c : After-unsigned_abs-s) →
@@ -24,12 +24,12 @@ s_is : (c : After-unsigned_abs-s) →
 s_is c = grind (arith, to_z-of_z, back, sum_fits)
 
 q_is : (c : After-channel-q) →
-    to_z w64 (of_z w64 c.channel-q.result) ≡ scaled (L2 c.args.p) (H2 c.args.p) c.args.input.sample2
+    to_z w64 (of_z w64 c.channel-q.result) ≡ scaled (L2 c.args.p) (H2 c.args.p) c.accepted.inside.input.sample2
 q_is c = back w64 c.channel-q.result c.channel-q.type_inv ∙ rw c.values.ensures.0 at c.channel-q.ensures
 
 pub ratio_quotient-requires : goal.ratio_quotient-requires
 ratio_quotient-requires c =
-    rw (q_is c.before.before.before.before, s_is c) (ratio_range c.args.p c.values.ensures.1 c.args.input c.requires.0 _)
+    rw (q_is c.before.before.before.before, s_is c) (ratio_range c.args.p c.values.ensures.1 c.accepted.inside.input c.accepted.invariant _)
 
 pub overflow_add-result : goal.overflow_add-result
 overflow_add-result c =
@@ -41,6 +41,7 @@ overflow_add-result c =
 pub returns : goal.returns
 unfolding ratio_setpoint
 returns c =
-    to_z-of_z (overflow_add-result c) ∙
+    rw (← c.accepted.view_is)
+    (to_z-of_z (overflow_add-result c) ∙
     simp (back w64 c.ratio_quotient.result c.ratio_quotient.type_inv, back w64 c.get.result c.get.type_inv)
-    (simp (c.get.ensures.0, c.ratio_quotient.ensures, q_is c.before.before.before.before.before.before, s_is c.before.before))
+    (simp (c.get.ensures.0, c.ratio_quotient.ensures, q_is c.before.before.before.before.before.before, s_is c.before.before)))
