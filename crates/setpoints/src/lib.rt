@@ -111,7 +111,12 @@ fn process_variable(p: Parameters, accepted: AcceptedInput) -> i64
 fn third_channel(p: Parameters, accepted: AcceptedInput) -> i64
     ensures { result ≡ third_channel p accepted }
 {
-    channel(p.values(), parameters::L3, parameters::H3, accepted.input.sample3)
+    channel(
+        p.values(),
+        parameters::L3,
+        parameters::H3,
+        accepted.input.sample3,
+    )
 }
 
 #[tactic(auto, using(crate::specs::ComputationLaws::readings), unfolding(crate::specs::Setpoints::trim_of))]
@@ -137,7 +142,12 @@ fn remote_setpoint(p: Parameters, trim: i64, accepted: AcceptedInput) -> i64
     requires { Small trim }
     ensures { result ≡ remote_setpoint p trim accepted }
 {
-    channel(p.values(), parameters::L1, parameters::H1, accepted.input.sample2) + trim
+    channel(
+        p.values(),
+        parameters::L1,
+        parameters::H1,
+        accepted.input.sample2,
+    ) + trim
 }
 
 fn ratio_quotient(inverse: bool, q: i64, s: u64) -> i64
@@ -156,7 +166,12 @@ fn ratio_setpoint(p: Parameters, inverse: bool, rs: i64, trim: i64, accepted: Ac
     requires { Small rs × Small trim }
     ensures { result ≡ ratio_setpoint p inverse rs trim accepted }
 {
-    let q = channel(p.values(), parameters::L2, parameters::H2, accepted.input.sample2);
+    let q = channel(
+        p.values(),
+        parameters::L2,
+        parameters::H2,
+        accepted.input.sample2,
+    );
     let low = p.get(parameters::LR);
     let high = p.get(parameters::HR);
     let s = integers::limit(low, high, rs + trim).unsigned_abs();

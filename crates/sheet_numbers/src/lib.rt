@@ -44,7 +44,18 @@ fn extreme_in(pv: i64, number: i64) -> Option<Option<Occurrence>>
 fn counts_in(numbers: [i64; 16]) -> Option<[u32; 8]>
     ensures { result ≡ counts_in numbers }
 {
-    let [_, hold, track, forced, manual, auto, remote, ratio, fallback, ..] = numbers;
+    let [
+        _,
+        hold,
+        track,
+        forced,
+        manual,
+        auto,
+        remote,
+        ratio,
+        fallback,
+        ..
+    ] = numbers;
     Some([
         count_in(hold)?,
         count_in(track)?,

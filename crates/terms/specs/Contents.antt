@@ -8,3 +8,7 @@ pub record Contents : Type 0 where
   pub td : ℕ
   pub minutes : Bool
   pub inverted : Bool
+
+abbrev pub contents : (xp span ti td : ℕ) (minutes inverted : Bool) → Contents
+contents xp span ti td minutes inverted =
+    record { xp = xp; span = span; ti = ti; td = td; minutes = minutes; inverted = inverted }

@@ -24,7 +24,7 @@ pub struct Tuning {
 
 // A contract sees the fields. XP, W, TI and TD always lie in their ranges.
 impl Model for Tuning {
-    ghost use Rattle.terms.specs.Contents.{Contents};
+    ghost use Rattle.terms.specs.Contents.{Contents, contents};
 
     ghost Value = { Contents };
 
@@ -32,9 +32,7 @@ impl Model for Tuning {
 
     ghost view = { λ t. record { xp = t.xp; span = t.span; ti = t.ti; td = t.td; minutes = t.minutes; inverted = t.inverted } };
 
-    ghost invariant = {
-        λ t. TuningRange (record { xp = t.xp; span = t.span; ti = t.ti; td = t.td; minutes = t.minutes; inverted = t.inverted })
-    };
+    ghost invariant = { λ t. TuningRange (contents t.xp t.span t.ti t.td t.minutes t.inverted) };
 
     ghost inverse = { λ t. record { xp = t.xp; span = t.span; ti = t.ti; td = t.td; minutes = t.minutes; inverted = t.inverted } };
 }

@@ -65,8 +65,11 @@ parameters_are c =
       back w64 c.setpoint_after-sl.result c.setpoint_after-sl.type_inv,
       back w64 c.trim_of-trim.result c.trim_of-trim.type_inv,
     )
-    (simp (c.limited_setpoint-sp.ensures, c.values-values.ensures.0,
-      back w64 c.setpoint_in-unlimited.result c.setpoint_in-unlimited.type_inv)
+    (simp (
+      c.limited_setpoint-sp.ensures,
+      c.values-values.ensures.0,
+      back w64 c.setpoint_in-unlimited.result c.setpoint_in-unlimited.type_inv,
+    )
     (simp (
       c.setpoint_in-unlimited.ensures,
       back w64 c.trim_of-trim.result c.trim_of-trim.type_inv,
@@ -92,8 +95,11 @@ returns c =
     )
     (simp (c.legal.ensures, parameters_are c.before)
     (simp c.measured_power-mp.ensures
-    (simp (c.limited_setpoint-sp.ensures, c.values-values.ensures.0,
-      back w64 c.setpoint_in-unlimited.result c.setpoint_in-unlimited.type_inv)
+    (simp (
+      c.limited_setpoint-sp.ensures,
+      c.values-values.ensures.0,
+      back w64 c.setpoint_in-unlimited.result c.setpoint_in-unlimited.type_inv,
+    )
     (simp (
       c.setpoint_in-unlimited.ensures,
       back w64 c.trim_of-trim.result c.trim_of-trim.type_inv,

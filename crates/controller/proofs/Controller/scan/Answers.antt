@@ -26,7 +26,7 @@ pub returns-in-Ok : goal.returns-in-Ok
 unfolding scan scan_core response_from controller_after stepped accepted core_after
 returns-in-Ok c = (
   simp (none_refuses (goal.at.returns-in-Ok c).In-Ok, c.answer-values.ensures)
-  (simp (c.stepped-controller.ensures, c.in_range-accepted.ensures)),
+      (simp (c.stepped-controller.ensures, c.in_range-accepted.ensures)),
   rw (c.stepped-controller.ensures, c.in_range-accepted.ensures)
       (stepped_valid c.args.self c.args.input (rw (← c.self.view_is) c.self.invariant)
       (sampled c.args.self.core.clock c.args.input (none_refuses (goal.at.returns-in-Ok c).In-Ok))),

@@ -37,8 +37,8 @@ some_refuses r ts e is = sym e ∙ ap number_in is
 
 pub written-requires : goal.written-requires
 written-requires c = simp (value_is (goal.at.written-requires c).After-write_verdict) (
-  common_passed c.args.self.core c.args.writer c.args.number c.args.value
-      (none_refuses _ (verdict_is (goal.at.written-requires c).After-write_verdict) c.in-Ok.is))
+    common_passed c.args.self.core c.args.writer c.args.number c.args.value
+    (none_refuses _ (verdict_is (goal.at.written-requires c).After-write_verdict) c.in-Ok.is))
 
 pub returns-in-Err : goal.returns-in-Err
 unfolding write write_core response_from controller_after refused executed changed limited_to
