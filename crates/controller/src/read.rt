@@ -3,7 +3,6 @@ ghost use Rattle.std.specs.Prelude.{◌≡◌, ◌≤◌};
 ghost use Rattle.parameters.specs.Table.{value};
 ghost use Rattle.controller.specs.Answers.{op_of, reply_of_read};
 ghost use Rattle.controller.specs.Read.{value_in, read};
-ghost use Rattle.controller.specs.Valid.{Valid};
 
 use crate::{Controller, Core};
 use signals::Refusal;
@@ -45,12 +44,10 @@ impl Controller {
 
     // The value of a parameter in its own units, or the refusal that the table names for a number outside
     // it, the only one of a read. The contract rules out a neighbour's value, a word of an earlier state, and
-    // any other refusal; nothing changes, since no controller is returned. What the type says of a controller it also
-    // says to a caller, who learns so how large a value can be.
+    // any other refusal; nothing changes, since no controller is returned.
     pub fn read(self, number: u64) -> Result<i32, Refusal>
-        ensures { (reply_of_read result ≡ read self number) × Valid self }
+        ensures { reply_of_read result ≡ read self number }
     {
-        let _ = &self.core;
         Controller::rule(number).unknown_verdict()?;
         Ok(self.value(number))
     }

@@ -4,7 +4,6 @@ ghost use Rattle.signals.specs.Refusals.{refused_by};
 ghost use Rattle.parameters.specs.Legal.{Legal};
 ghost use Rattle.fields.specs.Fields.{save_tests, saved_in};
 ghost use Rattle.controller.specs.Answers.{reply_of_verdict, reply_by};
-ghost use Rattle.controller.specs.Valid.{Valid};
 ghost use Rattle.controller.specs.Save.{settings_now, saved_image};
 
 use crate::Controller;
@@ -29,14 +28,11 @@ impl Controller {
     // Encodes an image of the settings in the caller's buffer: the first 137 bytes are the image, those
     // behind stay; or refusal 15, and the buffer as it was. The controller doesn't change: a caller keeps
     // the one that it has. The contract gives the verdict and every byte, so it rules out a buffer of 137
-    // bytes that is refused, an image of other settings, and a byte behind it that changes. What the type says of a
-    // controller it also says to a caller, who learns so that the image has 137 bytes.
+    // bytes that is refused, an image of other settings, and a byte behind it that changes.
     pub fn save(self, buffer: &mut [u8]) -> Result<(), Refusal>
         ensures { (reply_of_verdict result ≡ reply_by (refused_by (save_tests buffer.old)))
-            × (buffer.new ≡ saved_in (saved_image self) buffer.old)
-            × Valid self }
+            × (buffer.new ≡ saved_in (saved_image self) buffer.old) }
     {
-        let _ = &self.core;
         self.settings().save(buffer)
     }
 }

@@ -56,6 +56,7 @@ pub fn save(controller: Controller, count: usize, buffer: &mut [u8]) -> Reply
     ensures { (result ≡ reply_to_save count buffer.old)
         × (buffer.new ≡ saved_buffer controller count buffer.old) }
 {
+    controller.valid();
     crate::filled::fill(buffer);
     if count <= buffer.len() {
         let verdict = controller.save(&mut buffer[0..count]);

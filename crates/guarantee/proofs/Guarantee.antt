@@ -121,7 +121,7 @@ guarantee word calls rs c l =
       same_state = ap capped core_is ∙ capped_twice (exact word calls).core;
       same_answers = answers l;
       same_reads = λ n r h.
-          subst (λ (reply : Reply). SameReading c (exact word calls).core n reply) (sym h.0)
+          subst (λ (reply : Reply). SameReading c (exact word calls).core n reply) (sym h)
           (same_reading c (exact word calls).core n core_is (rw e (valid_after word calls).stored));
       same_saves =
           λ life buffer r after h. same_save c (exact word calls).core buffer.now (reply_of_verdict r) after core_is

@@ -59,4 +59,4 @@ effects c n valid =
     }
 
 pub read_replies : ReadReplies
-read_replies c n r valid e = subst (ReadReply c n) (sym e.0) (effects c n valid)
+read_replies c n r valid e = subst (ReadReply c n) (sym e) (effects c n valid)

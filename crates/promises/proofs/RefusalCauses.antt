@@ -197,7 +197,7 @@ read_refusal (some n) v = refl
 
 pub read_refusals : ReadRefusals
 unfolding reads.read read_in
-read_refusals d n r e = ap refusal_in e.0 ∙ read_refusal (unknown_refusal (rule_of n)) _ ∙ unknown_is n
+read_refusals d n r e = ap refusal_in e ∙ read_refusal (unknown_refusal (rule_of n)) _ ∙ unknown_is n
 
 -- ---- the number of a refusal
 

@@ -39,6 +39,7 @@ fn show(controller: Controller, number: u64, reply: &mut [u8]) -> LineResult
     requires { (1 ≤ number) × (number ≤ 32) × (9 ≤ length reply.old) }
     ensures { outcome_of result reply.new ≡ replied controller number reply.old }
 {
+    controller.valid();
     let present = controller.read(number);
     match present {
         Ok(value) => LineResult {

@@ -139,7 +139,7 @@ module _ (c : Controller) (n : ℕ) (buffer : List ℕ) (r : LineResult) (after 
       record {
         value = present_value c n;
         text = value_text n (present_value c n);
-        present = λ q h. let is = h.0 ∙ read_named n t.least t.most c in (is_value q (present_value c n) is, is);
+        present = λ q h. let is = h ∙ read_named n t.least t.most c in (is_value q (present_value c n) is, is);
         display = displayed c n valid;
         answer = is_reply r.answer _ (ap (λ (o : LineOutcome). o.answer) e ∙ ap (λ (l : List ℕ). reply (length l)) text_is);
         bytes = ap (λ (o : LineOutcome). o.buffer) e ∙ ap (λ (l : List ℕ). l ++ drop (length l) buffer) text_is;

@@ -52,7 +52,7 @@ unfolding performed buffer_after
 returns-in-Read c =
     let e = c.in-Read.is in
     let r : IsStep (goal.at.returns-in-Read c).Start (unchanged_with c.args.controller c.reply_to_read.result) =
-    rw e (ap (unchanged_with c.args.controller) (c.reply_to_read.ensures ∙ ap reply_to c.read-answer.ensures.0)) in
+    rw e (ap (unchanged_with c.args.controller) (c.reply_to_read.ensures ∙ ap reply_to c.read-answer.ensures)) in
     (r, rw e refl)
 
 pub returns-in-Restart : goal.returns-in-Restart

@@ -16,11 +16,11 @@ displayed : (k : In-Ok) → let a = k.args in
 displayed k =
     back w32 k.in-Ok.value (search rules) ∙
     value_read k.args.number k.requires.0 k.requires.1 k.args.controller k.in-Ok.value
-    (ap reply_of_read (sym k.in-Ok.is) ∙ k.read-present.ensures.0)
+    (ap reply_of_read (sym k.in-Ok.is) ∙ k.read-present.ensures)
 
 pub write-requires : goal.write-requires
 write-requires c =
-    let few = value_few c.args.controller c.args.number c.read-present.ensures.1 in
+    let few = value_few c.args.controller c.args.number c.valid.ensures in
     (c.requires.0, c.requires.1, (λ e. rw (displayed (goal.at.write-requires c).In-Ok) (few e)), search rules)
 
 pub returns-in-Ok : goal.returns-in-Ok
@@ -33,4 +33,4 @@ pub returns-in-Err : goal.returns-in-Err
 unfolding replied
 returns-in-Err c =
     absurd (never_refused c.args.number c.requires.0 c.requires.1 c.args.controller _
-    (ap reply_of_read (sym c.in-Err.is) ∙ c.read-present.ensures.0))
+    (ap reply_of_read (sym c.in-Err.is) ∙ c.read-present.ensures))
