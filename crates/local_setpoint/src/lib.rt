@@ -115,12 +115,12 @@ pub fn setpoint_after(p: Parameters, setpointtracks: bool, mode: Mode, input: In
 // again. The contract rules out that the trim stays in SL in Remote, that SL leaves its limits by it, that Ratio takes
 // it off too, and that SL follows SP in any other mode.
 #[tactic(auto, using(integers::specs::Machine::read_back), unfolding(crate::specs::LocalSetpoint::following_setpoint))]
-pub fn following_setpoint(p: Parameters, mode: Mode, sl: i64, sp: i64, trim: i64) -> i64
+pub fn following_setpoint(p: Values, mode: Mode, sl: i64, sp: i64, trim: i64) -> i64
     requires { Small sp × Small trim }
     ensures { result ≡ following_setpoint p mode sl sp trim }
 {
     match mode {
-        Mode::Remote => limited_setpoint(p.values(), sp - trim),
+        Mode::Remote => limited_setpoint(p, sp - trim),
         Mode::Ratio => sp,
         _ => sl,
     }

@@ -230,7 +230,7 @@ pub fn compute(
     let sp = local_setpoint::limited_setpoint(values, unlimited);
     let er = pv - sp;
     let mp = measured_power(p, measuredpower, accepted);
-    let to = local_setpoint::following_setpoint(p, mode, sl, sp, trim);
+    let to = local_setpoint::following_setpoint(values, mode, sl, sp, trim);
     let moved = values.with(parameters::SL, to);
     let both = moved.with(parameters::RS, rs);
     Computed {

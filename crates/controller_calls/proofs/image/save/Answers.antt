@@ -24,7 +24,8 @@ returns-then-count-buffer c =
     rw (sub-zero, c.fill.ensures, e.1) refl in
     let whole = filled_replicate (length bytes) in
     let checked =
-    checked_save c.args.controller c.valid.ensures part rest (filled_take count (filled bytes) whole) (filled_drop count (filled bytes) whole)
+    checked_save c.args.controller c.valid.ensures part rest (filled_take count (filled bytes) whole)
+    (filled_drop count (filled bytes) whole)
     c.save-verdict.result e.0 in (
       rw (le-leb _ _ h) (c.reply_to_save.ensures ∙ ap (checked_reply c.save-verdict.result) after ∙ checked),
       rw (le-leb _ _ h) after,
