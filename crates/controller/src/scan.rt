@@ -21,13 +21,12 @@ impl Core {
         ensures { result ≡ context_of self.now after input }
     {
         let switches = signals::switches_of(self.sw);
-        let before = self.conditions;
-        let mode = after.mode(switches.ratio);
-        let tominimum = before.goes_to_minimum(input, switches.ratio, switches.powerfail);
         Context {
             switches,
-            mode,
-            tominimum,
+            mode: after.mode(switches.ratio),
+            tominimum: self
+                .conditions
+                .goes_to_minimum(input, switches.ratio, switches.powerfail),
             input,
         }
     }
@@ -36,23 +35,23 @@ impl Core {
     fn compute(&self, s: Switches, mode: Mode, accepted: AcceptedInput) -> Computed
         ensures { result ≡ computed self.now.parameters s self.now.userbits.measuredpower mode accepted }
     {
-        let userbits = self.userbits;
-        setpoints::compute(self.parameters, s, userbits.measuredpower, mode, accepted)
+        setpoints::compute(
+            self.parameters,
+            s,
+            self.userbits.measuredpower,
+            mode,
+            accepted,
+        )
     }
 
     fn indications_after(&self, x: Context, r: Readings) -> Indications
         ensures { result ≡ indications_after self.now x r }
     {
-        let p = self.parameters;
-        let input = x.input;
-        let batterylow = signals::battery_low(input);
-        let lowalarm = setpoints::low_alarm(p, r);
-        let highalarm = setpoints::high_alarm(p.values(), r);
         Indications {
-            buttons: input.buttons,
-            batterylow,
-            lowalarm,
-            highalarm,
+            buttons: x.input.buttons,
+            batterylow: signals::battery_low(x.input),
+            lowalarm: setpoints::low_alarm(self.parameters, r),
+            highalarm: setpoints::high_alarm(self.parameters.values(), r),
         }
     }
 
@@ -60,22 +59,16 @@ impl Core {
     fn after(&self, earlier: History, conditions: Conditions, x: Context, r: Computed) -> Core
         ensures { result ≡ core_after self.now earlier conditions x r }
     {
-        let userbits = self.userbits;
-        let readings = r.readings;
-        let parameters = r.parameters;
-        let input = x.input;
-        let isopen = signals::is_open(input);
-        let indications = self.indications_after(x, readings);
-        let history = outputs::earlier::history_after(earlier, isopen, readings);
+        let isopen = signals::is_open(x.input);
         Core {
             sw: self.sw,
-            parameters,
+            parameters: r.parameters,
             conditions,
-            userbits,
-            readings,
-            indications,
-            history,
-            clock: Some(input.milliseconds),
+            userbits: self.userbits,
+            readings: r.readings,
+            indications: self.indications_after(x, r.readings),
+            history: outputs::earlier::history_after(earlier, isopen, r.readings),
+            clock: Some(x.input.milliseconds),
         }
     }
 }
@@ -87,19 +80,14 @@ impl Controller {
     {
         let input = accepted.input();
         let core = self.core;
-        let earlier = self.output;
-        let before = core.conditions;
-        let p = core.parameters;
-        let remembered = core.history;
-        let last = core.clock;
-        let aftergap = signals::clock::is_after_gap(last, input.milliseconds);
-        let history = outputs::earlier::history_before(remembered, aftergap);
-        let conditions = before.after(input);
+        let aftergap = signals::clock::is_after_gap(core.clock, input.milliseconds);
+        let history = outputs::earlier::history_before(core.history, aftergap);
+        let conditions = core.conditions.after(input);
         let x = core.context(conditions, input);
         let r = core.compute(x.switches, x.mode, accepted);
         let readings = r.readings;
         let next = core.after(history, conditions, x, r);
-        let output = outputs::output_after(p, x, readings, history, earlier);
+        let output = outputs::output_after(core.parameters, x, readings, history, self.output);
         Controller { core: next, output }
     }
 
@@ -109,20 +97,13 @@ impl Controller {
         ensures { reply_of (Ok result) ≡ with_output (status_of self.core) self.core.sw self.output }
     {
         let core = self.core;
-        let md = core.md();
-        let ds = core.ds();
-        let op = crate::op_of(self.output);
-        let electrical = crate::electrical_of(core.sw, self.output);
-        let mode = core.mode();
-        let readings = core.readings;
-        let pv = readings.pv as i32;
         ScanValues {
-            md,
-            ds,
-            op,
-            electrical,
-            mode,
-            pv,
+            md: core.md(),
+            ds: core.ds(),
+            op: crate::op_of(self.output),
+            electrical: crate::electrical_of(core.sw, self.output),
+            mode: core.mode(),
+            pv: core.readings.pv as i32,
         }
     }
 
@@ -135,12 +116,10 @@ impl Controller {
     {
         match signals::scan_verdict(self.core.clock, input) {
             Ok(()) => {
-                let accepted = AcceptedInput::in_range(input);
-                let controller = self.stepped(accepted);
-                let values = controller.answer();
+                let controller = self.stepped(AcceptedInput::in_range(input));
                 ScanResult {
                     controller,
-                    answer: Ok(values),
+                    answer: Ok(controller.answer()),
                 }
             }
             Err(refusal) => ScanResult {

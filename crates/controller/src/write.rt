@@ -5,14 +5,11 @@ ghost use Rattle.signals.specs.Refusals.{number_in, refused_by};
 ghost use Rattle.controller.specs.Answers.{response_of_verdict};
 ghost use Rattle.controller.specs.Valid.{Valid};
 ghost use Rattle.controller.specs.Write.{setpoint_tests, word_of, state_tests, value_tests, access_now, write_tests, common_tests};
-ghost use Rattle.controller.specs.Write.{core_with, md_written, ds_written, parameter_written, core_written, controller_written, write};
+ghost use Rattle.controller.specs.Write.{md_written, ds_written, parameter_written, core_written, controller_written, write};
 
 use crate::{CallResult, Controller, Core};
-use modes::Conditions;
-use parameters::Parameters;
 use rights::Writer;
 use signals::Refusal;
-use words::UserBits;
 
 // How many words of 16 bits there are.
 const WORD_COUNT: u64 = Controller::WORD_MOST as u64 + 1;
@@ -28,10 +25,8 @@ impl Core {
     fn setpoint_verdict(&self) -> Result<(), Refusal>
         ensures { number_in result ≡ refused_by (setpoint_tests self.now) }
     {
-        let s = signals::switches_of(self.sw);
-        let mode = self.mode();
-        let taken = modes::sets_setpoint(mode, s.setpointtracks);
-        if taken {
+        let switches = signals::switches_of(self.sw);
+        if modes::sets_setpoint(self.mode(), switches.setpointtracks) {
             return Err(Refusal::Setpoint);
         }
         Ok(())
@@ -41,11 +36,9 @@ impl Core {
     fn state_verdict(&self, number: u64, v: i64) -> Result<(), Refusal>
         ensures { number_in result ≡ refused_by (state_tests self.now number v) }
     {
-        let conditions = self.conditions;
-        let word = word_of(v);
         match number {
             parameters::SL => self.setpoint_verdict(),
-            parameters::MD => words::written::md_verdict(conditions, word),
+            parameters::MD => words::written::md_verdict(self.conditions, word_of(v)),
             _ => Ok(()),
         }
     }
@@ -70,9 +63,8 @@ impl Core {
     fn access(&self, writer: Writer, number: u64) -> Result<(), Refusal>
         ensures { number_in result ≡ refused_by (access_now self.now writer number) }
     {
-        let conditions = self.conditions;
         let rule = Controller::rule(number);
-        rights::access_verdict(rule, writer, conditions.pins, number)
+        rights::access_verdict(rule, writer, self.conditions.pins, number)
     }
 
     // Whether a write is accepted. The contract rules out a refusal of the value where the writer may not write.
@@ -83,56 +75,35 @@ impl Core {
         self.value_verdict(number, v)
     }
 
-    // The same but for these three: no write touches anything else.
-    fn with(&self, parameters: Parameters, conditions: Conditions, userbits: UserBits) -> Core
-        ensures { result ≡ core_with self.now parameters conditions userbits }
-    {
-        let readings = self.readings;
-        let indications = self.indications;
-        let history = self.history;
-        let clock = self.clock;
-        Core {
-            sw: self.sw,
-            parameters,
-            conditions,
-            userbits,
-            readings,
-            indications,
-            history,
-            clock,
-        }
-    }
-
+    // Of the state, a write of MD, DS or a parameter from 1 to 23 changes the fields that it names: no write touches
+    // anything else.
     fn md_written(&self, word: u16) -> Core
         ensures { result ≡ md_written self.now word }
     {
-        let p = self.parameters;
-        let before = self.conditions;
-        let earlier = self.userbits;
-        let conditions = words::written::conditions_written(before, word);
-        let userbits = words::written::power_written(earlier, word);
-        self.with(p, conditions, userbits)
+        Core {
+            conditions: words::written::conditions_written(self.conditions, word),
+            userbits: words::written::power_written(self.userbits, word),
+            ..*self
+        }
     }
 
     fn ds_written(&self, word: u16) -> Core
         ensures { result ≡ ds_written self.now word }
     {
-        let p = self.parameters;
-        let conditions = self.conditions;
-        let earlier = self.userbits;
-        let userbits = words::written::user_bits_written(earlier, word);
-        self.with(p, conditions, userbits)
+        Core {
+            userbits: words::written::user_bits_written(self.userbits, word),
+            ..*self
+        }
     }
 
     fn parameter_written(&self, number: u64, v: i64) -> Core
         requires { 1 ≤ number × number ≤ 23 × refused_by (common_tests self.now number v) ≡ none }
         ensures { result ≡ parameter_written self.now number v }
     {
-        let p = self.parameters;
-        let conditions = self.conditions;
-        let userbits = self.userbits;
-        let parameters = p.after_write(number, v);
-        self.with(parameters, conditions, userbits)
+        Core {
+            parameters: self.parameters.after_write(number, v),
+            ..*self
+        }
     }
 
     // What an accepted write leaves, but for the output.
@@ -155,12 +126,9 @@ impl Controller {
         requires { refused_by (common_tests self.core number v) ≡ none }
         ensures { result ≡ controller_written self number v }
     {
-        let before = self.core;
-        let earlier = self.output;
-        let mode = before.mode();
-        let core = before.written(number, v);
-        let p = core.parameters;
-        let output = outputs::output_written(number, mode, p, earlier);
+        let mode = self.core.mode();
+        let core = self.core.written(number, v);
+        let output = outputs::output_written(number, mode, core.parameters, self.output);
         Controller { core, output }
     }
 
@@ -170,8 +138,7 @@ impl Controller {
     pub fn write_access(self, writer: Writer, number: u64) -> Result<(), Refusal>
         ensures { number_in result ≡ refused_by (access_now self.core writer number) }
     {
-        let core = self.core;
-        core.access(writer, number)
+        self.core.access(writer, number)
     }
 
     // One write of a value by a writer, in the parameter's own units (`parameters` has the numbers by name): the next

@@ -1,6 +1,9 @@
 // A buffer that is filled before a call writes into it, so that a byte which changed can be told.
-ghost use Rattle.std.specs.Prelude.{◌≡◌, drop};
+ghost use Rattle.std.specs.Prelude.{◌≡◌, drop, if◌then◌else◌};
 ghost use Rattle.controller_calls.specs.Calls.{is_filled, filled};
+ghost use Rattle.replies.specs.declared.Reply.TheVariants.{Error};
+
+use replies::Reply;
 
 // What each byte of the buffer is before a call: none but the call's own bytes may differ from it afterwards.
 const FILL: u8 = 0xA5;
@@ -18,4 +21,15 @@ pub fn is_unchanged(buffer: &[u8], from: usize) -> bool
     ensures { result ≡ is_filled (drop from buffer.now) }
 {
     buffer.iter().skip(from).all(|byte| *byte == FILL)
+}
+
+// The reply of a call that may have changed so many bytes in front: where a byte changed that had to stay, `error`.
+pub fn checked(reply: Reply, buffer: &[u8], count: usize) -> Reply
+    ensures { result ≡ (if is_filled (drop count buffer.now) then reply else Error) }
+{
+    if is_unchanged(buffer, count) {
+        reply
+    } else {
+        Reply::Error
+    }
 }

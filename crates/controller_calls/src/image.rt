@@ -29,24 +29,13 @@ pub fn restart(controller: Controller, count: usize, buffer: &[u8]) -> Step
 }
 
 // The reply to a save: where a byte changed that had to stay, `error`.
+#[tactic(auto, unfolding(crate::specs::Calls::checked_reply))]
 fn reply_to_save(verdict: Result<(), Refusal>, buffer: &[u8]) -> Reply
     ensures { result ≡ checked_reply verdict buffer.now }
 {
     match verdict {
-        Ok(()) => {
-            if crate::filled::is_unchanged(buffer, 137) {
-                Reply::Image
-            } else {
-                Reply::Error
-            }
-        }
-        Err(refusal) => {
-            if crate::filled::is_unchanged(buffer, 0) {
-                Reply::Refused(u8::from(refusal))
-            } else {
-                Reply::Error
-            }
-        }
+        Ok(()) => crate::filled::checked(Reply::Image, buffer, 137),
+        Err(refusal) => crate::filled::checked(Reply::Refused(u8::from(refusal)), buffer, 0),
     }
 }
 

@@ -18,24 +18,13 @@ fn fits(count: usize, size: usize, buffer: &[u8]) -> bool
 }
 
 // The reply to the terminal's answer: where a byte changed that had to stay, `error`.
+#[tactic(auto, unfolding(crate::specs::Calls::checked_terminal))]
 fn reply_to_answer(answer: Result<usize, Refusal>, buffer: &[u8]) -> Reply
     ensures { result ≡ checked_terminal (reply_of_line answer) buffer.now }
 {
     match answer {
-        Ok(count) => {
-            if crate::filled::is_unchanged(buffer, count) {
-                Reply::Line(count)
-            } else {
-                Reply::Error
-            }
-        }
-        Err(refusal) => {
-            if crate::filled::is_unchanged(buffer, 0) {
-                Reply::Refused(u8::from(refusal))
-            } else {
-                Reply::Error
-            }
-        }
+        Ok(count) => crate::filled::checked(Reply::Line(count), buffer, count),
+        Err(refusal) => crate::filled::checked(Reply::Refused(u8::from(refusal)), buffer, 0),
     }
 }
 
@@ -57,11 +46,9 @@ pub fn perform(
         line.push_all(&buffer[..count]);
         crate::filled::fill(buffer);
         let result = terminal::answer(controller, writer, line.as_slice(), &mut buffer[..size]);
-        let next = result.controller;
-        let answer = result.answer;
         return Step {
-            controller: next,
-            reply: reply_to_answer(answer, buffer),
+            controller: result.controller,
+            reply: reply_to_answer(result.answer, buffer),
         };
     }
     Step {

@@ -25,13 +25,7 @@ fn reading_after(last: Option<u64>) -> u64
 {
     match last {
         None => 36,
-        Some(milliseconds) => {
-            if milliseconds <= u64::MAX - 36 {
-                milliseconds + 36
-            } else {
-                milliseconds
-            }
-        }
+        Some(milliseconds) => milliseconds.checked_add(36).unwrap_or(milliseconds),
     }
 }
 
@@ -57,15 +51,13 @@ fn scan(controller: Controller, pins: u8, reply: &mut [u8]) -> LineResult
     ensures { outcome_of result reply.new ≡ scan_outcome controller pins reply.old }
 {
     let r = controller.scan(scan_input(controller.last_reading(), pins));
-    let next = r.controller;
-    let answer = r.answer;
-    match answer {
+    match r.answer {
         Ok(_) => LineResult {
-            controller: next,
+            controller: r.controller,
             answer: Ok(crate::ok::write(reply)),
         },
         Err(refusal) => LineResult {
-            controller: next,
+            controller: r.controller,
             answer: Err(refusal),
         },
     }

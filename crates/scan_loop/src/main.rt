@@ -15,33 +15,29 @@ struct Dryer {
 
 // When the next scan is due: 36 ms after the last one, or at once. A real host reads its own clock.
 fn due(controller: Controller) -> u64 {
-    match controller.last_reading() {
-        Some(last) => std::num::wrapping_add_u64(last, 36),
-        None => 0,
-    }
+    controller
+        .last_reading()
+        .map_or(0, |last| last.wrapping_add(36))
 }
 
 // A scan, and its answer entered in the sheet.
 fn scanned(dryer: Dryer) -> Dryer {
-    let before = dryer.controller;
-    let r = before.scan(Input {
+    let r = dryer.controller.scan(Input {
         pins: 0x80,
         sample1: 5000,
         sample2: 0,
         sample3: 0,
         buttons: 2,
         sensors: 0,
-        milliseconds: due(before),
+        milliseconds: due(dryer.controller),
     });
-    let controller = r.controller;
-    let answer = r.answer;
-    match answer {
+    match r.answer {
         Ok(values) => Dryer {
-            controller,
+            controller: r.controller,
             sheet: dryer.sheet.enter(values).sheet,
         },
         Err(_) => Dryer {
-            controller,
+            controller: r.controller,
             ..dryer
         },
     }
@@ -49,13 +45,11 @@ fn scanned(dryer: Dryer) -> Dryer {
 
 // A write where it is free, and a line of the hand-held terminal.
 fn adjusted(controller: Controller) -> Controller {
-    let access = controller.write_access(Writer::Operator, parameters::SL);
-    match access {
+    match controller.write_access(Writer::Operator, parameters::SL) {
         Ok(()) => {
             let w = controller.write(Writer::Operator, parameters::SL, 650);
             let mut reply = [0u8; terminal::REPLY_LENGTH];
-            let t = terminal::answer(w.controller, Writer::Engineer, b"TI>10", &mut reply);
-            t.controller
+            terminal::answer(w.controller, Writer::Engineer, b"TI>10", &mut reply).controller
         }
         Err(_) => controller,
     }
@@ -65,8 +59,7 @@ fn adjusted(controller: Controller) -> Controller {
 fn restarted(controller: Controller) -> Controller {
     let mut image = [0u8; fields::IMAGE_LENGTH];
     let _ = controller.save(&mut image);
-    let back = controller.restart(&image);
-    back.controller
+    controller.restart(&image).controller
 }
 
 // The power fails once.

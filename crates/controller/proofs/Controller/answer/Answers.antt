@@ -21,9 +21,9 @@ returns c =
     let stored = stored_back c.self.invariant.stored in
     rw (← c.self.view_is)
     (answered (record { core = c.self.inside.core; output = c.self.inside.output }) _
-    c.md-md.ensures
-    c.ds-ds.ensures
-    (c.op_of-op.ensures.0 ∙ ap op_of stored)
-    (c.electrical_of-electrical.ensures ∙ ap (electrical_of c.self.inside.core.sw) stored)
-    c.mode-mode.ensures
+    c.md.ensures
+    c.ds.ensures
+    (c.op_of.ensures.0 ∙ ap op_of stored)
+    (c.electrical_of.ensures ∙ ap (electrical_of c.self.inside.core.sw) stored)
+    c.mode.ensures
     (reading_narrowed c.self.inside.core.readings.pv c.self.invariant.readable.pv_most))

@@ -12,8 +12,8 @@ use Rattle.controller.proofs.Controller.scan.Goals as goal
 none_refuses : (c : In-Ok) → refused_by (scan_tests c.args.self.core.clock c.args.input) ≡ none
 none_refuses c = rw (← c.self.view_is) (sym c.scan_verdict.ensures ∙ ap number_in c.in-Ok.is)
 
-pub in_range-accepted-requires : goal.in_range-accepted-requires
-in_range-accepted-requires c = sampled c.args.self.core.clock c.args.input (none_refuses c)
+pub in_range-requires : goal.in_range-requires
+in_range-requires c = sampled c.args.self.core.clock c.args.input (none_refuses c)
 
 some_refuses : (c : In-Err) → refused_by (scan_tests c.args.self.core.clock c.args.input) ≡ some (number_of c.in-Err.refusal)
 some_refuses c = rw (← c.self.view_is) (sym c.scan_verdict.ensures ∙ ap number_in c.in-Err.is)
@@ -25,9 +25,9 @@ returns-in-Err c = (simp (some_refuses (goal.at.returns-in-Err c).In-Err), (rw (
 pub returns-in-Ok : goal.returns-in-Ok
 unfolding scan scan_core response_from controller_after stepped accepted core_after
 returns-in-Ok c = (
-  simp (none_refuses (goal.at.returns-in-Ok c).In-Ok, c.answer-values.ensures)
-      (simp (c.stepped-controller.ensures, c.in_range-accepted.ensures)),
-  rw (c.stepped-controller.ensures, c.in_range-accepted.ensures)
+  simp (none_refuses (goal.at.returns-in-Ok c).In-Ok, c.answer.ensures)
+      (simp (c.stepped-controller.ensures, c.in_range.ensures)),
+  rw (c.stepped-controller.ensures, c.in_range.ensures)
       (stepped_valid c.args.self c.args.input (rw (← c.self.view_is) c.self.invariant)
       (sampled c.args.self.core.clock c.args.input (none_refuses (goal.at.returns-in-Ok c).In-Ok))),
 )

@@ -4,4 +4,4 @@ use Rattle.controller.proofs.Core.after.Goals as goal
 
 pub returns : goal.returns
 unfolding core_after
-returns c = simp (c.history_after-history.ensures, c.indications_after-indications.ensures, c.is_open-isopen.ensures)
+returns c = simp (c.history_after.ensures, c.indications_after.ensures, c.is_open-isopen.ensures)

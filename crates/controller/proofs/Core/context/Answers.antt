@@ -4,4 +4,4 @@ use Rattle.controller.proofs.Core.context.Goals as goal
 
 pub returns : goal.returns
 unfolding context_of
-returns c = simp (c.goes_to_minimum-tominimum.ensures, c.mode-mode.ensures, c.switches_of-switches.ensures)
+returns c = simp (c.goes_to_minimum.ensures, c.mode.ensures, c.switches_of-switches.ensures)

@@ -14,7 +14,7 @@ pub returns-in-24 : goal.returns-in-24
 unfolding state_tests
 returns-in-24 c =
     simp (c.md_verdict.ensures, c.in-24.is)
-    (simp (c.word_of-word.ensures, to_z-of_z c.ranges.v))
+    (simp (c.word_of.ensures, to_z-of_z c.ranges.v))
 
 pub returns-in_default : goal.returns-in_default
 unfolding state_tests refused_by
