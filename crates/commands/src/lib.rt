@@ -27,7 +27,7 @@ pub enum Call {
     // whether the writer may write the parameter with this number
     Access(Writer, u64),
     Read(u64),
-    // with so many bytes at the front of the buffer
+    // with so many bytes at the front of the buffer, which is lent on: no heap
     Restart(usize),
     // into so many bytes
     Save(usize),

@@ -27,7 +27,8 @@ fn calculation(word: &[u8], numbers: &[i64]) -> Option<Command>
     Some(Command::Calculated(number))
 }
 
-// A command of the sheet whose arguments are numbers, or a line of the arithmetic. The contract rules out the command
+// A command of the sheet whose arguments are numbers, or a line of the arithmetic, by tests one after another, as in
+// `numbers::of_numbers`. The contract rules out the command
 // of another word, and one with a number too few or too many.
 #[tactic(auto, unfolding(crate::specs::Commands::sheet_command), using(text::specs::Words::same_pointwise))]
 pub fn of_word(word: &[u8], numbers: &[i64]) -> Option<Command>

@@ -49,6 +49,7 @@ impl<const L: usize, const N: usize> LineSession<L, N> for Session {
     }
 }
 
+// Each program's own: what it holds from line to line, and how long a line may be.
 fn main(rt: HostRuntime) {
     // a line of up to 700 bytes, and one byte more to tell that a line is longer
     let mut line = Text::<701>::new();

@@ -71,7 +71,7 @@ pub struct ScanResult {
     pub answer: Result<ScanValues, Refusal>,
 }
 
-// What a write or a restart returns.
+// What a write or a restart returns, after a refusal too.
 #[derive(Clone, Copy)]
 pub struct CallResult {
     pub controller: Controller,

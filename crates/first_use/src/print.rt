@@ -18,7 +18,7 @@ pub fn bytes(rt: &impl Print, text: &[u8]) {
     let _ = rt.write_all(b"\n");
 }
 
-// The first bytes of a buffer, so many; none if it has fewer.
+// The first bytes of a buffer, so many; none if it has fewer. A reply is so much of a buffer that was lent.
 pub fn front(rt: &impl Print, buffer: &[u8], count: usize) {
     if count <= buffer.len() {
         bytes(rt, &buffer[0..count]);

@@ -35,6 +35,7 @@ impl<const L: usize, const N: usize> LineSession<L, N> for Session {
     }
 }
 
+// Each program's own: what it holds from line to line, and how long a line may be.
 fn main(rt: HostRuntime) {
     // a line of up to 300 bytes, and one byte more, with which a longer line has no form either
     let mut line = Text::<301>::new();

@@ -8,7 +8,7 @@ ghost use Rattle.handheld.specs.Answers.{refusal_name, refusal_text, answer_text
 use formatting::Text;
 use signals::Refusal;
 
-// The contract rules out the name of another refusal, and one that is cut.
+// Not by `Display`, which states no bytes. The contract rules out the name of another refusal, and one that is cut.
 fn name(refusal: Refusal) -> &'static [u8]
     ensures { result.now ≡ refusal_name (number_of refusal) }
 {

@@ -130,6 +130,7 @@ fn trim_of(p: Parameters, measuredpower: bool, mode: Mode, accepted: AcceptedInp
     }
 }
 
+// `Small` here and below is a fact of an i64. A type for such numbers was tried: each function opened it again.
 #[tactic(auto, using(crate::specs::ComputationLaws::readings), unfolding(crate::specs::Setpoints::local_setpoint))]
 fn local_setpoint(sl: i64, ratioswitch: bool, trim: i64) -> i64
     requires { Small sl × Small trim }

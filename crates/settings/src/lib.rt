@@ -49,7 +49,7 @@ pub struct Settings {
     pub userbits: UserBits,
 }
 
-// A `match` and not `as`: the image has these numbers, whatever the order of the cases.
+// A `match` and not `as`, here and of the fault: the image has these numbers, whatever the order of the cases.
 fn request_number(request: Request) -> u16
     ensures { result ≡ request_number request }
 {

@@ -65,6 +65,7 @@ impl Sheet {
         }
     }
 
+    // Two fields, so two functions, as those above.
     pub fn mean_op(self) -> Mean
         ensures { result ≡ record { sum = self.values.sumop; count = self.values.scans } }
     {

@@ -15,7 +15,7 @@ const MODES: [Mode; 8] = [
     Mode::Fallback,
 ];
 
-// The contract rules out the word of another mode.
+// Not by `Display`, which states no bytes. The contract rules out the word of another mode.
 #[tactic(auto, unfolding(crate::specs::ModeWords::mode_word))]
 pub fn word_of(mode: Mode) -> &'static [u8]
     ensures { result.now ≡ mode_word mode }

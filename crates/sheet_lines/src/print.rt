@@ -1,5 +1,5 @@
 // The text of a sheet, appended to the output. Each contract also says how long the text is at the most, so that a
-// caller knows that it fits.
+// caller knows that it fits: a fact of what is written, not of a value, so it is in no type.
 ghost use Rattle.std.specs.Prelude.{◌+◌, length};
 ghost use Rattle.sheet_lines.specs.Appended.{TextAppended};
 ghost use Rattle.sheet_lines.specs.SheetText.{named, number_text, sum_text, occurrence_text, extreme_text, extremes_text};
