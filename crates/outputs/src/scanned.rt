@@ -80,10 +80,8 @@ impl Scanned {
 
     #[tactic(auto, using(crate::specs::Steps::steps), unfolding(crate::specs::ControlDifference::change_of_difference))]
     fn change_of_difference(&self) -> i64
-        ensures value {
-            result ≡ change_of_difference self.now.context.switches self.now.context.mode self.now.readings
-            (recalled self.now.history self.now.readings)
-        }
+        ensures value { result ≡ change_of_difference self.now.context.switches self.now.context.mode self.now.readings
+            (recalled self.now.history self.now.readings) }
         ensures size { nat_abs result ≤ 39996 }
     {
         let x = self.context;
@@ -110,10 +108,8 @@ impl Scanned {
     // output that never moves.
     #[tactic(auto, using(crate::specs::Steps::steps))]
     fn with_terms(&self) -> i64
-        ensures {
-            result ≡ changed stored_arithmetic
-            (terms_of self.now.parameters self.now.context self.now.readings self.now.history) self.now.output
-        }
+        ensures { result ≡ changed stored_arithmetic
+            (terms_of self.now.parameters self.now.context self.now.readings self.now.history) self.now.output }
     {
         let s = self.context.switches;
         let r = self.readings;
@@ -121,7 +117,10 @@ impl Scanned {
         let change = self.change_of_difference();
         let c = control_difference(s.inverseoutput, r.sp, r.pv);
         let d = self.second_difference();
-        self.output + terms::proportional(t, change) + terms::integral(t, c) + terms::derivative(t, d)
+        self.output
+            + terms::proportional(t, change)
+            + terms::integral(t, c)
+            + terms::derivative(t, d)
     }
 
     #[tactic(auto, using(crate::specs::Steps::steps))]
@@ -153,10 +152,8 @@ impl Scanned {
     // The automatic modes.
     #[tactic(auto, using(crate::specs::Steps::steps), unfolding(crate::specs::Outputs::by_terms))]
     fn by_terms(&self) -> i64
-        ensures {
-            result ≡ changed stored_arithmetic
-            (by_terms self.now.parameters self.now.context self.now.readings self.now.history) self.now.output
-        }
+        ensures { result ≡ changed stored_arithmetic
+            (by_terms self.now.parameters self.now.context self.now.readings self.now.history) self.now.output }
     {
         if signals::is_open(self.context.input) {
             self.output
@@ -168,10 +165,8 @@ impl Scanned {
     // The output in the mode of the scan, not yet limited.
     #[tactic(auto, using(crate::specs::Steps::steps))]
     pub fn changed(&self) -> i64
-        ensures {
-            result ≡ changed stored_arithmetic
-            (change_in self.now.context.mode self.now.parameters self.now.context self.now.readings self.now.history) self.now.output
-        }
+        ensures { result ≡ changed stored_arithmetic
+            (change_in self.now.context.mode self.now.parameters self.now.context self.now.readings self.now.history) self.now.output }
     {
         match self.context.mode {
             Mode::Hold => self.output,

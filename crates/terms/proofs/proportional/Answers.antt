@@ -9,7 +9,9 @@ use Rattle.terms.proofs.proportional.Goals as goal
 
 pub returns : goal.returns
 returns c =
-    let read = back w64 _ c.stored_term.type_inv in
-    (read ∙ c.stored_term.ensures.0 ∙
-    simp (c.band.ensures, c.unsigned_abs-numerator.ensures.value, to_z-of_z c.ranges.change)
-    (ap stored_term (proportional_parts c.args.t c.args.change)), rw read c.stored_term.ensures.1)
+    let read = back w64 _ c.stored_term.type_inv in (
+      read ∙ c.stored_term.ensures.0 ∙
+          simp (c.band.ensures, c.unsigned_abs-numerator.ensures.value, to_z-of_z c.ranges.change)
+          (ap stored_term (proportional_parts c.args.t c.args.change)),
+      rw read c.stored_term.ensures.1,
+    )

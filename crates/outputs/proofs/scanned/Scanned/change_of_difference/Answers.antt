@@ -43,7 +43,7 @@ overflow_sub-result c =
     (difference_fits _ _
     (small_of (control_difference_size a.context.switches.inverseoutput a.read.sp_read a.read.pv_read) (omega arith))
     (small_of (control_difference_size a.context.switches.inverseoutput
-        (earlier_reading a.context.switches a.context.mode a.readings c.past-past.result a.read past) past.pv_read) (omega arith)))
+    (earlier_reading a.context.switches a.context.mode a.readings c.past-past.result a.read past) past.pv_read) (omega arith)))
 
 change_is : (c : After-control_difference-earlier) → let a = c.args.self.now in
     to_z w64 (of_z w64 (to_z w64 (of_z w64 c.control_difference-now.result) -ℤ to_z w64 (of_z w64 c.control_difference-earlier.result)))
