@@ -2,11 +2,9 @@
 // in files of their own.
 #![tactic(auto)]
 
-ghost use Rattle.std.specs.Prelude.{◌≡◌, ◌≤◌, min, nat_abs, pos};
-ghost use Rattle.integers.specs.Machine.{Small};
+ghost use Rattle.std.specs.Prelude.{◌≡◌, ◌≤◌, nat_abs};
 ghost use Rattle.terms.specs.Fraction.{stored_units, limited_stored};
 ghost use Rattle.parameters.specs.Table.{HO, LO};
-ghost use Rattle.outputs.specs.ControlDifference.{control_difference, earlier_setpoint, tuning_of};
 ghost use Rattle.outputs.specs.Instruction.{stored_arithmetic, limited_to, executed};
 ghost use Rattle.outputs.specs.OutputLaws.{ReadingsRange, HistoryRange, OutputRange};
 ghost use Rattle.outputs.specs.Outputs.{minimum_of, limits_in, instruction_of, limits_written};
@@ -16,7 +14,6 @@ use parameters::Parameters;
 use scanned::Scanned;
 use setpoints::Readings;
 use signals::{Input, Switches};
-use terms::Tuning;
 
 mod amounts;
 pub mod earlier;
@@ -49,39 +46,6 @@ pub struct Context {
     pub input: Input,
 }
 
-// c, the control difference, or c1 of earlier values.
-#[tactic(auto, using(crate::specs::Steps::steps), unfolding(crate::specs::ControlDifference::control_difference))]
-fn control_difference(inverse: bool, sp: i64, pv: i64) -> i64
-    requires { Small sp × Small pv }
-    ensures { result ≡ control_difference inverse sp pv }
-{
-    if inverse { pv - sp } else { sp - pv }
-}
-
-#[tactic(auto, using(crate::specs::Steps::steps), unfolding(crate::specs::ControlDifference::earlier_setpoint))]
-fn earlier_setpoint(s: Switches, mode: Mode, r: Readings, past: Past) -> i64
-    ensures { result ≡ earlier_setpoint s mode r past }
-{
-    if modes::is_auto_or_fallback(mode) & !s.balanceoff {
-        r.sp
-    } else {
-        past.sp
-    }
-}
-
-fn tuning_of(p: Parameters, s: Switches) -> Tuning
-    ensures { result ≡ tuning_of p s }
-{
-    Tuning {
-        xp: p.get(parameters::XP).unsigned_abs(),
-        span: (p.get(parameters::H1) - p.get(parameters::L1)).unsigned_abs(),
-        ti: p.get(parameters::TI).unsigned_abs(),
-        td: p.get(parameters::TD).unsigned_abs(),
-        minutes: s.minutes,
-        inverted: s.inverseoutput,
-    }
-}
-
 // So many whole units, stored.
 #[tactic(auto, using(crate::specs::Steps::steps), unfolding(terms::specs::Fraction::stored_units))]
 fn units(u: i64) -> i64
@@ -100,14 +64,6 @@ fn minimum_of(p: Parameters, s: Switches) -> i64
     } else {
         p.get(parameters::LO)
     }
-}
-
-// Track's output, stored: the lesser of sample 3 and 9999 units.
-#[tactic(auto, using(crate::specs::Steps::steps), unfolding(terms::specs::Fraction::stored_units))]
-fn tracked(sample: u16) -> i64
-    ensures { result ≡ stored_units (pos (min sample 9999)) }
-{
-    i64::from(sample.min(parameters::OP_MOST)) * amounts::UNIT
 }
 
 // Limited to LO..HO.

@@ -1,7 +1,9 @@
 // What a scan changes the output to, in each mode: the steps of Raise and Lower, and the three terms and what they are
 // made of.
-ghost use Rattle.std.specs.Prelude.{◌≡◌, ◌≤◌, nat_abs};
-ghost use Rattle.outputs.specs.ControlDifference.{change_of_difference, second_difference};
+ghost use Rattle.std.specs.Prelude.{◌≡◌, ◌≤◌, min, nat_abs, pos};
+ghost use Rattle.integers.specs.Machine.{Small};
+ghost use Rattle.terms.specs.Fraction.{stored_units};
+ghost use Rattle.outputs.specs.ControlDifference.{control_difference, earlier_setpoint, change_of_difference, second_difference, tuning_of};
 ghost use Rattle.outputs.specs.History.{recalled};
 ghost use Rattle.outputs.specs.Instruction.{stored_arithmetic, changed};
 ghost use Rattle.outputs.specs.OutputLaws.{ReadingsRange, HistoryRange, HistoryRange-prop, PastRange, OutputRange};
@@ -11,7 +13,49 @@ use crate::{Context, History, Past, amounts, earlier};
 use modes::Mode;
 use parameters::Parameters;
 use setpoints::Readings;
-use signals::Adjustment;
+use signals::{Adjustment, Switches};
+use terms::Tuning;
+
+// c, the control difference, or c1 of earlier values.
+#[tactic(auto, using(crate::specs::Steps::steps), unfolding(crate::specs::ControlDifference::control_difference))]
+fn control_difference(inverse: bool, sp: i64, pv: i64) -> i64
+    requires { Small sp × Small pv }
+    ensures { result ≡ control_difference inverse sp pv }
+{
+    if inverse { pv - sp } else { sp - pv }
+}
+
+#[tactic(auto, using(crate::specs::Steps::steps), unfolding(crate::specs::ControlDifference::earlier_setpoint))]
+fn earlier_setpoint(s: Switches, mode: Mode, r: Readings, past: Past) -> i64
+    ensures { result ≡ earlier_setpoint s mode r past }
+{
+    if modes::is_auto_or_fallback(mode) & !s.balanceoff {
+        r.sp
+    } else {
+        past.sp
+    }
+}
+
+fn tuning_of(p: Parameters, s: Switches) -> Tuning
+    ensures { result ≡ tuning_of p s }
+{
+    Tuning {
+        xp: p.get(parameters::XP).unsigned_abs(),
+        span: (p.get(parameters::H1) - p.get(parameters::L1)).unsigned_abs(),
+        ti: p.get(parameters::TI).unsigned_abs(),
+        td: p.get(parameters::TD).unsigned_abs(),
+        minutes: s.minutes,
+        inverted: s.inverseoutput,
+    }
+}
+
+// Track's output, stored: the lesser of sample 3 and 9999 units.
+#[tactic(auto, using(crate::specs::Steps::steps), unfolding(terms::specs::Fraction::stored_units))]
+fn tracked(sample: u16) -> i64
+    ensures { result ≡ stored_units (pos (min sample 9999)) }
+{
+    i64::from(sample.min(parameters::OP_MOST)) * amounts::UNIT
+}
 
 // What a scan computes the output from: the parameters before it, its context and readings, what is remembered of
 // earlier scans, and the stored output before it. Readings, what is remembered and output always lie in their ranges.
@@ -44,9 +88,9 @@ impl Scanned {
         let s = x.switches;
         let r = self.readings;
         let past = self.past();
-        let now = crate::control_difference(s.inverseoutput, r.sp, r.pv);
-        let sp = crate::earlier_setpoint(s, x.mode, r, past);
-        let earlier = crate::control_difference(s.inverseoutput, sp, past.pv);
+        let now = control_difference(s.inverseoutput, r.sp, r.pv);
+        let sp = earlier_setpoint(s, x.mode, r, past);
+        let earlier = control_difference(s.inverseoutput, sp, past.pv);
         now - earlier
     }
 
@@ -69,9 +113,9 @@ impl Scanned {
     {
         let s = self.context.switches;
         let r = self.readings;
-        let t = crate::tuning_of(self.parameters, s);
+        let t = tuning_of(self.parameters, s);
         let change = self.change_of_difference();
-        let c = crate::control_difference(s.inverseoutput, r.sp, r.pv);
+        let c = control_difference(s.inverseoutput, r.sp, r.pv);
         let d = self.second_difference();
         self.output
             + terms::proportional(t, change)
@@ -126,7 +170,7 @@ impl Scanned {
     {
         match self.context.mode {
             Mode::Hold => self.output,
-            Mode::Track => crate::tracked(self.context.input.sample3),
+            Mode::Track => tracked(self.context.input.sample3),
             Mode::Forced | Mode::Manual => self.by_hand(),
             Mode::Auto | Mode::Remote | Mode::Ratio | Mode::Fallback => self.by_terms(),
         }

@@ -12,17 +12,17 @@ use Rattle.outputs.proofs.scanned.Scanned.adjusted.Goals as goal
 pub overflow_add-result : goal.overflow_add-result
 unfolding stored_units
 overflow_add-result c =
-    simp (stored_back c.args.self.now.stored, back w64 c.units.result c.units.type_inv)
-    (sum_fits c.args.self.now.output c.units.result (stored_small c.args.self.now.output c.args.self.now.stored)
-    (rw c.units.ensures (record { small = omega arith })))
+    let stored = c.args.self.now.stored in
+    simp (stored_back stored, back w64 c.units.result c.units.type_inv)
+    (sum_fits _ _ (stored_small _ stored) (rw c.units.ensures (record { small = omega arith })))
 
 pub overflow_add-result-in-Lower : goal.overflow_add-result-in-Lower
 unfolding stored_units
 overflow_add-result-in-Lower c =
     let lower = c.units-in-Lower in
-    simp (stored_back c.args.self.now.stored, back w64 lower.result lower.type_inv)
-    (sum_fits c.args.self.now.output lower.result (stored_small c.args.self.now.output c.args.self.now.stored)
-    (rw lower.ensures (record { small = omega arith })))
+    let stored = c.args.self.now.stored in
+    simp (stored_back stored, back w64 lower.result lower.type_inv)
+    (sum_fits _ _ (stored_small _ stored) (rw lower.ensures (record { small = omega arith })))
 
 pub returns-in-Raise : goal.returns-in-Raise
 unfolding changed stored_arithmetic

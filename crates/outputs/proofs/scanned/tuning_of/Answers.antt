@@ -1,4 +1,4 @@
--- `outputs::tuning_of` meets its contract.
+-- `outputs::scanned::tuning_of` meets its contract.
 use mathlib.Core.Path.{refl, ◌≡◌}
 use mir.Facts.{to_z-of_z}
 use mir.Syntax.{w64}
@@ -6,8 +6,8 @@ use Rattle.integers.specs.Machine.{back, difference_fits}
 use Rattle.setpoints.specs.ComputationLaws.{reading_small, low_reading, high_reading}
 use Rattle.outputs.specs.ControlDifference.{tuning_of}
 use Rattle.outputs.specs.OutputLaws.{tuning_range}
-use Rattle.outputs.proofs.tuning_of.Goals.{After-get-3, After-unsigned_abs-4}
-use Rattle.outputs.proofs.tuning_of.Goals as goal
+use Rattle.outputs.proofs.scanned.tuning_of.Goals.{After-get-3, After-unsigned_abs-4}
+use Rattle.outputs.proofs.scanned.tuning_of.Goals as goal
 
 pub overflow_sub-get : goal.overflow_sub-get
 overflow_sub-get c =
