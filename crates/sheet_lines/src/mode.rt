@@ -4,7 +4,8 @@ ghost use Rattle.sheet_lines.specs.ModeWords.{mode_word, mode_of};
 
 use modes::Mode;
 
-const MODES: [Mode; 8] = [
+// In the order of the modes' counts in a line.
+pub const MODES: [Mode; 8] = [
     Mode::Hold,
     Mode::Track,
     Mode::Forced,

@@ -74,14 +74,9 @@ fn append_count<const N: usize>(out: &mut Text<N>, sheet: Sheet, mode: Mode)
 fn append_counts<const N: usize>(out: &mut Text<N>, sheet: Sheet)
     ensures { TextAppended out.old out.new (counts_text sheet.values) 160 }
 {
-    append_count(out, sheet, Mode::Hold);
-    append_count(out, sheet, Mode::Track);
-    append_count(out, sheet, Mode::Forced);
-    append_count(out, sheet, Mode::Manual);
-    append_count(out, sheet, Mode::Auto);
-    append_count(out, sheet, Mode::Remote);
-    append_count(out, sheet, Mode::Ratio);
-    append_count(out, sheet, Mode::Fallback);
+    for mode in crate::mode::MODES {
+        append_count(out, sheet, mode);
+    }
 }
 
 // The text of a sheet, without the line's end. The contract gives every byte, so it rules out a value that is

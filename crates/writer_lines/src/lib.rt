@@ -6,8 +6,9 @@ ghost use Rattle.writer_lines.specs.Writers.{writer_of};
 
 use rights::Writer;
 
-// The writer whose word it is. A `match` on the word was tried: its arms give no facts of the bytes. The contract rules
-// out a word that is taken for another writer's, or that none has.
+// The writer whose word it is. A `match` on the word was tried: its arms give no facts of the bytes. So was a
+// table searched by `find`: it needs answers, and these tests need none. The contract rules out a word that is taken
+// for another writer's, or that none has.
 #[tactic(auto, unfolding(crate::specs::Writers::writer_of), using(text::specs::Words::same_pointwise))]
 pub fn of_word(word: &[u8]) -> Option<Writer>
     ensures { result ≡ writer_of word.now }
