@@ -26,12 +26,8 @@ fn fits_blank(blank: bool, b: u8) -> bool
 fn run_end(line: &[u8], at: usize, blank: bool) -> usize
     ensures { result ≡ at + leading blank (drop at line.now) }
 {
-    for i in at..line.len() {
-        if !fits_blank(blank, line[i]) {
-            return i;
-        }
-    }
-    at.max(line.len())
+    let run = line.iter().skip(at).take_while(|b| fits_blank(blank, **b));
+    at + run.count()
 }
 
 // The first word at or behind a place; an empty one where there is none. The contract rules out a word cut short or one

@@ -1,25 +1,41 @@
--- `text::run_end` meets its contract. Every byte passed fits, so the run's end seen from here is the run's end seen
--- from its start.
-use mathlib.Core.Path.{sym, ◌∙◌}
-use native.Mathlib.Numerals.{add-one}
+-- `text::run_end` meets its contract.
+use mathlib.Core.Bool.{Bool}
+use mathlib.Core.List.{List, [], ◌∷◌}
+use mathlib.Core.Path.{◌≡◌, refl}
+use Prim.Native.Nat.{ℕ, suc}
 use native.Mathlib.Omega.{arith}
-use borrow.Author.Rules.{rules}
-use Rattle.text.specs.Words.{leading_more, leading_ends, leading_none}
+use lib.ListN.{length, take, drop, length-take}
+use Rattle.std.proofs.Common.{rules, tests}
+use Rattle.std.specs.List.{prefix_len}
+use Rattle.std.proofs.lemmas.Iterator.{YieldsList-from_slice}
+use Rattle.std.proofs.lemmas.Iterator.Adapters.{YieldsList-from_skip}
+use Rattle.std.proofs.lemmas.Iterator.Search.{YieldsList-from_take_while}
+use Rattle.std.proofs.lemmas.Iterator.Consumers.{count_from_yields_List}
+use Rattle.integers.specs.Choice.{by_cases}
+use Rattle.text.specs.Words.{fits_blank, leading, leading_most}
 use Rattle.text.proofs.run_end.Goals as goal
 
-pub returns-then-not-fits_blank : goal.returns-then-not-fits_blank
-returns-then-not-fits_blank c =
-    sym (leading_ends c.args.blank c.args.line.now c.loop-i.i (search rules)
-    (sym c.fits_blank.ensures ∙ c.if-not-fits_blank.true)) ∙ c.loop-i.invariant
-
-pub loop-i-preserved : goal.loop-i-preserved
-loop-i-preserved c =
-    rw add-one (sym (leading_more c.args.blank c.args.line.now c.loop-i.i (search rules)
-    (sym c.fits_blank.ensures ∙ c.if-not-fits_blank.false)) ∙ c.loop-i.invariant)
+leading_prefix : (blank : Bool) (bs : List ℕ) → leading blank bs ≡ prefix_len (fits_blank blank) bs
+unfolding leading
+leading_prefix blank [] = refl
+leading_prefix blank (b ∷ bs) =
+    by_cases (λ n. n ≡ prefix_len (fits_blank blank) (b ∷ bs)) (fits_blank blank b) (suc (leading blank bs)) 0
+    (λ e. simp e (omega (arith, leading_prefix blank bs))) (λ e. simp e refl)
 
 pub returns : goal.returns
 returns c =
     let line = c.args.line.now in
-    let none = leading_none c.args.blank line c.loop-i.i (search rules) in
-    let start = leading_none c.args.blank line c.args.at in
-    grind (arith, start, none, c.loop-i.invariant, c.loop-i.auto, c.max.ensures)
+    let behind = drop c.args.at line in
+    let fits = fits_blank c.args.blank in
+    let counted : c.count.result ≡ length (take (prefix_len fits behind) behind) =
+    count_from_yields_List {all = take (prefix_len fits behind) behind} _ c.count.result c.count.ensures.ran
+    (YieldsList-from_take_while {ys = behind} _ fits
+    (YieldsList-from_skip {ys = line} c.args.at (YieldsList-from_slice line cc) cc)
+    c.take_while-run.ensures.closure c.take_while-run.ensures.done (λ x b q k. search (rules, tests))) in
+    omega (
+      arith,
+      counted,
+      length-take (prefix_len (fits_blank c.args.blank) behind) behind,
+      leading_prefix c.args.blank behind,
+      leading_most c.args.blank behind,
+    )
