@@ -77,8 +77,8 @@ impl Writer {
 pub fn access_verdict(rule: Rule, writer: Writer, pins: u8, number: u64) -> Result<(), Refusal>
     ensures { number_in result ≡ refused_by (access_tests rule writer pins number) }
 {
-    rule.unknown_verdict()?;
-    writer.pin_verdict(pins)?;
-    writer.right_verdict(number)?;
-    rule.read_only_verdict()
+    rule.unknown_verdict()
+        .and(writer.pin_verdict(pins))
+        .and(writer.right_verdict(number))
+        .and(rule.read_only_verdict())
 }

@@ -1,11 +1,11 @@
 -- Which of the tests that hold gives the number of a refusal: the first in the order of the list. Where the tests are
 -- listed by ascending numbers that is the lowest number of all that hold, "Within a group the lowest number wins."
-use Rattle.std.specs.Prelude.{◌≡◌, refl, Bool, true, false, List, [], ◌∷◌, ◌++◌, ℕ, ◌≤◌, ◌<◌, Result, Err, if◌then◌else◌}
+use Rattle.std.specs.Prelude.{◌≡◌, refl, Bool, true, false, List, [], ◌∷◌, ◌++◌, ℕ, ◌≤◌, ◌<◌, Result, Ok, Err, if◌then◌else◌}
 use Rattle.std.proofs.Common.{ap, ◌∙◌, arith}
-use Rattle.std.specs.Result.{IsErrAnd}
+use Rattle.std.specs.Result.{IsErrAnd, result_and}
 use Rattle.std.proofs.Math.Option.{some}
 use Rattle.std.proofs.lemmas.Result.{err_from_is_err_and}
-use Rattle.signals.specs.Refusals.{first_of, refused_by, scan_tests}
+use Rattle.signals.specs.Refusals.{Verdict, number_in, first_of, refused_by, scan_tests}
 use Rattle.signals.specs.declared.Input.{Input}
 use Rattle.signals.specs.declared.Refusal.{Refusal}
 use Rattle.signals.specs.Clock.{ClockReading}
@@ -26,6 +26,12 @@ refused_append (t ∷ ts) us = go t.0 (refused_append ts us)
 
 pub refusal_returned : {T : Type 0} (r : Result T Refusal) (refusal : Refusal) → IsErrAnd r (λ e. e ≡ refusal) → r ≡ Err refusal
 refusal_returned r refusal h = let e = err_from_is_err_and r h in e.1 ∙ ap Err e.2
+
+-- ---- of two verdicts, one after the other
+
+pub number_of_both : (a b : Verdict) → number_in (result_and a b) ≡ first_of (number_in a) (number_in b)
+number_of_both (Ok accepted) b = refl
+number_of_both (Err refusal) b = refl
 
 -- ---- an order of refusals: each number has a rank
 

@@ -1,10 +1,11 @@
 -- `rights::access_verdict` meets its contract.
 use mathlib.Core.List.{◌++◌}
 use mathlib.Core.Option.{Option, some, none}
-use mathlib.Core.Path.{◌≡◌, refl, ap, ◌∙◌}
+use mathlib.Core.Path.{◌≡◌, refl}
 use Prim.Native.Nat.{ℕ}
-use Rattle.signals.specs.RefusalLaws.{refusal_returned, refused_append}
-use Rattle.signals.specs.Refusals.{number_in, first_of, refused_by}
+use Rattle.std.specs.Result.{result_and}
+use Rattle.signals.specs.RefusalLaws.{number_of_both, refused_append}
+use Rattle.signals.specs.Refusals.{first_of, refused_by}
 use Rattle.parameters.specs.Legal.{unknown_refusal, read_only_refusal}
 use Rattle.parameters.specs.declared.Rule.{Rule}
 use Rattle.rights.specs.Rights.{named, pin_tests, right_tests, access_tests}
@@ -33,35 +34,31 @@ in_order_lem rule writer pins number =
       named_is (read_only_refusal rule),
     ) refl
 
-pub returns-in_err-unknown_verdict : goal.returns-in_err-unknown_verdict
-returns-in_err-unknown_verdict c =
-    ap number_in (refusal_returned _ _ c.from_residual.ensures.1) ∙
-    rw (in_order_lem c.args.rule c.args.writer c.args.pins c.args.number, ← c.in_err-unknown_verdict.ensures) refl
-
-pub returns-in_err-pin_verdict : goal.returns-in_err-pin_verdict
-returns-in_err-pin_verdict c =
-    ap number_in (refusal_returned _ _ c.from_residual-in_err-pin_verdict.ensures.1) ∙
-    rw (
-      in_order_lem c.args.rule c.args.writer c.args.pins c.args.number,
-      ← c.in_ok-unknown_verdict.ensures,
-      ← c.in_err-pin_verdict.ensures,
-    ) refl
-
-pub returns-in_err-right_verdict : goal.returns-in_err-right_verdict
-returns-in_err-right_verdict c =
-    ap number_in (refusal_returned _ _ c.from_residual-in_err-right_verdict.ensures.1) ∙
-    rw (
-      in_order_lem c.args.rule c.args.writer c.args.pins c.args.number,
-      ← c.in_ok-unknown_verdict.ensures,
-      ← c.in_ok-pin_verdict.ensures,
-      ← c.in_err-right_verdict.ensures,
-    ) refl
+-- the first of four refusals, taken from the left or from the right
+associated_lem : (a b c d : Option ℕ) → first_of (first_of (first_of a b) c) d ≡ first_of a (first_of b (first_of c d))
+associated_lem none none c d = refl
+associated_lem none (some n) c d = refl
+associated_lem (some n) b c d = refl
 
 pub returns : goal.returns
 returns c =
+    let unknown = c.unknown_verdict.result in
+    let pin = c.pin_verdict.result in
+    let right = c.right_verdict.result in
     rw (
+      c.and-3.ensures,
+      c.and-2.ensures,
+      c.and.ensures,
+      number_of_both (result_and (result_and unknown pin) right) c.read_only_verdict.result,
+      number_of_both (result_and unknown pin) right,
+      number_of_both unknown pin,
       in_order_lem c.args.rule c.args.writer c.args.pins c.args.number,
-      ← c.in_ok-unknown_verdict.ensures,
-      ← c.in_ok-pin_verdict.ensures,
-      ← c.in_ok-right_verdict.ensures,
-    ) c.read_only_verdict.ensures
+      c.unknown_verdict.ensures,
+      c.pin_verdict.ensures,
+      c.right_verdict.ensures,
+      c.read_only_verdict.ensures,
+    ) (associated_lem
+    (unknown_refusal c.args.rule)
+    (refused_by (pin_tests c.args.writer c.args.pins))
+    (refused_by (right_tests c.args.writer c.args.number))
+    (read_only_refusal c.args.rule))
