@@ -132,42 +132,6 @@ module _ (n : ℕ) (v : ℤ) (least : 1 ≤ n) (most : n ≤ 32) where
       append_front
       (reply_text n v) out after (omega (arith, reply_length n v least most few)) (e ∙ ap (append_all (buffer out 0)) reply_bytes)
 
--- ---- the number of a command that a line has
-
-pub record Named (n : ℕ) : Type 0 where
-  pub least : 1 ≤ n
-  pub most : n ≤ 32
-
-abbrev NamedIn : Command → Type 0
-NamedIn NoMnemonic = Unit {0}
-NamedIn NoValue = Unit {0}
-NamedIn (Read n) = Named n
-NamedIn (Write n v) = Named n
-
-writing_named : (n : ℕ) (o : Option ℤ) → Named n → NamedIn (writing n o)
-writing_named n none h = tt
-writing_named n (some v) h = h
-
-command_named : (n : ℕ) (bytes : List ℕ) → Named n → NamedIn (command_of n bytes)
-unfolding command_of
-command_named n [] h = h
-command_named n (b ∷ bytes) h =
-    by_cases NamedIn (eqb b 62) (writing n (value_of n bytes)) NoValue (λ e. writing_named n (value_of n bytes) h) (λ e. tt)
-
-line_named : (line : List ℕ) → NamedIn (command_in line)
-unfolding command_in
-line_named line = go (named line) refl
-  where
-    go : (o : Option ℕ) → named line ≡ o → NamedIn (command_by o (drop 2 line))
-    go none e = tt
-    go (some n) e = let r = named_range line n e in command_named n (drop 2 line) (record { least = r.least; most = r.most })
-
-pub read_is_named : (line : List ℕ) (n : ℕ) → command_in line ≡ Read n → Named n
-read_is_named line n e = subst NamedIn e (line_named line)
-
-pub write_is_named : (line : List ℕ) (n : ℕ) (v : ℤ) → command_in line ≡ Write n v → Named n
-write_is_named line n v e = subst NamedIn e (line_named line)
-
 -- ---- valid
 
 replied_valid : (c : Controller) (n : ℕ) (room : List ℕ) → Valid c → Valid (replied c n room).next
