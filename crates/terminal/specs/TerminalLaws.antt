@@ -1,11 +1,11 @@
 -- Laws of what comes of a line: a read of a named parameter, the length of a reply; the next controller is valid.
 use Rattle.std.specs.Prelude.{Ok, Err, ◌≡◌, true, false, ℕ, ◌≤◌, eqb, leb, ltb, ℤ, pos, nat_abs, get_or}
 use Rattle.std.proofs.Math.Path.{refl, ap}
-use Rattle.std.proofs.Common.{sym, subst, ◌∙◌, length-append, eqb-true, leb-true}
+use Rattle.std.proofs.Common.{sym, ◌∙◌, length-append, eqb-true, leb-true}
 use mathlib.Core.List.{List, [], ◌∷◌, ◌++◌}
 use Rattle.std.proofs.Math.Option.{Option, some, none}
 use native.Mathlib.Omega.{arith}
-use Rattle.std.proofs.Math.ListN.{length, drop}
+use Rattle.std.proofs.Math.ListN.{length}
 use Rattle.std.proofs.lemmas.Bool.{eqb-false}
 use Rattle.integers.specs.Choice.{by_cases, both, never}
 use Rattle.integers.specs.Listed.{listed, listed_same}
@@ -28,9 +28,8 @@ use Rattle.controller.specs.Valid.{Valid}
 use Rattle.controller.specs.Write.{write_tests, write}
 use Rattle.controller.specs.WriteLaws.{valid_write}
 use Rattle.controller.specs.declared.Controller.{Controller}
-use Rattle.terminal.specs.Commands.{is_word, value_of, writing, command_of, command_by, command_in, asked}
-use Rattle.terminal.specs.MnemonicLaws.{named_range}
-use Rattle.terminal.specs.Mnemonics.{mnemonic, named}
+use Rattle.terminal.specs.Commands.{is_word, command_in, asked}
+use Rattle.terminal.specs.Mnemonics.{mnemonic}
 use Rattle.terminal.specs.Terminal.{value_text, reply_text, present_value, replied, wrote_or, read_to, written_to, answered_to, answered}
 use Rattle.terminal.specs.Terminal.{refused_line, LineOutcome}
 use Rattle.terminal.specs.Commands.{Command, Read, Write, NoMnemonic, NoValue}

@@ -6,7 +6,8 @@ use Rattle.std.proofs.Common.{length, ltb-true}
 use Rattle.integers.specs.Machine.{back}
 use Rattle.terminal.specs.CommandLaws.{none_named, read_asked, other_asked, write_asked, no_value_asked}
 use Rattle.terminal.specs.MnemonicLaws.{named_range, name_found}
-use Rattle.terminal.proofs.command.parse.Goals.{in_default-line-via-then-line-lt2, in_default-line-via-else-line-lt2+else-line-lt3+in_default-1}
+use Rattle.terminal.proofs.command.parse.Goals.{in_default-line-via-then-line-lt2}
+use Rattle.terminal.proofs.command.parse.Goals.{in_default-line-via-else-line-lt2+else-line-lt3+in_default-1}
 use Rattle.terminal.proofs.command.parse.Goals as goal
 
 pub returns-in_default : goal.returns-in_default
@@ -19,7 +20,8 @@ pub returns-in-Some-value : goal.returns-in-Some-value
 returns-in-Some-value c =
     let v = c.in-Some-value.value in
     rw (back w32 v (search rules))
-    (write_asked c.args.line.now c.in-Some.parameter c.in-Some.ensures (omega arith) (search rules) v (rw c.number.ensures.value at c.in-Some-value.ensures))
+    (write_asked c.args.line.now c.in-Some.parameter c.in-Some.ensures (omega arith) (search rules) v
+    (rw c.number.ensures.value at c.in-Some-value.ensures))
 
 pub returns-in-None : goal.returns-in-None
 returns-in-None c =

@@ -1,5 +1,4 @@
 -- `terminal::mnemonic::letter` meets its contract.
-use borrow.Author.Rules.{rules}
 use Rattle.terminal.specs.MnemonicLaws.{letter_at}
 use Rattle.terminal.proofs.mnemonic.letter.Goals as goal
 
