@@ -2,14 +2,15 @@
 ghost use Rattle.std.specs.Prelude.{◌≡◌};
 ghost use Rattle.terminal.specs.Commands.{is_word, value_of, value_in, command_in, asked};
 
+use crate::mnemonic::Parameter;
 use signals::Refusal;
 
 #[derive(Clone, Copy)]
 pub enum Command {
-    // a parameter's number
-    Read(u64),
-    // a parameter's number and a value
-    Write(u64, i32),
+    // a parameter
+    Read(Parameter),
+    // a parameter and a value
+    Write(Parameter, i32),
 }
 
 // MD, DS, SW and II. The contract rules out that OP, the next one, is taken for a word.
@@ -38,13 +39,13 @@ fn value(number: u64, bytes: &[u8]) -> Option<i32>
 pub fn parse(line: &[u8]) -> Result<Command, Refusal>
     ensures { result ≡ asked (command_in line.now) }
 {
-    let Some(number) = crate::mnemonic::named(line) else {
+    let Some(parameter) = crate::mnemonic::named(line) else {
         return Err(Refusal::Mnemonic);
     };
     match line {
-        [_, _] => Ok(Command::Read(number)),
-        [_, _, b'>', bytes @ ..] => match value(number, bytes) {
-            Some(value) => Ok(Command::Write(number, value)),
+        [_, _] => Ok(Command::Read(parameter)),
+        [_, _, b'>', bytes @ ..] => match value(parameter.number(), bytes) {
+            Some(value) => Ok(Command::Write(parameter, value)),
             None => Err(Refusal::ValueForm),
         },
         _ => Err(Refusal::ValueForm),

@@ -6,6 +6,7 @@ ghost use Rattle.terminal.specs.Terminal.{replied, outcome_of, read_to, written_
 
 use command::Command;
 use controller::Controller;
+use mnemonic::Parameter;
 use rights::Writer;
 use signals::Refusal;
 
@@ -35,30 +36,29 @@ fn refused(controller: Controller, refusal: Refusal) -> LineResult
 
 // The reply with the present value; a read of one of these numbers is never refused. The contract rules out the value
 // of another parameter, one of an earlier state, and a byte that changes behind the reply.
-fn show(controller: Controller, number: u64, reply: &mut [u8]) -> LineResult
-    requires { (1 ≤ number) × (number ≤ 32) × (9 ≤ length reply.old) }
-    ensures { outcome_of result reply.new ≡ replied controller number reply.old }
+fn show(controller: Controller, parameter: Parameter, reply: &mut [u8]) -> LineResult
+    requires { 9 ≤ length reply.old }
+    ensures { outcome_of result reply.new ≡ replied controller parameter reply.old }
 {
     controller.valid();
-    let present = controller.read(number);
+    let present = controller.read(parameter.number());
     match present {
         Ok(value) => LineResult {
             controller,
-            answer: Ok(reply::write(number, value, reply)),
+            answer: Ok(reply::write(parameter, value, reply)),
         },
         Err(refusal) => refused(controller, refusal),
     }
 }
 
 // A read needs no writer. The contract rules out that it needs a right.
-fn read(controller: Controller, number: u64, reply: &mut [u8]) -> LineResult
-    requires { (1 ≤ number) × (number ≤ 32) }
-    ensures { outcome_of result reply.new ≡ read_to controller number reply.old }
+fn read(controller: Controller, parameter: Parameter, reply: &mut [u8]) -> LineResult
+    ensures { outcome_of result reply.new ≡ read_to controller parameter reply.old }
 {
     if reply.len() < REPLY_LENGTH {
         return refused(controller, Refusal::ShortBuffer);
     }
-    show(controller, number, reply)
+    show(controller, parameter, reply)
 }
 
 // The contract rules out that 15 comes after a refusal of the write, a write by another writer, and a reply with the
@@ -66,19 +66,18 @@ fn read(controller: Controller, number: u64, reply: &mut [u8]) -> LineResult
 fn write(
     controller: Controller,
     writer: Writer,
-    number: u64,
+    parameter: Parameter,
     value: i32,
     reply: &mut [u8],
 ) -> LineResult
-    requires { (1 ≤ number) × (number ≤ 32) }
-    ensures { outcome_of result reply.new ≡ written_to controller writer number value reply.old }
+    ensures { outcome_of result reply.new ≡ written_to controller writer parameter value reply.old }
 {
     if reply.len() < REPLY_LENGTH {
         return refused(controller, Refusal::ShortBuffer);
     }
-    let result = controller.write(writer, number, value);
+    let result = controller.write(writer, parameter.number(), value);
     match result.verdict {
-        Ok(()) => show(result.controller, number, reply),
+        Ok(()) => show(result.controller, parameter, reply),
         Err(refusal) => refused(controller, refusal),
     }
 }
@@ -91,9 +90,13 @@ fn write(
 pub fn answer(controller: Controller, writer: Writer, line: &[u8], reply: &mut [u8]) -> LineResult
     ensures { outcome_of result reply.new ≡ answered controller writer line.now reply.old }
 {
-    match command::parse(line) {
-        Ok(Command::Read(number)) => read(controller, number, reply),
-        Ok(Command::Write(number, value)) => write(controller, writer, number, value, reply),
-        Err(refusal) => refused(controller, refusal),
+    // Two matches: of one nested pattern that binds a Parameter, a type with a model, Rattle can't make the proof.
+    let asked = match command::parse(line) {
+        Ok(asked) => asked,
+        Err(refusal) => return refused(controller, refusal),
+    };
+    match asked {
+        Command::Read(parameter) => read(controller, parameter, reply),
+        Command::Write(parameter, value) => write(controller, writer, parameter, value, reply),
     }
 }

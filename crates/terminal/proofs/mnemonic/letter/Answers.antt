@@ -1,7 +1,8 @@
 -- `terminal::mnemonic::letter` meets its contract.
-use borrow.Author.Rules.{rules}
 use Rattle.terminal.specs.MnemonicLaws.{letter_at}
 use Rattle.terminal.proofs.mnemonic.letter.Goals as goal
 
 pub returns : goal.returns
-returns c = let a = c.args in letter_at a.number a.place (search rules) (search rules) (search rules)
+returns c =
+    let p = c.parameter in
+    rw (← p.view_is) (letter_at p.inside.number c.args.place p.invariant.0 p.invariant.1 c.requires)

@@ -10,15 +10,15 @@ use Rattle.terminal.specs.Mnemonics.{named, number_in}
 use Rattle.terminal.specs.MnemonicLaws.{search_found, search_on, search_ends, search_begins}
 use Rattle.terminal.proofs.mnemonic.named.Goals as goal
 
-pub returns-in_default-clause-value : goal.returns-in_default-clause-value
+pub returns-in_default : goal.returns-in_default
 unfolding named
-returns-in_default-clause-value c = simp (lt-ltb _ _ c.in_default.len_below)
+returns-in_default c = simp (lt-ltb _ _ c.in_default.len_below)
 
 pub loop-number-init : goal.loop-number-init
 loop-number-init c = refl
 
-pub returns-then-is_of-clause-value : goal.returns-then-is_of-clause-value
-returns-then-is_of-clause-value c =
+pub returns-then-is_of : goal.returns-then-is_of
+returns-then-is_of c =
     let l = c.loop-number in
     let found = search_found _ _ l.number (search rules) (search rules) (sym c.if-is_of.ensures) in
     sym (ap number_in (search_begins _ (search rules) ∙ l.invariant ∙ found))
@@ -30,7 +30,7 @@ loop-number-preserved c =
     let on = search_on _ _ l.number (search rules) (search rules) (sym c.if-is_of.ensures) in
     l.invariant ∙ rw (next, add-one) on
 
-pub returns-clause-value : goal.returns-clause-value
-returns-clause-value c =
+pub returns : goal.returns
+returns c =
     let l = c.loop-number in
     sym (ap number_in (search_begins _ (search rules) ∙ l.invariant ∙ search_ends _ _ l.number (omega arith)))

@@ -17,10 +17,10 @@ returns c =
     let second = rw c.letter-2.ensures at c.push-2.ensures in
     let value_is : to_z w64 (of_z w64 c.from.result) ≡ c.args.value =
     back w64 c.from.result c.from.type_inv ∙ c.from.ensures ∙ to_z-of_z c.ranges.value in
-    let displayed = rw value_is at c.append_value.ensures in
+    let displayed = rw (c.number.ensures.value, value_is) at c.append_value.ensures in
     let whole = then o _ _ (then o _ _ (then o _ _ first second) c.push-3.ensures) displayed in
-    let number = c.args.number in
+    let number = c.args.parameter in
     let value = c.args.value in (
-      (reply_written number value c.requires.0 c.requires.1 _ _ c.requires.2 (omega arith) whole).1,
-      reply_length number value c.requires.0 c.requires.1 c.requires.2,
+      (reply_written number value c.number.ensures.range.0 c.number.ensures.range.1 _ _ c.requires (omega arith) whole).1,
+      reply_length number value c.number.ensures.range.0 c.number.ensures.range.1 c.requires,
     )
