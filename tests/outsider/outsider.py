@@ -24,13 +24,14 @@ from tests.repository.layers import listed
 PROGRAM = """#![tactic(auto)]
 
 use controller::{Controller, Core};
-use parameters::Parameters;
+use parameters::{Parameters, Values};
 use sheet::{Sheet, SheetValues};
 
 pub fn forged(
     mut core: Core,
     mut parameters: Parameters,
     output: i64,
+    illegal: Values,
     values: SheetValues,
     reading: Option<u64>,
 ) -> Controller {
@@ -92,7 +93,7 @@ pub fn number(refusal: Refusal) -> u8 {
     u8::from(refusal)
 }
 """
-# The line, one of them over several, and the compiler's word for its cause
+# The line and the compiler's word for its cause
 LINES = (
     ("controller.output = output;", "private-field"),
     ("controller.core = core;", "private-field"),
@@ -100,8 +101,8 @@ LINES = (
     ("let Controller { core, output } = controller;", "private-field"),
     ("core.parameters = parameters;", "private-field"),
     ("core.clock = reading;", "private-field"),
-    ("parameters.values[1] = output;", "private-field"),
-    ("parameters = Parameters {\n        values: [output; 24],\n    };", "private-field"),  # as `rt fmt` lays it out
+    ("parameters.values = illegal;", "private-field"),
+    ("parameters = Parameters { values: illegal };", "private-field"),
     ("sheet.values = values;", "private-field"),
     ("sheet = Sheet { values };", "private-field"),
     ("controller = controller.written(1, output);", "unknown-method"),
