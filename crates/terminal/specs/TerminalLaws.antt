@@ -1,11 +1,11 @@
 -- Laws of what comes of a line: a read of a named parameter, the length of a reply; the next controller is valid.
 use Rattle.std.specs.Prelude.{Ok, Err, ◌≡◌, true, false, ℕ, ◌≤◌, eqb, leb, ltb, ℤ, pos, nat_abs, get_or}
 use Rattle.std.proofs.Math.Path.{refl, ap}
-use Rattle.std.proofs.Common.{sym, ◌∙◌, length-append, eqb-true, leb-true}
+use Rattle.std.proofs.Common.{sym, subst, ◌∙◌, length-append, eqb-true, leb-true}
 use mathlib.Core.List.{List, [], ◌∷◌, ◌++◌}
 use Rattle.std.proofs.Math.Option.{Option, some, none}
 use native.Mathlib.Omega.{arith}
-use Rattle.std.proofs.Math.ListN.{length}
+use Rattle.std.proofs.Math.ListN.{length, drop}
 use Rattle.std.proofs.lemmas.Bool.{eqb-false}
 use Rattle.integers.specs.Choice.{by_cases, both, never}
 use Rattle.integers.specs.Listed.{listed, listed_same}
@@ -28,8 +28,9 @@ use Rattle.controller.specs.Valid.{Valid}
 use Rattle.controller.specs.Write.{write_tests, write}
 use Rattle.controller.specs.WriteLaws.{valid_write}
 use Rattle.controller.specs.declared.Controller.{Controller}
-use Rattle.terminal.specs.Commands.{is_word, command_in, asked}
-use Rattle.terminal.specs.Mnemonics.{mnemonic}
+use Rattle.terminal.specs.Commands.{is_word, value_of, writing, command_of, command_by, command_in, asked}
+use Rattle.terminal.specs.MnemonicLaws.{named_range}
+use Rattle.terminal.specs.Mnemonics.{mnemonic, named}
 use Rattle.terminal.specs.Terminal.{value_text, reply_text, present_value, replied, wrote_or, read_to, written_to, answered_to, answered}
 use Rattle.terminal.specs.Terminal.{refused_line, LineOutcome}
 use Rattle.terminal.specs.Commands.{Command, Read, Write, NoMnemonic, NoValue}
@@ -130,6 +131,42 @@ module _ (n : ℕ) (v : ℤ) (least : 1 ≤ n) (most : n ≤ 32) where
   reply_written out after few room e =
       append_front
       (reply_text n v) out after (omega (arith, reply_length n v least most few)) (e ∙ ap (append_all (buffer out 0)) reply_bytes)
+
+-- ---- the number of a command that a line has
+
+pub record Named (n : ℕ) : Type 0 where
+  pub least : 1 ≤ n
+  pub most : n ≤ 32
+
+abbrev NamedIn : Command → Type 0
+NamedIn NoMnemonic = Unit {0}
+NamedIn NoValue = Unit {0}
+NamedIn (Read n) = Named n
+NamedIn (Write n v) = Named n
+
+writing_named : (n : ℕ) (o : Option ℤ) → Named n → NamedIn (writing n o)
+writing_named n none h = tt
+writing_named n (some v) h = h
+
+command_named : (n : ℕ) (bytes : List ℕ) → Named n → NamedIn (command_of n bytes)
+unfolding command_of
+command_named n [] h = h
+command_named n (b ∷ bytes) h =
+    by_cases NamedIn (eqb b 62) (writing n (value_of n bytes)) NoValue (λ e. writing_named n (value_of n bytes) h) (λ e. tt)
+
+line_named : (line : List ℕ) → NamedIn (command_in line)
+unfolding command_in
+line_named line = go (named line) refl
+  where
+    go : (o : Option ℕ) → named line ≡ o → NamedIn (command_by o (drop 2 line))
+    go none e = tt
+    go (some n) e = let r = named_range line n e in command_named n (drop 2 line) (record { least = r.least; most = r.most })
+
+pub read_is_named : (line : List ℕ) (n : ℕ) → command_in line ≡ Read n → Named n
+read_is_named line n e = subst NamedIn e (line_named line)
+
+pub write_is_named : (line : List ℕ) (n : ℕ) (v : ℤ) → command_in line ≡ Write n v → Named n
+write_is_named line n v e = subst NamedIn e (line_named line)
 
 -- ---- valid
 
