@@ -78,7 +78,7 @@ fn of_name(word: &[u8], call: &[u8], start: usize) -> Option<Command>
     if word == b"access".as_slice() {
         return crate::write_call::access(call, start);
     }
-    let numbers = text::arguments::parse(call, start)?;
+    let numbers = text::arguments::parse(call, start).ok()?;
     crate::numbers::of_numbers(word, numbers.as_slice())
 }
 

@@ -41,7 +41,7 @@ pub fn scan(line: &[u8], start: usize) -> Option<Command>
     ensures { result ≡ scan_command line.now start }
 {
     let sixth = text::after_words(line, start, 6);
-    let numbers = arguments::parse(&line[..sixth], start)?;
+    let numbers = arguments::parse(&line[..sixth], start).ok()?;
     let last = text::only_word(line, sixth);
     let milliseconds = numerals::natural(&line[last.from..last.to])?;
     scan_of(numbers.as_slice(), milliseconds)

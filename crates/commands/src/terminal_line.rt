@@ -35,6 +35,6 @@ pub fn parse(line: &[u8], start: usize, bytes: &mut [u8]) -> Option<Command>
     let word = text::word(line, behind);
     let count = text::hexadecimal::parse(&line[word.from..word.to], bytes)?;
     let writer = crate::writer::parse(line, start)?;
-    let numbers = arguments::parse(line, word.to)?;
+    let numbers = arguments::parse(line, word.to).ok()?;
     of_numbers(writer, count, numbers.as_slice())
 }

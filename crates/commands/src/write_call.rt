@@ -39,7 +39,7 @@ pub fn write(line: &[u8], start: usize) -> Option<Command>
     ensures { result ≡ write_command line.now start }
 {
     let writer = crate::writer::parse(line, start)?;
-    let numbers = arguments::parse(line, text::after_words(line, start, 1))?;
+    let numbers = arguments::parse(line, text::after_words(line, start, 1)).ok()?;
     write_of(writer, numbers.as_slice())
 }
 
@@ -51,6 +51,6 @@ pub fn access(line: &[u8], start: usize) -> Option<Command>
     ensures { result ≡ access_command line.now start }
 {
     let writer = crate::writer::parse(line, start)?;
-    let numbers = arguments::parse(line, text::after_words(line, start, 1))?;
+    let numbers = arguments::parse(line, text::after_words(line, start, 1)).ok()?;
     access_of(writer, numbers.as_slice())
 }

@@ -24,6 +24,8 @@
 // SW 0, an empty sheet, and all numbers of a kept one 0.
 #![tactic(auto)]
 
+ghost use Rattle.std.specs.Prelude.{◌≡◌, replicate};
+ghost use Rattle.formatting.specs.Buffer.{buffer};
 ghost use Rattle.console.specs.Lines.{Performed};
 
 use formatting::Text;
@@ -33,7 +35,12 @@ use std::io::Write;
 
 mod session;
 
+// A line of up to 700 bytes, and one byte more to tell that a line is longer.
+const LINE_LENGTH: usize = 701;
+
 impl<const L: usize, const N: usize> LineSession<L, N> for Session {
+    ghost answers = { Performed };
+
     // Performs the command of a line and appends its reply. The contract rules out another command than the line has, a
     // session other than the one that it leaves, any bytes but the line of its reply, and a line that is cut in an
     // output of 65,536 bytes.
@@ -49,10 +56,16 @@ impl<const L: usize, const N: usize> LineSession<L, N> for Session {
     }
 }
 
+// Nothing of a line. The contract rules out lines that may be longer or shorter.
+fn empty_line() -> Text<LINE_LENGTH>
+    ensures { result ≡ buffer (replicate 701 0) 0 }
+{
+    Text::new()
+}
+
 // Each program's own: what it holds from line to line, and how long a line may be.
 fn main(rt: HostRuntime) {
-    // a line of up to 700 bytes, and one byte more to tell that a line is longer
-    let mut line = Text::<701>::new();
+    let mut line = empty_line();
     let mut session = session::first();
     lines::answering::answer_lines(&mut rt.stdin(), &mut rt.stdout(), &mut session, &mut line);
 }

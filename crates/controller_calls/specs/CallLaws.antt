@@ -1,14 +1,15 @@
 -- Laws of the calls: the next controller is valid, a save changes no byte that isn't the image's, and a terminal's line
 -- none that isn't the reply's.
-use Rattle.std.specs.Prelude.{Bool, ◌&&◌, cond, ◌≡◌, ℕ, zero, suc, ◌≤◌, ◌<◌, eqb, leb, ℤ, take, drop, replicate, Err, Ok}
+use Rattle.std.specs.Prelude.{Bool, ◌&&◌, cond, ◌≡◌, ℕ, zero, suc, ◌+◌, ◌≤◌, ◌<◌, eqb, leb, ℤ, take, drop, get_or}
+use Rattle.std.specs.Prelude.{replicate, Err, Ok}
 use Rattle.std.proofs.Math.Bool.{true, false}
 use mathlib.Core.List.{List, [], ◌∷◌, ◌++◌, append_assoc}
 use Rattle.std.proofs.Math.Option.{Option, some, none}
 use Rattle.std.proofs.Math.Path.{refl}
-use Rattle.std.proofs.Common.{le-leb, leb-true, ltb-true, ltb-false}
+use Rattle.std.proofs.Common.{add-one, drop_of_length-le, eq-eqb, ne_eqb, le-leb, leb-true, ltb-true, ltb-false}
 use Rattle.std.proofs.Math.Dec.{ltb}
 use Rattle.std.proofs.Math.ListN.{length}
-use Rattle.std.proofs.Math.Seq.{drop_at}
+use Rattle.std.proofs.Math.Seq.{drop_at, drop-cons}
 use Rattle.std.proofs.lemmas.Bool.{lt-leb}
 use Rattle.integers.specs.Choice.{by_cases, both}
 use Rattle.signals.specs.Refusals.{number_of, refused_by, Verdict}
@@ -16,17 +17,42 @@ use Rattle.fields.specs.Fields.{save_tests, saved_in}
 use Rattle.rights.specs.declared.Writer.{Writer}
 use Rattle.controller.specs.Answers.{reply_of_verdict, reply_by, acceptance, number}
 use Rattle.controller.specs.ImageLaws.{saved_size}
+use Rattle.controller.specs.Restart.{restart}
+use Rattle.controller.specs.RestartLaws.{valid_restart}
 use Rattle.controller.specs.Save.{saved_image}
 use Rattle.controller.specs.Valid.{Valid}
+use Rattle.controller.specs.ValidLaws.{valid_fresh, valid_scan}
 use Rattle.controller.specs.Write.{write_tests, write}
+use Rattle.controller.specs.WriteLaws.{valid_write}
 use Rattle.controller.specs.declared.Controller.{Controller}
 use Rattle.terminal.specs.Commands.{command_in}
 use Rattle.terminal.specs.Terminal.{reply_text, present_value, replied, wrote_or, read_to, written_to, answered_to, answered}
 use Rattle.terminal.specs.Terminal.{refused_line, LineOutcome}
+use Rattle.terminal.specs.TerminalLaws.{valid_line}
 use Rattle.terminal.specs.Commands as command
-use Rattle.controller_calls.specs.Calls.{is_filled, checked_reply, save_reply}
-use Rattle.controller_calls.specs.Calls.{terminal_fits, terminal_reply, checked_terminal}
-use Rattle.replies.specs.declared.Reply.TheVariants.{Image, Refused}
+use Rattle.controller_calls.specs.Calls.{is_filled, step_of, unchanged_with, performed, checked_reply, save_reply}
+use Rattle.controller_calls.specs.Calls.{filled, terminal_fits, terminal_reply, terminal_step, checked_terminal}
+use Rattle.controller_calls.specs.declared.Step.{Step}
+use Rattle.commands.specs.declared.Call.{Call}
+use Rattle.commands.specs.declared.Call.TheVariants.{Fresh, Scan, Write, Access, Read, Restart, Save, Line, Clock}
+use Rattle.replies.specs.declared.Reply.TheVariants.{Image, Refused, Error}
+
+-- every call leaves a controller that the next call may take
+pub valid_performed : (c : Controller) (call : Call) (bytes : List ℕ) → Valid c → Valid (performed c call bytes).controller
+unfolding performed terminal_step
+valid_performed c (Fresh sw) bytes v = valid_fresh sw
+valid_performed c (Scan input) bytes v = valid_scan c input v
+valid_performed c (Write w n value) bytes v = valid_write c w n value v
+valid_performed c (Access w n) bytes v = v
+valid_performed c (Read n) bytes v = v
+valid_performed c (Restart count) bytes v =
+    by_cases (λ (s : Step). Valid s.controller) (leb count (length bytes)) (step_of (restart c (take count bytes)))
+    (unchanged_with c Error) (λ e. valid_restart c (take count bytes) v) (λ e. v)
+valid_performed c (Save count) bytes v = v
+valid_performed c (Line w count size) bytes v =
+    by_cases (λ (s : Step). Valid s.controller) (terminal_fits count size (length bytes)) _ (unchanged_with c Error)
+    (λ e. valid_line c w (take count bytes) (take size (filled bytes)) v) (λ e. v)
+valid_performed c Clock bytes v = v
 
 -- ---- filled buffers
 
@@ -64,6 +90,20 @@ filled_take (suc n) (x ∷ xs) e = go (eqb x 0xA5) e (filled_take n xs)
     go : (t : Bool) → t && is_filled xs ≡ true → (is_filled xs ≡ true → is_filled (take n xs) ≡ true) → t && is_filled (take n xs) ≡ true
     go true p r = r p
     go false p r = p
+
+-- a search for a byte that isn't filled
+module _ (bytes : List ℕ) (i : ℕ) where
+  pub filled_more : i < length bytes → get_or bytes i 0 ≡ 0xA5 → is_filled (drop (i + 1) bytes) ≡ is_filled (drop i bytes)
+  unfolding is_filled
+  filled_more h e = rw (add-one, drop-cons bytes i 0 h) (simp (eq-eqb (get_or bytes i 0) 0xA5 e))
+
+  pub filled_fails : i < length bytes → (get_or bytes i 0 ≡ 0xA5 → ⊥) → is_filled (drop i bytes) ≡ false
+  unfolding is_filled
+  filled_fails h d = rw (drop-cons bytes i 0 h) (simp (ne_eqb (get_or bytes i 0) 0xA5 d))
+
+  pub filled_ends : length bytes ≤ i → is_filled (drop i bytes) ≡ true
+  unfolding is_filled
+  filled_ends h = rw (drop_of_length-le bytes {i = i} h)
 
 -- ---- a save
 

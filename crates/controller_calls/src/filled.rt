@@ -15,12 +15,17 @@ pub fn fill(buffer: &mut [u8])
     buffer.fill(FILL);
 }
 
-// Whether the bytes of the buffer from a position on are as they were filled.
-#[tactic(auto, unfolding(crate::specs::Calls::is_filled))]
+// Whether the bytes of the buffer from a position on are as they were filled. By one index: over the iterator of the
+// rest no compiler here takes more than a byte at a time.
 pub fn is_unchanged(buffer: &[u8], from: usize) -> bool
     ensures { result ≡ is_filled (drop from buffer.now) }
 {
-    buffer.iter().skip(from).all(|byte| *byte == FILL)
+    for i in from..buffer.len() {
+        if buffer[i] != FILL {
+            return false;
+        }
+    }
+    true
 }
 
 // The reply of a call that may have changed so many bytes in front: where a byte changed that had to stay, `error`.

@@ -51,9 +51,8 @@ fn keep_sheet(rt: &impl Print, values: ScanValues) {
     let mean = lot.mean_pv(); // mean.sum over mean.count
     print::decimal(rt, b"sum of PV", mean.sum);
     let kept = lot.values(); // plain numbers, to be kept over a power cut
-    if let Some(again) = Sheet::kept(kept) {
-        print::decimal(rt, b"scans", again.scans() as i64); // None where the numbers can't be a sheet's
-    }
+    let k = Sheet::kept(kept); // k.verdict: Ok(()), or Err(Invalid) where the numbers can't be a sheet's
+    print::decimal(rt, b"scans", k.sheet.scans() as i64); // where they are refused the sheet is an empty one
 }
 
 fn type_line(rt: &impl Print, controller: Controller) -> Controller {

@@ -1,7 +1,7 @@
 -- Laws of the output buffer.
-use Rattle.std.specs.Prelude.{◌≡◌, refl, List, [], ◌∷◌, ◌++◌, ℕ, suc, ◌+◌, ◌≤◌, ◌<◌, length, set, take, drop, get_or}
+use Rattle.std.specs.Prelude.{◌≡◌, refl, List, [], ◌∷◌, ◌++◌, ℕ, zero, suc, ◌+◌, ◌-◌, ◌≤◌, ◌<◌, length, set, take, drop, get_or}
 use Rattle.std.proofs.Common.{sym, ap, ◌∙◌, add-one, add-zero, zero-add, add-suc, suc-add, arith, length-set, take-append-drop}
-use Rattle.std.proofs.Common.{drop_of_length-le, drop-cons, take-suc-set, drop-set-lt, lt-ltb}
+use Rattle.std.proofs.Common.{drop_of_length-le, drop-cons, take-suc-set, drop-set-lt, lt-ltb, le-ltb, length-take}
 use Rattle.std.proofs.Math.Seq.{take-append_seam, append_snoc}
 use Rattle.formatting.specs.Buffer.{Buffer, buffer, append, append_all, filled, capacity, written}
 
@@ -54,6 +54,38 @@ with_bytes (buffer out used) bytes = buffer (replaced used bytes out) (used + le
 
 pub append_fits : (bytes : List ℕ) (o : Buffer) → filled o + length bytes ≤ capacity o → append_all o bytes ≡ with_bytes o bytes
 append_fits bytes (buffer out used) h = append_room bytes out used h
+
+-- ---- where there may be none
+
+append_full : (bytes out : List ℕ) (used : ℕ) → length out ≤ used → append_all (buffer out used) bytes ≡ buffer out used
+unfolding append_all append
+append_full [] out used h = refl
+append_full (b ∷ bs) out used h = simp (le-ltb used (length out) h) (append_full bs out used h)
+
+append_next : (b : ℕ) (bs out : List ℕ) (used : ℕ) → used < length out
+    → append_all (buffer out used) (b ∷ bs) ≡ append_all (buffer (set out used b) (used + 1)) bs
+unfolding append_all append
+append_next b bs out used h = simp (lt-ltb used (length out) h) refl
+
+-- the bytes for which there is room, and no other
+append_cut : (bytes out : List ℕ) (used room : ℕ) → used + room ≡ length out
+    → append_all (buffer out used) bytes ≡ append_all (buffer out used) (take room bytes)
+append_cut [] out used zero h = refl
+append_cut [] out used (suc room) h = refl
+append_cut (b ∷ bs) out used zero h = append_full (b ∷ bs) out used (omega arith) ∙ sym (append_full [] out used (omega arith))
+append_cut (b ∷ bs) out used (suc room) h =
+    append_next b bs out used (omega arith) ∙
+    append_cut bs (set out used b) (used + 1) room (omega (arith, length-set out used b)) ∙
+    sym (append_next b (take room bs) out used (omega arith))
+
+pub append_fitting : (bytes out : List ℕ) (used : ℕ) → used ≤ length out
+    → append_all (buffer out used) bytes ≡ with_bytes (buffer out used) (take (length out - used) bytes)
+append_fitting bytes out used h =
+    let room = length out - used in
+    append_cut bytes out used room (omega arith) ∙
+    append_room (take room bytes) out used (omega (arith, length-take room bytes))
+
+-- ---- from the front
 
 -- in front of a buffer of which nothing was used, the bytes stand by themselves
 pub append_front : (bytes out : List ℕ) (after : Buffer) → length bytes ≤ length out → after ≡ append_all (buffer out 0) bytes

@@ -77,8 +77,22 @@ impl<const N: usize> Text<N> {
         }
     }
 
-    // The bytes of a slice. The contract rules out a byte that is lost, or out of its order.
+    // The bytes of a slice, copied as a whole: byte by byte, each would store the length. The contract rules out a byte
+    // that is lost, or out of its order.
     pub fn push_all(&mut self, bytes: &[u8])
+        ensures { self.new ≡ append_all self.old bytes.now }
+    {
+        let fitting = front(bytes, N - self.used);
+        let used = self.used;
+        let end = used + fitting.len();
+        let whole = &mut self.bytes[..];
+        whole[used..end].copy_from_slice(fitting);
+        self.used = end;
+    }
+
+    // The same, byte by byte, for two or four digits: there the call of a copy costs more than it saves. The contract
+    // rules out a byte that is lost, or out of its order.
+    fn push_each(&mut self, bytes: &[u8])
         ensures { self.new ≡ append_all self.old bytes.now }
     {
         for byte in bytes {
@@ -93,7 +107,7 @@ impl<const N: usize> Text<N> {
     {
         let mut digits = [0u8; 20];
         numerals::writing::write_digits(&mut digits, base, count, number);
-        self.push_all(&digits[..count]);
+        self.push_each(&digits[..count]);
     }
 
     // A natural number in decimal. The contract rules out a leading zero and a digit that is wrong.
@@ -101,7 +115,10 @@ impl<const N: usize> Text<N> {
     pub fn push_decimal(&mut self, number: u64)
         ensures { self.new ≡ append_all self.old (digits number) }
     {
-        self.push_digits(10, numerals::writing::places(number), number);
+        let mut digits = [0u8; 20];
+        let count = numerals::writing::places(number);
+        numerals::writing::write_digits(&mut digits, 10, count, number);
+        self.push_all(&digits[..count]);
     }
 
     // An integer in decimal. The contract rules out a sign that is lost.

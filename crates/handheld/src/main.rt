@@ -6,7 +6,8 @@
 // specs/LongLines.antt): `? 17 no mnemonic` or `? 18 no value`.
 #![tactic(auto)]
 
-ghost use Rattle.formatting.specs.Buffer.{written};
+ghost use Rattle.std.specs.Prelude.{◌≡◌, replicate};
+ghost use Rattle.formatting.specs.Buffer.{buffer, written};
 ghost use Rattle.handheld.specs.Answers.{Answers};
 
 use formatting::Text;
@@ -20,7 +21,12 @@ mod print;
 mod session;
 mod who;
 
+// A line of up to 300 bytes, and one byte more, with which a longer line has no form either.
+const LINE_LENGTH: usize = 301;
+
 impl<const L: usize, const N: usize> LineSession<L, N> for Session {
+    ghost answers = { λ s next line before after. Answers s next (written line) before after };
+
     // Answers a line and appends what is written for it. The contract rules out a controller or a writer other than the
     // line leaves, any bytes but the reply or the refusal's number and name, and an answer that is cut in an output of
     // 65,536 bytes.
@@ -35,10 +41,16 @@ impl<const L: usize, const N: usize> LineSession<L, N> for Session {
     }
 }
 
+// Nothing of a line. The contract rules out lines that may be longer or shorter.
+fn empty_line() -> Text<LINE_LENGTH>
+    ensures { result ≡ buffer (replicate 301 0) 0 }
+{
+    Text::new()
+}
+
 // Each program's own: what it holds from line to line, and how long a line may be.
 fn main(rt: HostRuntime) {
-    // a line of up to 300 bytes, and one byte more, with which a longer line has no form either
-    let mut line = Text::<301>::new();
+    let mut line = empty_line();
     let mut session = session::first();
     lines::answering::answer_lines(&mut rt.stdin(), &mut rt.stdout(), &mut session, &mut line);
 }

@@ -19,14 +19,15 @@ pub fn digit_value(b: u8) -> Option<u64>
     }
 }
 
-// The value of digits, unless another byte is among them, or 64 bits don't hold it.
+// The value of digits, unless another byte is among them, or 64 bits don't hold it. 16 for such a byte, which is no
+// digit of any base here: one test tells both, where two would cost each digit of a line more.
 fn value_of(s: &[u8], base: u64) -> Option<u64>
     requires { (1 < base) × (base ≤ 16) }
     ensures { result ≡ within64 (read_on base 0 s.now) }
 {
     let mut value: u64 = 0;
     for b in s {
-        let d = digit_value(*b)?;
+        let d = digit_value(*b).unwrap_or(16);
         if base <= d {
             return None;
         }

@@ -1,12 +1,14 @@
 -- Which values are those of a sheet: those that some list of answers gives, of any values that an answer's types hold.
 -- A host keeps sheets over a power cut, and what it brings back is tested by this. Nothing that is valid can pass its
 -- type when one more answer is entered.
-use Rattle.std.specs.Prelude.{Option, None, Some, sum}
+use Rattle.std.specs.Prelude.{Option, None, Some, Ok, Err, sum}
 use Rattle.std.specs.Prelude.{◌≡◌, Bool, true, false, not, ◌&&◌, ◌||◌, ℕ, ◌-◌, ◌*◌, eqb, leb, ltb, ℤ, pos, neg_ℤ, ◌+ℤ◌}
 use Rattle.std.specs.Prelude.{◌-ℤ◌, ◌*ℤ◌, length, if◌then◌else◌}
 use Rattle.std.specs.Int.Signed.{le_z, lt_z}
+use Rattle.sheet.specs.Sheet.{empty_sheet}
 use Rattle.sheet.specs.declared.Bound.{Bound}
 use Rattle.sheet.specs.declared.Bound.TheVariants.{Greatest, Least}
+use Rattle.sheet.specs.declared.KeptResult.{KeptResult}
 use Rattle.sheet.specs.declared.Occurrence.{Occurrence}
 use Rattle.sheet.specs.declared.Sheet.{Sheet}
 use Rattle.sheet.specs.declared.SheetValues.{SheetValues}
@@ -66,6 +68,8 @@ is_valid v =
 pub record Valid (s : Sheet) : Type 0 where
   pub tested : is_valid s.values ≡ true
 
--- what isn't valid is refused
-unfoldable pub kept_sheet : SheetValues → Option Sheet
-kept_sheet v = if is_valid v then Some (record { values = v }) else None
+-- what isn't valid is refused, and an empty sheet stands in its place
+unfoldable pub kept_sheet : SheetValues → KeptResult
+kept_sheet v =
+    if is_valid v then record { sheet = record { values = v }; verdict = Ok tt } else
+    record { sheet = empty_sheet; verdict = Err (record {}) }

@@ -1,11 +1,11 @@
 // A sheet from values that a host kept, over a power cut say: taken if answers can have given them, of any values that
 // an answer's types hold.
-ghost use Rattle.std.specs.Prelude.{◌≡◌, ◌≤◌, sum, IfSome};
+ghost use Rattle.std.specs.Prelude.{◌≡◌, ◌≤◌, sum};
 ghost use Rattle.sheet.specs.ExtremeLaws.{Bounded};
 ghost use Rattle.sheet.specs.Valid.{scans_before, sum_bound, is_occurrence, in_order, is_possible};
 ghost use Rattle.sheet.specs.Valid.{are_extremes, is_sum_op, is_valid, Valid, kept_sheet};
 
-use crate::{Bound, Occurrence, Sheet, SheetValues};
+use crate::{Bound, Invalid, KeptResult, Occurrence, Sheet, SheetValues};
 
 // The greatest OP that an answer's type holds.
 const MOST_OP: i64 = u16::MAX as i64;
@@ -106,13 +106,18 @@ impl Sheet {
     // The sheet with these values, if it is a valid one. The contract rules out that anything of an invalid one is
     // taken, and a sheet that the next call could not take.
     #[tactic(auto, unfolding(crate::specs::Valid::kept_sheet))]
-    pub fn kept(values: SheetValues) -> Option<Sheet>
-        ensures { (result ≡ kept_sheet values) × IfSome result Valid }
+    pub fn kept(values: SheetValues) -> KeptResult
+        ensures { (result ≡ kept_sheet values) × Valid result.sheet }
     {
         if is_valid(values) {
-            Some(Sheet { values })
-        } else {
-            None
+            return KeptResult {
+                sheet: Sheet { values },
+                verdict: Ok(()),
+            };
+        }
+        KeptResult {
+            sheet: Sheet::empty(),
+            verdict: Err(Invalid),
         }
     }
 }

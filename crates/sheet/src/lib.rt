@@ -76,6 +76,17 @@ pub struct EnterResult {
     pub entry: Result<(), Full>,
 }
 
+// Values that no answers give.
+#[derive(Clone, Copy)]
+pub struct Invalid;
+
+// What a host gets for values that it kept: the sheet, or an empty one beside `Invalid` (`kept_sheet`).
+#[derive(Clone, Copy)]
+pub struct KeptResult {
+    pub sheet: Sheet,
+    pub verdict: Result<(), Invalid>,
+}
+
 // "Means are handed out as a sum and a count, never divided."
 #[derive(Clone, Copy)]
 pub struct Mean {

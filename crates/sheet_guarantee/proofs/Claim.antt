@@ -1,5 +1,5 @@
 -- The claim: over the contracts, after every list of answers.
-use Rattle.std.specs.Prelude.{Option, Some, Ok, Err, if◌then◌else◌}
+use Rattle.std.specs.Prelude.{Ok, Err, if◌then◌else◌}
 use mathlib.Core.Path.{◌≡◌, refl, sym, ap, subst, ◌∙◌}
 use mathlib.Core.List.{List, [], ◌∷◌}
 use Prim.Native.Nat.{ℕ, ◌≤◌}
@@ -12,15 +12,16 @@ use Rattle.answers.specs.declared.ScanValues.{ScanValues}
 use Rattle.sheet.specs.EnteredLaws.{parts, empty_valid, entered_valid}
 use Rattle.sheet.specs.Sheet as rules
 use Rattle.sheet.specs.Sheet.{scans_in, empty_sheet}
-use Rattle.sheet.specs.Valid.{Valid, kept_sheet}
+use Rattle.sheet.specs.Valid.{Valid, kept_sheet, is_valid}
 use Rattle.sheet.specs.declared.EnterResult.{EnterResult}
 use Rattle.sheet.specs.declared.Bound.TheVariants.{Greatest, Least}
+use Rattle.sheet.specs.declared.KeptResult.{KeptResult}
 use Rattle.sheet.specs.declared.Sheet.{Sheet}
 use Rattle.sheet.specs.declared.SheetValues.{SheetValues}
 use Rattle.sheet.specs.declared.Mean.{Mean}
 use Rattle.sheet_guarantee.specs.Claim.{FullExactly, no_entry, and_entry, Results, Always}
 use Rattle.sheet_guarantee.specs.Claim.{AlwaysLinked}
-use Rattle.sheet_guarantee.specs.Linked.{Entry, Linked, started, entered, kept, taken_of}
+use Rattle.sheet_guarantee.specs.Linked.{Entry, Linked, started, entered, kept, refused, taken_of}
 use Rattle.sheet_guarantee.specs.Meaning.{Answers, none, ◌then◌, many, IsExtreme, Gives}
 use Rattle.sheet_guarantee.proofs.Unique.{answerable}
 use Rattle.sheet_guarantee.proofs.Step.{place_is, empty_gives, taken_gives}
@@ -66,12 +67,21 @@ unfolding rules.entered
 full_stays s a = by_cases (Stays s) (leb 4294967295 s.values.scans) _ _ (λ e. λ q. refl) (λ e. λ q. cc)
 
 -- values that were kept of a valid sheet give it again
-same_again : (s : Sheet) → Valid s → kept_sheet s.values ≡ Some s
+same_again : (s : Sheet) → Valid s → kept_sheet s.values ≡ record { sheet = s; verdict = Ok tt }
 unfolding kept_sheet
 same_again s v = rw v.tested refl
 
-kept_is : (s : Sheet) (v : SheetValues) (r : Option Sheet) → Valid s → v ≡ s.values → r ≡ kept_sheet v → r ≡ Some s
+kept_is : (s : Sheet) (v : SheetValues) (r : KeptResult) → Valid s → v ≡ s.values → r ≡ kept_sheet v →
+    r ≡ record { sheet = s; verdict = Ok tt }
 kept_is s v r valid e q = q ∙ ap kept_sheet e ∙ same_again s valid
+
+-- values that were refused leave an empty sheet
+abbrev EmptyIfInvalid : KeptResult → Type 0
+EmptyIfInvalid r = r.verdict ≡ Err (record {}) → r.sheet ≡ empty_sheet
+
+empty_again : (v : SheetValues) → EmptyIfInvalid (kept_sheet v)
+unfolding kept_sheet
+empty_again v = by_cases EmptyIfInvalid (is_valid v) _ _ (λ e. λ q. cc) (λ e. λ q. refl)
 
 -- ---- after every list
 
@@ -81,15 +91,18 @@ holds (started r e) =
 holds (entered {xs} {es} {s} a r l e) =
     record { gives = (subst (Entered xs es a) (sym e.0) (one_more_lem xs es s a (holds l))).1; valid = e.1 }
 holds (kept {xs} {es} {s} v r l d e) =
-    let again : Some r ≡ Some s = kept_is s v (Some r) (holds l).valid d e.0 in
-    let same : r ≡ s = cc in
-    subst (Holds (taken_of xs es)) (sym same) (holds l)
+    let same = kept_is s v r (holds l).valid d e.0 in
+    subst (Holds (taken_of xs es)) (sym (ap (λ (r : KeptResult). r.sheet) same)) (holds l)
+holds (refused v r e i) =
+    let none_in = subst EmptyIfInvalid (sym e.0) (empty_again v) i in
+    record { gives = subst (λ (s : Sheet). Gives none s.values) (sym none_in) empty_gives; valid = e.1 }
 
 full_exactly : {xs : Answers} {es : List Entry} {s : Sheet} → Linked xs es s → FullExactly xs es
 full_exactly (started r e) = no_entry
 full_exactly (entered {xs} {es} {s} a r l e) =
     and_entry (full_exactly l) (subst (Entered xs es a) (sym e.0) (one_more_lem xs es s a (holds l))).0
 full_exactly (kept v r l d e) = full_exactly l
+full_exactly (refused v r e i) = no_entry
 
 results : (ys : Answers) (s : Sheet) → Holds ys s → Results ys s
 unfolding scans_in

@@ -1,5 +1,5 @@
 -- Kept values are taken exactly if some list of answers gives them.
-use Rattle.std.specs.Prelude.{Option, None, Some}
+use Rattle.std.specs.Prelude.{Option, None, Some, Ok}
 use mathlib.Core.Path.{◌≡◌, refl, sym, ap, subst, ◌∙◌}
 use mathlib.Core.Bool.{Bool, true, false, ◌&&◌}
 use Prim.Native.Nat.{ℕ, zero, suc, ◌+◌, ◌≤◌}
@@ -21,9 +21,9 @@ use Rattle.sheet.specs.TotalLaws.{count_most}
 use Rattle.sheet.specs.ValidLaws.{possible_of, no_scan}
 use Rattle.sheet.specs.declared.Bound.{Bound}
 use Rattle.sheet.specs.declared.Bound.TheVariants.{Greatest, Least}
+use Rattle.sheet.specs.declared.KeptResult.{KeptResult}
 use Rattle.sheet.specs.declared.Occurrence.{Occurrence}
 use Rattle.sheet.specs.declared.SheetValues.{SheetValues}
-use Rattle.sheet.specs.declared.Sheet.{Sheet}
 use Rattle.sheet_guarantee.specs.Claim.{Possible, KeptExactly}
 use Rattle.sheet_guarantee.specs.Meaning.{Answers, none, ◌then◌, many, Numbered, latest, earlier, rank}
 use Rattle.sheet_guarantee.specs.Meaning.{NotBeyond, IsFirst, IsExtreme, of_none, of_some}
@@ -172,18 +172,16 @@ module _ (v : SheetValues) (p : Parts v) where
 
 -- ---- over the contract
 
-abbrev Exactly : SheetValues → Option Sheet → Type 0
-Exactly v r = ((s : Sheet) → r ≡ Some s → Possible v × (s.values ≡ v)) × (Possible v → r ≡ Some (record { values = v }))
-
-its_values : (v : SheetValues) (s : Sheet) → Some (record { values = v }) ≡ Some s → s.values ≡ v
-its_values v s q = let same : record { values = v } ≡ s = cc in ap (λ (s : Sheet). s.values) (sym same)
+abbrev Exactly : SheetValues → KeptResult → Type 0
+Exactly v r =
+    (r.verdict ≡ Ok tt → Possible v × (r.sheet.values ≡ v)) ×
+    (Possible v → r ≡ record { sheet = record { values = v }; verdict = Ok tt })
 
 exactly : (v : SheetValues) → Exactly v (kept_sheet v)
 unfolding kept_sheet
 exactly v =
-    by_cases (Exactly v) (is_valid v) _ _
-    (λ e. (λ s q. (some_answers v (parts v e), its_values v s q), λ p. refl))
-    (λ e. (λ s q. cc, λ p. never (sym e ∙ possible_valid v p)))
+    by_cases (Exactly v) (is_valid v) _ _ (λ e. (λ q. (some_answers v (parts v e), refl), λ p. refl))
+    (λ e. (λ q. cc, λ p. never (sym e ∙ possible_valid v p)))
 
 pub kept_exactly : KeptExactly
 kept_exactly v r e = subst (Exactly v) (sym e.0) (exactly v)

@@ -1,10 +1,11 @@
 -- Document 02, request 1: what is promised of a sheet over every list of answers, by what it hands out.
-use Rattle.std.specs.Prelude.{Option, Some, Ok, Err}
+use Rattle.std.specs.Prelude.{Option, Ok, Err}
 use Rattle.std.specs.Prelude.{◌≡◌, List, [], ◌∷◌, ℕ, ◌≤◌, eqb, ℤ, pos, neg_ℤ, ◌≤ℤ◌, if◌then◌else◌}
 use Rattle.modes.specs.declared.Mode.{Mode}
 use Rattle.answers.specs.declared.ScanValues.{ScanValues}
 use Rattle.sheet.specs.declared.Bound.TheVariants.{Greatest, Least}
 use Rattle.sheet.specs.declared.EnterResult.{EnterResult}
+use Rattle.sheet.specs.declared.KeptResult.{KeptResult}
 use Rattle.sheet.specs.declared.Occurrence.{Occurrence}
 use Rattle.sheet.specs.declared.Sheet.{Sheet}
 use Rattle.sheet.specs.declared.SheetValues.{SheetValues}
@@ -41,7 +42,8 @@ pub record SheetClaim (xs : Answers) (es : List Entry) (s : Sheet) : Type 0 wher
   pub full_exactly : FullExactly xs es
   pub taken_most : many (taken_of xs es) ≤ 4294967295
   -- values that were kept of it give the same sheet again
-  pub kept_again : (v : SheetValues) (r : Option Sheet) → linked.ValuesEnsures s v → linked.KeptEnsures v r → r ≡ Some s
+  pub kept_again : (v : SheetValues) (r : KeptResult) → linked.ValuesEnsures s v → linked.KeptEnsures v r →
+      r ≡ record { sheet = s; verdict = Ok tt }
   -- "the next one leaves it as it was"
   pub full_stays : (a : ScanValues) (r : EnterResult) → linked.EnterEnsures s a r → r.entry ≡ Err (record {}) → r.sheet ≡ s
   -- and neither the type nor a `requires` shuts a call out
@@ -82,5 +84,6 @@ pub record Possible (v : SheetValues) : Type 0 where
 
 abbrev pub KeptExactly : Type 0
 KeptExactly =
-    (v : SheetValues) (r : Option Sheet) → linked.KeptEnsures v r →
-    ((s : Sheet) → r ≡ Some s → Possible v × (s.values ≡ v)) × (Possible v → r ≡ Some (record { values = v }))
+    (v : SheetValues) (r : KeptResult) → linked.KeptEnsures v r →
+    (r.verdict ≡ Ok tt → Possible v × (r.sheet.values ≡ v)) ×
+    (Possible v → r ≡ record { sheet = record { values = v }; verdict = Ok tt })

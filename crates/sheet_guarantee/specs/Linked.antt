@@ -1,11 +1,12 @@
 -- What the calls of a sheet return, by the contracts of the code itself: an empty sheet, each later answer entered in
 -- the sheet that was returned.
-use Rattle.std.specs.Prelude.{List, [], ◌∷◌, ℕ, ℤ, Option, Some, Result, Ok, Err, ⊤}
+use Rattle.std.specs.Prelude.{◌≡◌, List, [], ◌∷◌, ℕ, ℤ, Option, Result, Ok, Err, ⊤}
 use Rattle.modes.specs.declared.Mode.{Mode}
 use Rattle.answers.specs.declared.ScanValues.{ScanValues}
 use Rattle.sheet.specs.Valid.{Valid}
 use Rattle.sheet.specs.declared.EnterResult.{EnterResult}
 use Rattle.sheet.specs.declared.Full.{Full}
+use Rattle.sheet.specs.declared.KeptResult.{KeptResult}
 use Rattle.sheet.specs.declared.Occurrence.{Occurrence}
 use Rattle.sheet.specs.declared.Sheet.{Sheet}
 use Rattle.sheet.specs.declared.SheetValues.{SheetValues}
@@ -32,7 +33,7 @@ EmptyEnsures r = empty-reads.Post tt tt r tt
 abbrev pub EnterEnsures : Sheet → ScanValues → EnterResult → Type 0
 EnterEnsures s a r = enter-reads.Post tt (s, (a, tt)) r (s, (a, tt))
 
-abbrev pub KeptEnsures : SheetValues → Option Sheet → Type 0
+abbrev pub KeptEnsures : SheetValues → KeptResult → Type 0
 KeptEnsures v r = kept-reads.Post tt (v, tt) r (v, tt)
 
 abbrev pub ValuesEnsures : Sheet → SheetValues → Type 0
@@ -75,8 +76,10 @@ pub data Linked : Answers → List Entry → Sheet → Type 0 where
   entered : {xs : Answers} {es : List Entry} {s : Sheet} (a : ScanValues) (r : EnterResult) →
       Linked xs es s → EnterEnsures s a r → Linked (xs then a) (r.entry ∷ es) r.sheet
   -- kept by the host over a power cut, say, and taken back
-  kept : {xs : Answers} {es : List Entry} {s : Sheet} (v : SheetValues) (r : Sheet) →
-      Linked xs es s → ValuesEnsures s v → KeptEnsures v (Some r) → Linked xs es r
+  kept : {xs : Answers} {es : List Entry} {s : Sheet} (v : SheetValues) (r : KeptResult) →
+      Linked xs es s → ValuesEnsures s v → KeptEnsures v r → Linked xs es r.sheet
+  -- values that were refused give a sheet that no answer was entered in
+  refused : (v : SheetValues) (r : KeptResult) → KeptEnsures v r → r.verdict ≡ Err (record {}) → Linked none [] r.sheet
 
 -- the answers that were taken
 abbrev pub taken_of : Answers → List Entry → Answers

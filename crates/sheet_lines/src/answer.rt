@@ -37,6 +37,6 @@ pub fn parse(line: &[u8], start: usize) -> Option<ScanValues>
 {
     let word = text::word(line, start);
     let mode = crate::mode::parse(&line[word.from..word.to])?;
-    let numbers = arguments::parse(line, word.to)?;
+    let numbers = arguments::parse(line, word.to).ok()?;
     of_numbers(mode, numbers.as_slice())
 }

@@ -1,6 +1,7 @@
 -- The sixteen numbers of a kept sheet, and the values that they stand for: each within the range of its type.
 use Rattle.std.specs.Prelude.{◌&&◌, List, [], ◌∷◌, ℕ, eqb, leb, ltb, ℤ, pos, negsuc, neg_ℤ, get_or, set, replicate, if◌then◌else◌}
 use Rattle.std.specs.Prelude.{Option, None, Some}
+use Rattle.std.specs.Option.{unwrap_or}
 use Rattle.std.specs.Int.Signed.{le_z}
 use Rattle.sheet.specs.declared.Occurrence.{Occurrence}
 use Rattle.sheet.specs.declared.SheetValues.{SheetValues}
@@ -68,3 +69,31 @@ values_in numbers =
       sumpv = number_at numbers 14;
       sumop = number_at numbers 15;
     }))))))
+
+-- ---- where one is out of its range: the values of the others
+
+-- 0 for a number out of its range
+unfoldable pub count_or_zero : ℤ → ℕ
+count_or_zero number = unwrap_or (count_in number) 0
+
+-- none where the number of the scan is 0 or out of its range; a PV out of its range is 0
+unfoldable pub extreme_or_none : (pv number : ℤ) → Option Occurrence
+extreme_or_none pv number =
+    if eqb (count_or_zero number) 0 then None else
+    Some (record { pv = unwrap_or (pv_in pv) (pos 0); number = count_or_zero number })
+
+-- each of its place, as `values_in` has them
+unfoldable pub values_or_zero : List ℤ → SheetValues
+values_or_zero numbers =
+    record {
+      scans = count_or_zero (number_at numbers 0);
+      modes =
+          count_or_zero (number_at numbers 1) ∷ count_or_zero (number_at numbers 2) ∷ count_or_zero (number_at numbers 3)
+          ∷ count_or_zero (number_at numbers 4) ∷ count_or_zero (number_at numbers 5) ∷ count_or_zero (number_at numbers 6)
+          ∷ count_or_zero (number_at numbers 7) ∷ count_or_zero (number_at numbers 8) ∷ [];
+      greatest = extreme_or_none (number_at numbers 9) (number_at numbers 10);
+      least = extreme_or_none (number_at numbers 11) (number_at numbers 12);
+      alarms = count_or_zero (number_at numbers 13);
+      sumpv = number_at numbers 14;
+      sumop = number_at numbers 15;
+    }

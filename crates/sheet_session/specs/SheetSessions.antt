@@ -1,11 +1,12 @@
 -- What a run of the console holds for the drying sheet, and what each command of the sheet does to it.
-use Rattle.std.specs.Option.{option_and_then}
-use Rattle.std.specs.Prelude.{ℕ, ℤ, Option, None, Some, Result, Ok, Err, ⊤}
+use Rattle.std.specs.Prelude.{ℕ, ℤ, Option, None, Some, option_map, Result, Ok, Err, ⊤}
 use Rattle.answers.specs.declared.ScanValues.{ScanValues}
 use Rattle.sheet.specs.Sheet.{empty_sheet, entered}
 use Rattle.sheet.specs.Valid.{kept_sheet}
 use Rattle.sheet.specs.declared.EnterResult.{EnterResult}
 use Rattle.sheet.specs.declared.Full as sheet
+use Rattle.sheet.specs.declared.Invalid.{Invalid}
+use Rattle.sheet.specs.declared.KeptResult.{KeptResult}
 use Rattle.sheet.specs.declared.Sheet.{Sheet}
 use Rattle.sheet_numbers.specs.Numbers.{no_numbers, values_in, with_number}
 use Rattle.commands.specs.declared.SheetCall.{SheetCall}
@@ -76,13 +77,17 @@ number_step s place value =
     }
 
 -- the sheet that was kept, if it is a valid one
-abbrev pub kept_as : SheetSession → Option Sheet → SheetStep
-kept_as s (Some sheet) = record { session = with_sheet s sheet; reply = Accepted }
+abbrev pub kept_by : SheetSession → Sheet → Result ⊤ Invalid → SheetStep
+kept_by s sheet (Ok valid) = record { session = with_sheet s sheet; reply = Accepted }
+kept_by s sheet (Err invalid) = staying s InvalidSheet
+
+abbrev pub kept_as : SheetSession → Option KeptResult → SheetStep
+kept_as s (Some kept) = kept_by s kept.sheet kept.verdict
 kept_as s None = staying s InvalidSheet
 
 -- the numbers, each in the range of its type, are a sheet's if answers give them
 unfoldable pub kept_step : SheetSession → SheetStep
-kept_step s = kept_as s (option_and_then kept_sheet (values_in s.numbers))
+kept_step s = kept_as s (option_map kept_sheet (values_in s.numbers))
 
 -- ---- every command of the sheet
 

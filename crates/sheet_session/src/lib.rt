@@ -2,6 +2,7 @@
 #![tactic(auto)]
 
 ghost use Rattle.std.specs.Prelude.{◌≡◌};
+ghost use Rattle.sheet.specs.Valid.{Valid};
 ghost use Rattle.sheet_session.specs.SheetSessions.{first_session, last_after, after_reply, reply_to_entry, entered_step};
 ghost use Rattle.sheet_session.specs.SheetSessions.{last_step, number_step, kept_step, sheet_step};
 
@@ -26,10 +27,12 @@ pub struct SheetStep {
     pub reply: Reply,
 }
 
-// Before the first line: an empty sheet, all numbers 0, and no answer. The contract rules out others.
+// Before the first line: an empty sheet, all numbers 0, and no answer. The contract rules out others, and a sheet that
+// the next command could not take.
 #[tactic(auto, unfolding(crate::specs::SheetSessions::first_session))]
 pub fn first() -> SheetSession
-    ensures { result ≡ first_session }
+    ensures session { result ≡ first_session }
+    ensures valid { Valid result.sheet }
 {
     SheetSession {
         sheet: Sheet::empty(),
@@ -117,12 +120,18 @@ fn set_number(session: SheetSession, place: usize, value: i64) -> SheetStep
 fn keep(session: SheetSession) -> SheetStep
     ensures { result ≡ kept_step session }
 {
-    match sheet_numbers::values_in(session.numbers).and_then(Sheet::kept) {
-        Some(sheet) => SheetStep {
-            session: SheetSession { sheet, ..session },
+    match sheet_numbers::values_in(session.numbers)
+        .ok()
+        .map(Sheet::kept)
+    {
+        Some(kept) if kept.verdict.is_ok() => SheetStep {
+            session: SheetSession {
+                sheet: kept.sheet,
+                ..session
+            },
             reply: Reply::Accepted,
         },
-        None => SheetStep {
+        _ => SheetStep {
             session,
             reply: Reply::InvalidSheet,
         },
@@ -130,10 +139,11 @@ fn keep(session: SheetSession) -> SheetStep
 }
 
 // Performs a command of the sheet. The contract gives the whole next session and the reply, so it rules out a command
-// that is taken for another.
+// that is taken for another; and a sheet that the next command could not take.
 #[tactic(auto, unfolding(crate::specs::SheetSessions::sheet_step))]
 pub fn perform(session: SheetSession, call: SheetCall) -> SheetStep
-    ensures { result ≡ sheet_step session call }
+    ensures step { result ≡ sheet_step session call }
+    ensures valid { Valid result.session.sheet }
 {
     match call {
         SheetCall::New => SheetStep {

@@ -1,6 +1,6 @@
 -- The numbers of a line from a position on, as a call's arguments: at most six.
-use Rattle.std.specs.Prelude.{◌&&◌, ◌||◌, cond, List, [], ◌∷◌, ℕ, zero, suc, ◌-◌, eqb, ltb, ℤ, pos, neg_ℤ, nat_abs}
-use Rattle.std.specs.Prelude.{length, take, drop, get_or, Option, Some, None}
+use Rattle.std.specs.Prelude.{◌&&◌, ◌||◌, cond, List, [], ◌∷◌, ◌++◌, ℕ, zero, suc, ◌-◌, eqb, ltb, ℤ, pos, neg_ℤ, nat_abs}
+use Rattle.std.specs.Prelude.{length, take, drop, get_or, replicate, Option, Some, None, Result, Ok, Err}
 use Rattle.std.specs.Int.Signed.{le_z}
 use Rattle.integers.specs.Sign.{is_negative}
 use Rattle.numerals.specs.Parsed.{number_of}
@@ -36,6 +36,19 @@ unfoldable pub arguments_from : List ℕ → ℕ → Option (List ℤ)
 arguments_from line at =
     let words = first_words 7 line at in
     read_of (numbers_of (take 6 words)) (length words)
+
+-- the numbers in front of the first word that is none, and no more than six
+unfoldable pub numbers_from : List ℕ → ℕ → List ℤ
+numbers_from line at = numbers_of (take 6 (first_words 7 line at))
+
+-- six values: the numbers, and zeros behind them
+unfoldable pub padded : List ℤ → List ℤ
+padded numbers = numbers ++ replicate (6 - length numbers) (pos 0)
+
+-- what an answer holds, on a refusal too
+abbrev pub held : {A : Type 0} → Result A A → A
+held (Ok a) = a
+held (Err a) = a
 
 -- an argument, counted from 0
 abbrev pub argument : List ℤ → ℕ → ℤ

@@ -1,8 +1,11 @@
 -- The words of a line: what stands between blanks.
 use Rattle.std.specs.Prelude.{◌≡◌, refl, Bool, true, false, ◌&&◌, not, cond, nat_eq, List, [], ◌∷◌, ℕ, zero, suc, ◌+◌, ◌-◌, ◌≤◌, ◌<◌}
-use Rattle.std.specs.Prelude.{eqb, ltb, length, drop, get_or}
+use Rattle.std.specs.Prelude.{eqb, ltb, length, drop, get_or, Option, None, Some}
 use Rattle.std.specs.Cmp.Lexicographic.{pointwise}
-use Rattle.std.proofs.Common.{ap, arith, length-drop, eqb-true}
+use Rattle.std.specs.Option.{unwrap_or}
+use Rattle.std.specs.Slice.{IsGetRangeResult}
+use Rattle.std.proofs.Common.{◌∙◌, sym, ap, arith, Bor, length-drop, eqb-true, drop_of_length-le}
+use Rattle.std.proofs.lemmas.List.{take_rest}
 use Rattle.std.proofs.Math.Seq.{drop-cons}
 use Rattle.integers.specs.Choice.{by_cases, never}
 use Rattle.text.specs.declared.Span.{Span}
@@ -98,3 +101,9 @@ same_pointwise (x ∷ xs) [] = refl
 same_pointwise (x ∷ xs) (y ∷ ys) =
     by_cases (λ t. t ≡ (eqb x y && pointwise nat_eq xs ys)) (eqb x y) (same_bytes xs ys) false
     (λ e. simp e (same_pointwise xs ys)) (λ e. simp e refl)
+
+-- what `get` lends from a place on; behind the end it lends nothing, and the empty list stands there
+pub rest_is : (s : List ℕ) (at : ℕ) (r : Option (Bor (List ℕ))) (empty : Bor (List ℕ)) →
+    empty.now ≡ [] → IsGetRangeResult s at (length s) r → (unwrap_or r empty).now ≡ drop at s
+rest_is s at None empty e h = e ∙ sym (drop_of_length-le s (omega (arith, h.0)))
+rest_is s at (Some rest) empty e h = h.0.2 ∙ take_rest s at

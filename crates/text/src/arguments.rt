@@ -1,7 +1,8 @@
 // The arguments of a call: the decimal numbers of a line from a position on, each of up to eighteen digits.
-ghost use Rattle.std.specs.Prelude.{◌≡◌, ◌≤◌, IfSome, take};
+ghost use Rattle.std.specs.Prelude.{◌≡◌, ◌≤◌, IfSome, length, take};
 ghost use Rattle.std.specs.Prelude.{option_map};
-ghost use Rattle.text.specs.Arguments.{arguments_from, natural_in, integer_in};
+ghost use Rattle.std.specs.Result.{result_ok};
+ghost use Rattle.text.specs.Arguments.{arguments_from, numbers_from, padded, held, natural_in, integer_in};
 
 // At most six numbers, in an array: no heap.
 #[derive(Clone, Copy)]
@@ -19,27 +20,33 @@ impl Arguments {
     }
 }
 
-// The numbers that a line's words are from a position on, and none behind the line's end; `None` where a word is no
-// number, or there are more than six. The contract rules out a number that is lost, a word that is taken for a number,
-// and a seventh number that goes unnoticed.
-pub fn parse(line: &[u8], start: usize) -> Option<Arguments>
-    ensures { option_map (λ a. take a.count a.values) result ≡ arguments_from line.now start }
+// The numbers that a line's words are from a position on, and none behind the line's end; where a word is no number, or
+// there are more than six, `Err` with the numbers in front of it. The contract rules out a number that is lost, a word
+// that is taken for a number, a seventh number that goes unnoticed, and another value than 0 behind the numbers.
+pub fn parse(line: &[u8], start: usize) -> Result<Arguments, Arguments>
+    ensures value { option_map (λ a. take a.count a.values) (result_ok result) ≡ arguments_from line.now start }
+    ensures numbers { ((held result).count ≡ length (numbers_from line.now start))
+        × ((held result).values ≡ padded (numbers_from line.now start)) }
 {
     let mut values = [0i64; 6];
     let mut at = start;
     for count in 0..6 {
         let w = crate::word(line, at);
         if w.from == w.to {
-            return Some(Arguments { values, count });
+            return Ok(Arguments { values, count });
         }
-        values[count] = numerals::number(&line[w.from..w.to], 18)?;
+        let Some(number) = numerals::number(&line[w.from..w.to], 18) else {
+            return Err(Arguments { values, count });
+        };
+        values[count] = number;
         at = w.to;
     }
+    let six = Arguments { values, count: 6 };
     let behind = crate::word(line, at);
     if behind.from < behind.to {
-        return None;
+        return Err(six);
     }
-    Some(Arguments { values, count: 6 })
+    Ok(six)
 }
 
 // The number, from least to most. The contract rules out a value beyond the range, whatever was given, and one within

@@ -14,13 +14,18 @@ fn capital(b: u8) -> u8
     }
 }
 
-// The value of a digit of either case.
-#[tactic(auto, unfolding(crate::specs::Hexadecimal::hexadecimal_value))]
+// The value of a digit of either case. The ranges stand here: the value that `numerals::digit_value` gives would be
+// tested once more for each digit.
+#[tactic(auto, unfolding(crate::specs::Hexadecimal::hexadecimal_value, numerals::specs::Numerals::digit_value))]
 fn digit_value(b: u8) -> Option<u8>
     ensures { MatchOption result (hexadecimal_value b ≡ 16) (λ d. (d ≡ hexadecimal_value b) × (d < 16)) }
 {
-    let digit = numerals::digit_value(capital(b))?;
-    Some(digit as u8)
+    let digit = capital(b);
+    match digit {
+        b'0'..=b'9' => Some(digit - b'0'),
+        b'A'..=b'F' => Some(digit - b'A' + 10),
+        _ => None,
+    }
 }
 
 fn is_digit(b: u8) -> bool
@@ -43,11 +48,13 @@ fn is_dash(word: &[u8]) -> bool
     word == b"-".as_slice()
 }
 
+// Both are digits, so 0 never stands for one. Not `unwrap`: its test would keep the bytes from being worked out side by
+// side.
 fn pair_value(high: u8, low: u8) -> u8
     requires { (hexadecimal_value high < 16) × (hexadecimal_value low < 16) }
     ensures { result ≡ pair high low }
 {
-    digit_value(high).unwrap() * 16 + digit_value(low).unwrap()
+    digit_value(high).unwrap_or(0) * 16 + digit_value(low).unwrap_or(0)
 }
 
 // Writes the bytes of pairs of digits to the front of a buffer.

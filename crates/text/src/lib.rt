@@ -22,12 +22,17 @@ fn fits_blank(blank: bool, b: u8) -> bool
     (b == b' ') == blank
 }
 
-// The end of the blanks that stand at a place, or of the bytes that aren't blanks.
+// The end of the blanks that stand at a place, or of the bytes that aren't blanks. One index, from that place on: a
+// length of its own for each run would be added up over the words of a line.
 fn run_end(line: &[u8], at: usize, blank: bool) -> usize
     ensures { result ≡ at + leading blank (drop at line.now) }
 {
-    let run = line.iter().skip(at).take_while(|b| fits_blank(blank, **b));
-    at + run.count()
+    for end in at..line.len() {
+        if !fits_blank(blank, line[end]) {
+            return end;
+        }
+    }
+    at.max(line.len())
 }
 
 // The first word at or behind a place; an empty one where there is none. The contract rules out a word cut short or one

@@ -1,41 +1,35 @@
--- `text::run_end` meets its contract.
-use mathlib.Core.Bool.{Bool}
-use mathlib.Core.List.{List, [], ◌∷◌}
-use mathlib.Core.Path.{◌≡◌, refl}
-use Prim.Native.Nat.{ℕ, suc}
+-- `text::run_end` meets its contract. The run from the first place on ends where the one from here on does.
+use mathlib.Core.Path.{refl, sym, ◌∙◌}
+use native.Mathlib.Numerals.{add-one}
 use native.Mathlib.Omega.{arith}
-use lib.ListN.{length, take, drop, length-take}
-use Rattle.std.proofs.Common.{rules, tests}
-use Rattle.std.specs.List.{prefix_len}
-use Rattle.std.proofs.lemmas.Iterator.{YieldsList-from_slice}
-use Rattle.std.proofs.lemmas.Iterator.Adapters.{YieldsList-from_skip}
-use Rattle.std.proofs.lemmas.Iterator.Search.{YieldsList-from_take_while}
-use Rattle.std.proofs.lemmas.Iterator.Consumers.{count_from_yields_List}
-use Rattle.integers.specs.Choice.{by_cases}
-use Rattle.text.specs.Words.{fits_blank, leading, leading_most}
+use lib.ListN.{drop, length-drop}
+use borrow.Author.Rules.{rules}
+use Rattle.text.specs.Words.{leading_most, leading_more, leading_ends}
 use Rattle.text.proofs.run_end.Goals as goal
 
-leading_prefix : (blank : Bool) (bs : List ℕ) → leading blank bs ≡ prefix_len (fits_blank blank) bs
-unfolding leading
-leading_prefix blank [] = refl
-leading_prefix blank (b ∷ bs) =
-    by_cases (λ n. n ≡ prefix_len (fits_blank blank) (b ∷ bs)) (fits_blank blank b) (suc (leading blank bs)) 0
-    (λ e. simp e (omega (arith, leading_prefix blank bs))) (λ e. simp e refl)
+pub loop-end-init : goal.loop-end-init
+loop-end-init c = refl
+
+pub returns-then-not-fits_blank : goal.returns-then-not-fits_blank
+returns-then-not-fits_blank c =
+    let ends = leading_ends c.args.blank c.args.line.now c.loop-end.end c.loop-end-test.true (search rules) in
+    sym (c.loop-end.invariant ∙ ends)
+
+pub loop-end-preserved : goal.loop-end-preserved
+loop-end-preserved c =
+    let more = leading_more c.args.blank c.args.line.now c.loop-end.end c.loop-end-test.true (search rules) in
+    rw add-one (c.loop-end.invariant ∙ more)
 
 pub returns : goal.returns
 returns c =
     let line = c.args.line.now in
-    let behind = drop c.args.at line in
-    let fits = fits_blank c.args.blank in
-    let counted : c.count.result ≡ length (take (prefix_len fits behind) behind) =
-    count_from_yields_List {all = take (prefix_len fits behind) behind} _ c.count.result c.count.ensures.ran
-    (YieldsList-from_take_while {ys = behind} _ fits
-    (YieldsList-from_skip {ys = line} c.args.at (YieldsList-from_slice line cc) cc)
-    c.take_while-run.ensures.closure c.take_while-run.ensures.done (λ x b q k. search (rules, tests))) in
+    let at = c.args.at in
+    let end = c.loop-end.end in
     omega (
       arith,
-      counted,
-      length-take (prefix_len (fits_blank c.args.blank) behind) behind,
-      leading_prefix c.args.blank behind,
-      leading_most c.args.blank behind,
+      c.loop-end.invariant,
+      leading_most c.args.blank (drop at line),
+      leading_most c.args.blank (drop end line),
+      length-drop at line,
+      length-drop end line,
     )
