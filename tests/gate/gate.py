@@ -33,6 +33,7 @@ PROOFS = (STEP, ["rt", "ci"])
 TESTS = (
     ("the console's answers compared with the model's", [*MODULE, "tests.comparison.console", CONSOLE]),
     ("programs that forge a controller or a sheet", [*MODULE, "tests.outsider.outsider"]),
+    ("a program with a session of its own", [*MODULE, "tests.outsider.session"]),
     ("the arithmetic's answers compared with the model's", [*MODULE, "tests.comparison.arithmetic", CONSOLE]),
     ("kept sheets compared with the model's", [*MODULE, "tests.comparison.kept_sheets", CONSOLE]),
     ("the hand-held terminal's answers compared with the model's", [*MODULE, "tests.comparison.handheld", HANDHELD]),

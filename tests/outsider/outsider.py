@@ -11,14 +11,13 @@ last line printed is 'N passed, M failed', one count for each program and for ea
 
 import pathlib
 import re
-import shutil
 import subprocess
 import sys
 import tempfile
 
 from tests import ROOT
 from tests.gate import tally
-from tests.repository.layers import listed
+from tests.outsider.repository import repository
 
 # A controller and a sheet are made; whatever else the program is given, it can put nothing of it into them
 PROGRAM = """#![tactic(auto)]
@@ -116,36 +115,19 @@ NUMBER = PROGRAM.split("\n").index("    LINE") + 1  # of the line's beginning
 USED = ("signals", "modes", "answers", "parameters", "rights", "controller", "sheet")
 ACCEPTED = {"outsider": PROGRAM.replace("    LINE\n", ""), "outsider_types": TYPES}
 REFUSED = {f"outsider_{place}": (line, cause) for place, (line, cause) in enumerate(LINES)}
-NOT_COPIED = shutil.ignore_patterns("out", "must-fail")
 # What `rt ci` says of a crate, and what stands above that
 VERDICT = re.compile(r"^rt: (\w+) (proved|is kept|NOT PROVED)\b", re.MULTILINE)
 SECTION = r"^== {}\n(.*?)^rt: {} NOT PROVED"
 
 
-def crates_below(names, uses):
-    """These crates and all that they use."""
-    found = set(names)
-    for name in names:
-        found |= crates_below(uses[name], uses)
-    return found
-
-
-def repository(folder):
+def outsiders(folder):
     """A folder with the outsiders and the crates that they use, as the repository has them."""
-    _, crates = listed((ROOT / "crates.txt").read_text(encoding="utf-8"))
-    needed = crates_below(USED, {name: [each for each in depends if each in crates] for name, (_, depends) in crates.items()})
-    for name in needed:
-        shutil.copytree(ROOT / "crates" / name, folder / "crates" / name, ignore=NOT_COPIED)
     programs = ACCEPTED | {name: PROGRAM.replace("LINE", line) for name, (line, _) in REFUSED.items()}
     for name, program in programs.items():
         source = folder / "crates" / name / "src" / "lib.rt"
         source.parent.mkdir(parents=True)
         source.write_text(program, encoding="utf-8")
-    lines = [f"{name}: {' '.join(depends)}" for name, (_, depends) in crates.items() if name in needed]
-    lines += [f"{name}: {' '.join(USED)}" for name in programs]
-    (folder / "crates.txt").write_text("\n".join(lines) + "\n", encoding="utf-8")
-    if (ROOT / "HANDLES").is_file():
-        shutil.copy(ROOT / "HANDLES", folder)
+    repository(folder, USED, programs)
 
 
 def is_there(line):
@@ -163,7 +145,7 @@ def errors_of(name, printed):
 def main():
     faults = []
     with tempfile.TemporaryDirectory() as folder:
-        repository(pathlib.Path(folder))
+        outsiders(pathlib.Path(folder))
         run = subprocess.run(["rt", "ci"], cwd=folder, stdin=subprocess.DEVNULL, stdout=subprocess.PIPE, stderr=subprocess.STDOUT,
                              text=True, errors="replace", check=False)
     verdicts = dict(VERDICT.findall(run.stdout))

@@ -4,12 +4,13 @@ Every name in a document's inline code stands somewhere in the repository outsid
 there (but for the pages of the port, which have older names too), and every edit that the trace cites is one that the
 gate tries, and the other way round. README's listings are the text of programs that the gate proves and runs, and
 `first_use` has nothing that README doesn't list. What the claim imports from the rules is what docs/DECISIONS.md lists
-as shared.
+as shared. Each session over lines has a relation of its own, as the trace says: the trait's default says nothing.
 
 Usage: python3 -B -m tests.repository.docs
 
 The last line printed is 'N passed, M failed', one count for each name and path in each document, for each must-fail
-edit, for each of README's listings, for each line that it has to list, and for each word that is shared.
+edit, for each of README's listings, for each line that it has to list, for each word that is shared, and for each
+session.
 """
 
 import re
@@ -72,6 +73,8 @@ def broken_links(document):
     cited = set(LINK.findall((ROOT / document).read_text(encoding="utf-8")))
     missing = [path for path in sorted(cited) if not (folder / path).exists()]
     return [f"{document}: the link to {path} leads nowhere" for path in missing], len(cited)
+SESSION = re.compile(r"^impl\b[^\n]* LineSession<[^\n]* for \w+ \{\n(.*?)^\}", re.MULTILINE | re.DOTALL)
+RELATION = "    ghost answers = {"
 
 
 def edits():
@@ -122,10 +125,17 @@ def unlisted_words():
     return [f"docs/DECISIONS.md: doesn't list `{word}` as shared" for word in sorted(words - listed)], len(words)
 
 
+def silent_sessions(texts):
+    """Sessions, in the crates' texts by name, that have no relation of their own; and how many sessions there are."""
+    sessions = [(name, body) for name, text in texts.items() for body in SESSION.findall(text)]
+    return [f"{name}: its session doesn't say what its lines come to" for name, body in sessions if RELATION not in body], len(sessions)
+
+
 def main():
     found, looked = edits()
-    more, count = unlisted_words()
-    found, looked = found + more, looked + count
+    sources = {str(path.relative_to(ROOT)): path.read_text(encoding="utf-8") for path in ROOT.glob("crates/*/src/**/*.rt")}
+    for more, count in (unlisted_words(), silent_sessions(sources)):
+        found, looked = found + more, looked + count
     more, count = stale_listings((ROOT / "README.md").read_text(encoding="utf-8"),
                                  [code_of((ROOT / path).read_text(encoding="utf-8")) for path in LISTED])
     found, looked = found + more, looked + count

@@ -10,7 +10,7 @@ import sys
 
 from tests.gate import tally
 from tests.repository.changes import change_faults
-from tests.repository.docs import stale_listings
+from tests.repository.docs import silent_sessions, stale_listings
 from tests.repository.imports import idle_imports
 from tests.repository.layers import crates_named, layer_faults, picture_faults
 from tests.repository.line_lengths import too_long_lines
@@ -108,6 +108,10 @@ HOSTS = (("use signals::Input;\nuse modes::clock::At;", {"signals", "modes"}),
          ("ghost use signals::A;\n// modes::b\nf(b\"terms::\")", set()),
          ("let a = controller::Controller::fresh(0);\nlet b = text::signals::c(modes.x);", {"controller", "text"}),
          ("use io::print;\nmod modes;\nuse std::num;", set()))
+# A program's text, and how many of its sessions say nothing of their lines
+SESSIONS = (("impl<const L: usize> LineSession<L, 9> for Session {\n    ghost answers = { Performed };\n}\n", 0),
+            ("impl<const L: usize> LineSession<L, 9> for Session {\n    fn answer(&mut self) {\n    }\n}\n", 1),
+            ("impl Other<9> for Session {\n}\n", 0))
 # A document of changes, and how many faults there are
 CHANGES = (("# Changes\n\n" + "word\n" * 40 + "## One\n" + "word\n\n" * 30, 0), ("## One\n" + "word\n" * 31, 1),
            ("## One\n" + "word\n" * 30 + "## Two\n" + "word\n" * 30, 0), ("## One\n" + "word\n" * 31 + "## Two\n" + "word\n" * 31, 2),
@@ -116,7 +120,7 @@ CHANGES = (("# Changes\n\n" + "word\n" * 40 + "## One\n" + "word\n\n" * 30, 0), 
 
 
 def layer_results():
-    """The same for layers, for their picture and for changes."""
+    """The same for layers, for their picture, for changes and for sessions."""
     for part, wrong, expected in LAYERS:
         found, _ = layer_faults(CRATES.replace(part, wrong))
         is_found = len(found) == bool(expected) and expected in "".join(found)
@@ -131,6 +135,9 @@ def layer_results():
     for text, expected in CHANGES:
         found, _ = change_faults(text)
         yield len(found) == expected, f"{text[:20]!r}..: {found}"
+    for text, expected in SESSIONS:
+        found, _ = silent_sessions({"main.rt": text})
+        yield len(found) == expected, f"{text!r}: {found}"
 
 
 def results():

@@ -1,4 +1,5 @@
 // The lines of an input, answered one after another.
+ghost use Rattle.std.specs.Prelude.{⊤};
 ghost use Rattle.formatting.specs.Buffer.{Buffer};
 ghost use Rattle.lines.specs.Answering.{place, AllAnswered, AnsweredInput};
 
@@ -8,8 +9,9 @@ use std::io::{Read, Write};
 
 // What is held from line to line.
 pub trait LineSession<const L: usize, const N: usize> {
-    // What a line comes to: the session before and after, the line, and the output before and after.
-    ghost answers: { Self → Self → Buffer → Buffer → Buffer → Type 0 };
+    // What a line comes to: the session before and after, the line, and the output before and after. A session that
+    // leaves it out says nothing of its answers, and needn't prove anything of them.
+    ghost answers: { Self → Self → Buffer → Buffer → Buffer → Type 0 } = { λ _ _ _ _ _. ⊤ };
 
     // Takes a line and appends what answers it to the output.
     fn answer<W: Write>(&mut self, writer: &mut W, line: &Text<L>, out: &mut Text<N>)

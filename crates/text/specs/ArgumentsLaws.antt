@@ -85,27 +85,19 @@ module _ (before : List ℤ) where
       let m : 6 - suc (length before) ≡ 5 - length before = omega arith in
       rw (k, l, m, append_snoc before v) (set_at before (pos 0) _ v n e)
 
--- that an array holds these numbers at its front, so many, and zeros behind them
-abbrev pub Holds : ℕ → List ℤ → List ℤ → Type 0
-Holds count values numbers = (count ≡ length numbers) × (values ≡ padded numbers)
-
 -- What holds after `count` words, of which the next is looked for at `at`.
 pub record Gathering (line : List ℕ) (start : ℕ) (values : List ℤ) (count at : ℕ) : Type 0 where
   pub most : count ≤ 6
   pub six : length values ≡ 6
-  pub zeros : values ≡ padded (take count values)
   pub same : arguments_from line start ≡ gathered (take count values) (first_words (7 - count) line at)
-  pub numbers : numbers_from line start ≡ front (take count values) (first_words (7 - count) line at)
 
 pub gathering_starts : (line : List ℕ) (start : ℕ) → Gathering line start (replicate 6 (pos 0)) 0 start
-unfolding arguments_from gathered numbers_from front padded
+unfolding arguments_from gathered
 gathering_starts line start =
     record {
       most = omega arith;
       six = refl;
-      zeros = refl;
       same = ap (read_of (numbers_of (take 6 (first_words 7 line start)))) (sym (zero-add _));
-      numbers = refl;
     }
 
 module _ (line : List ℕ) (start at count : ℕ) (values : List ℤ) (g : Gathering line start values count at) (w : Span)
@@ -113,15 +105,7 @@ module _ (line : List ℕ) (start at count : ℕ) (values : List ℤ) (g : Gathe
   before_count : length (take count values) ≡ count
   before_count = length-take-le count values (omega (arith, g.most, g.six))
 
-  holds : numbers_from line start ≡ take count values → Holds count values (numbers_from line start)
-  holds e = rw e (sym before_count, g.zeros)
-
   module _ (full : count ≡ 6) where
-    pub holds_full : Holds 6 values (numbers_from line start)
-    holds_full =
-        let all = holds (g.numbers ∙ front_full (take count values) _ (before_count ∙ full)) in
-        (sym full ∙ all.0, all.1)
-
     last : first_words (7 - count) line at ≡ cond (eqb w.from w.to) [] (part line w.from w.to ∷ [])
     unfolding first_words
     last = let k : 7 - count ≡ 1 = omega arith in rw (k, ← found)
@@ -146,10 +130,6 @@ module _ (line : List ℕ) (start at count : ℕ) (values : List ℤ) (g : Gathe
     unfolding first_words
     gathering_ends e = sym (g.same ∙ rw (next, ← found, eq-eqb w.from w.to e) (gather_none (take count values)))
 
-    pub holds_ends : w.from ≡ w.to → Holds count values (numbers_from line start)
-    unfolding first_words
-    holds_ends e = holds (g.numbers ∙ rw (next, ← found, eq-eqb w.from w.to e) (front_none (take count values)))
-
     module _ (some : w.from ≡ w.to → ⊥) where
       first : first_words (7 - count) line at ≡ part line w.from w.to ∷ first_words (6 - count) line w.to
       unfolding first_words
@@ -159,9 +139,6 @@ module _ (line : List ℕ) (start at count : ℕ) (values : List ℤ) (g : Gathe
       pub gathering_stops : number_of 18 (part line w.from w.to) ≡ None → None ≡ arguments_from line start
       gathering_stops e = sym (g.same ∙ rw first (gather_stops (take count values) _ _ e))
 
-      pub holds_stops : number_of 18 (part line w.from w.to) ≡ None → Holds count values (numbers_from line start)
-      holds_stops e = holds (g.numbers ∙ rw first (front_stops (take count values) _ _ e))
-
       -- one number more
       pub gathering_more :
           (v : ℤ) → number_of 18 (part line w.from w.to) ≡ Some v → Gathering line start (set values count v) (count + 1) w.to
@@ -169,11 +146,65 @@ module _ (line : List ℕ) (start at count : ℕ) (values : List ℤ) (g : Gathe
           let taken = take-suc-set values count v (omega (arith, g.six)) in
           let k : 7 - suc count ≡ 6 - count = omega arith in
           let small : length (take count values) < 6 = omega (arith, before_count) in
-          let stored = padded_more (take count values) count v before_count inside in
           record {
             most = omega arith;
             six = length-set values count v ∙ g.six;
-            zeros = rw (add-one, taken) (ap (λ (l : List ℤ). set l count v) g.zeros ∙ stored);
             same = g.same ∙ rw (add-one, taken, k, first) (gather_number (take count values) _ _ v small e);
-            numbers = g.numbers ∙ rw (add-one, taken, k, first) (front_number (take count values) _ _ v small e);
+          }
+
+-- ---- which numbers an answer holds, on a refusal too
+
+-- that an array holds these numbers at its front, so many, and zeros behind them
+abbrev pub Holds : ℕ → List ℤ → List ℤ → Type 0
+Holds count values numbers = (count ≡ length numbers) × (values ≡ padded numbers)
+
+-- `Gathering`, and that the numbers so far are those in front.
+pub record GatheringNumbers (line : List ℕ) (start : ℕ) (values : List ℤ) (count at : ℕ) : Type 0 where
+  pub gathering : Gathering line start values count at
+  pub zeros : values ≡ padded (take count values)
+  pub numbers : numbers_from line start ≡ front (take count values) (first_words (7 - count) line at)
+
+pub numbers_start : (line : List ℕ) (start : ℕ) → GatheringNumbers line start (replicate 6 (pos 0)) 0 start
+unfolding numbers_from front padded
+numbers_start line start = record { gathering = gathering_starts line start; zeros = refl; numbers = refl }
+
+module _ (line : List ℕ) (start at count : ℕ) (values : List ℤ) (n : GatheringNumbers line start values count at) (w : Span)
+    (found : w ≡ word_at line at) where
+  so_many : length (take count values) ≡ count
+  so_many = before_count line start at count values n.gathering w found
+
+  holds : numbers_from line start ≡ take count values → Holds count values (numbers_from line start)
+  holds e = rw e (sym so_many, n.zeros)
+
+  pub holds_full : count ≡ 6 → Holds 6 values (numbers_from line start)
+  holds_full full =
+      let all = holds (n.numbers ∙ front_full (take count values) _ (so_many ∙ full)) in
+      (sym full ∙ all.0, all.1)
+
+  module _ (inside : count < 6) where
+    pub holds_ends : w.from ≡ w.to → Holds count values (numbers_from line start)
+    unfolding first_words
+    holds_ends e =
+        let k = next line start at count values n.gathering w found inside in
+        holds (n.numbers ∙ rw (k, ← found, eq-eqb w.from w.to e) (front_none (take count values)))
+
+    module _ (some : w.from ≡ w.to → ⊥) where
+      pub holds_stops : number_of 18 (part line w.from w.to) ≡ None → Holds count values (numbers_from line start)
+      holds_stops e =
+          let some_word = first line start at count values n.gathering w found inside some in
+          holds (n.numbers ∙ rw some_word (front_stops (take count values) _ _ e))
+
+      pub numbers_more :
+          (v : ℤ) → number_of 18 (part line w.from w.to) ≡ Some v →
+          GatheringNumbers line start (set values count v) (count + 1) w.to
+      numbers_more v e =
+          let taken = take-suc-set values count v (omega (arith, n.gathering.six)) in
+          let some_word = first line start at count values n.gathering w found inside some in
+          let k : 7 - suc count ≡ 6 - count = omega arith in
+          let small : length (take count values) < 6 = omega (arith, so_many) in
+          let stored = padded_more (take count values) count v so_many inside in
+          record {
+            gathering = gathering_more line start at count values n.gathering w found inside some v e;
+            zeros = rw (add-one, taken) (ap (λ (l : List ℤ). set l count v) n.zeros ∙ stored);
+            numbers = n.numbers ∙ rw (add-one, taken, k, some_word) (front_number (take count values) _ _ v small e);
           }
