@@ -158,7 +158,8 @@ module _ (line : List ℕ) (start at count : ℕ) (values : List ℤ) (g : Gathe
 abbrev pub Holds : ℕ → List ℤ → List ℤ → Type 0
 Holds count values numbers = (count ≡ length numbers) × (values ≡ padded numbers)
 
--- `Gathering`, and that the numbers so far are those in front.
+-- `Gathering`, and two facts more: the array has zeros behind the numbers so far; and the line's numbers are these, and
+-- then those of the words that follow, up to the first that is no number.
 pub record GatheringNumbers (line : List ℕ) (start : ℕ) (values : List ℤ) (count at : ℕ) : Type 0 where
   pub gathering : Gathering line start values count at
   pub zeros : values ≡ padded (take count values)
